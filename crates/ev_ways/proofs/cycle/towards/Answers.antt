@@ -1,0 +1,6 @@
+use Rattle.std.proofs.lemmas.Result.{IfOk-weaker}
+use Rattle.ev_ways.proofs.Cycles.{towards_is}
+use Rattle.ev_ways.proofs.cycle.towards.Goals as goal
+
+pub returns : goal.returns
+returns c = IfOk-weaker c.distances_along.result _ _ (λ d h. towards_is c.args.causes.now c.args.effects.now c.args.goal d.items h) c.distances_along.ensures.found

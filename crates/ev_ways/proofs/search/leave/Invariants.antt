@@ -1,0 +1,10 @@
+use Rattle.ev_ways.specs.Ways.{Leads}
+use Rattle.ev_ways.specs.Search.{IsFront, Grown, IsEffectOf, IsTaken}
+use Rattle.ev_ways.proofs.search.leave.Given as goal
+
+abbrev pub invariant-loop-arrow : goal.invariant-loop-arrow
+invariant-loop-arrow l = record {
+  front_is : IsFront l.value l.distance l.front.items;
+  taken_is : IsTaken l.effects l.value l.distance l.taken;
+  grown : Grown l.value (IsEffectOf l.effects l.arrows l.arrow-index) (Leads l.causes l.effects l.node) l.initial.distance l.distance;
+}
