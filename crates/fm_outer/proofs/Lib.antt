@@ -1,0 +1,4 @@
+mod DiskCalls
+mod Images
+pub mod Moments
+mod Tapes

@@ -1,0 +1,13 @@
+pub mod Bytes
+pub mod Crash
+pub mod FailPlan
+pub mod Failures
+pub mod Image
+pub mod MemDisk
+pub mod MemDiskLaws
+pub mod MemSink
+pub mod MemSource
+pub mod Record
+pub mod Steps
+pub mod Tape
+pub mod Untold
