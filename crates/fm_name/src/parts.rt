@@ -1,0 +1,224 @@
+ghost use Rattle.std.specs.Prelude.{◌≡◌, ◌<◌, ◌^◌, ◌==◌, ◌&&◌, ◌||◌, ◌∷◌, IsTrue, IfSome, Some, nat_lt, ◌≤◌, slice_get, slice_index, length, map, option_map};
+ghost use Rattle.std.specs.Char.{is_ascii_digit};
+ghost use Rattle.std.specs.List.{slice_split, list_all};
+ghost use Rattle.std.specs.Str.Parse.{digits_value};
+ghost use Rattle.fm_name.specs.Path.{is_name, is_instance, is_part, are_parts, part_of};
+ghost use Rattle.fm_name.specs.Order.{part_cmp, part_eq, parts_cmp, begins_with_parts};
+ghost use Rattle.fm_name.specs.Cut.{texts_left};
+
+use crate::grammar::{begins_with_letter, spells_component};
+use std::cmp::Ordering;
+
+/// The text before the first slash, and what is left after it.
+pub fn cut(text: &str) -> (&str, Option<&str>)
+    ensures texts { slice_split (λ b. b == 47) text.now ≡ result.0.now ∷ texts_left (option_map (λ s. s.now) result.1) }
+    ensures shorter { IfSome result.1 (λ rest. length rest.now < length text.now) }
+{
+    match text.split_once('/') {
+        Some((first, rest)) => (first, Some(rest)),
+        None => (text, None),
+    }
+}
+
+/// The first part of a text of parts, and what is left after it.
+#[tactic(auto, using(crate::proofs::Cutting::all_left))]
+fn cut_part(text: &str) -> (&str, Option<&str>)
+    requires { IsTrue (list_all is_part (slice_split (λ b. b == 47) text.now)) }
+    ensures texts { slice_split (λ b. b == 47) text.now ≡ result.0.now ∷ texts_left (option_map (λ s. s.now) result.1) }
+    ensures shorter { IfSome result.1 (λ rest. length rest.now < length text.now) }
+    ensures first { IsTrue (is_part result.0.now) }
+    ensures rest { IfSome result.1 (λ rest. IsTrue (list_all is_part (slice_split (λ b. b == 47) rest.now))) }
+{
+    cut(text)
+}
+
+/// How many texts stand between the slashes.
+#[tactic(auto, using(crate::proofs::Cutting::one_more))]
+pub fn count_texts(text: &str) -> usize
+    requires { length (slice_split (λ b. b == 47) text.now) ≤ 16 }
+    ensures { result ≡ length (slice_split (λ b. b == 47) text.now) }
+{
+    let (_, rest) = cut(text);
+    match rest {
+        Some(rest) => count_texts(rest) + 1,
+        None => 1,
+    }
+}
+
+/// Whether the text is a name, as the parts of paths have: a component that begins with a letter.
+#[tactic(auto, unfolding(crate::specs::Path::is_name))]
+pub fn is_name(text: &str) -> bool
+    ensures { result ≡ is_name text.now }
+{
+    let bytes = text.as_bytes();
+    begins_with_letter(bytes) && spells_component(bytes)
+}
+
+/// Whether all bytes are digits.
+fn are_digits(bytes: &[u8]) -> bool
+    ensures { result ≡ list_all is_ascii_digit bytes.now }
+{
+    bytes.iter().all(|b| b.is_ascii_digit())
+}
+
+/// Whether a text of digits has no zero in front of another digit.
+fn is_plain(bytes: &[u8]) -> bool
+    ensures { result ≡ (length bytes.now == 1 || nat_lt 48 (slice_index bytes.now 0)) }
+{
+    match bytes {
+        [] => false,
+        [_] => true,
+        [first, ..] => *first > b'0',
+    }
+}
+
+/// Whether a text of digits, one or more, means a `u32`.
+fn fits(digits: &str) -> bool
+    requires { IsTrue (list_all is_ascii_digit digits.now) }
+    ensures { result ≡ (nat_lt 0 (length digits.now) && nat_lt (digits_value 10 digits.now) (2 ^ 32)) }
+{
+    digits.parse::<u32>().is_ok()
+}
+
+/// Whether the text is an instance.
+#[tactic(auto, unfolding(crate::specs::Path::is_instance))]
+fn spells_instance(text: &str) -> bool
+    ensures { result ≡ is_instance text.now }
+{
+    let bytes = text.as_bytes();
+    are_digits(bytes) && is_plain(bytes) && fits(text)
+}
+
+/// Whether the text is a part.
+#[tactic(auto, unfolding(crate::specs::Path::is_part))]
+fn spells_part(text: &str) -> bool
+    ensures { result ≡ is_part text.now }
+{
+    match text.split_once('=') {
+        Some((name, digits)) => is_name(name) && spells_instance(digits),
+        None => false,
+    }
+}
+
+/// Whether the text is one or more parts, joined by slashes, and not more than there is room for.
+#[tactic(auto, using(crate::proofs::Cutting::some_text), unfolding(crate::specs::Path::are_parts))]
+pub fn joins_parts(text: &str, room: usize) -> bool
+    ensures { result ≡ are_parts room (slice_split (λ b. b == 47) text.now) }
+{
+    if room == 0 {
+        return false;
+    }
+    let (first, rest) = cut(text);
+    if !spells_part(first) {
+        return false;
+    }
+    match rest {
+        Some(rest) => joins_parts(rest, room - 1),
+        None => true,
+    }
+}
+
+/// The number that the digits of an instance mean.
+fn instance_value(digits: &str) -> u32
+    requires { IsTrue (is_instance digits.now) }
+    ensures { result ≡ digits_value 10 digits.now }
+{
+    match digits.parse::<u32>() {
+        Ok(value) => value,
+        Err(_) => unreachable!(),
+    }
+}
+
+/// The name and the instance of a part.
+#[tactic(auto, unfolding(crate::specs::Path::is_part))]
+pub fn read_part(text: &str) -> (&str, u32)
+    requires { IsTrue (is_part text.now) }
+    ensures name { result.0.now ≡ (part_of text.now).name }
+    ensures instance { result.1 ≡ (part_of text.now).instance }
+{
+    match text.split_once('=') {
+        Some((name, digits)) => (name, instance_value(digits)),
+        None => unreachable!(),
+    }
+}
+
+/// The order of two parts.
+#[tactic(auto, unfolding(crate::specs::Order::part_cmp))]
+fn compare_parts(ours: &str, theirs: &str) -> Ordering
+    requires ours { IsTrue (is_part ours.now) }
+    requires theirs { IsTrue (is_part theirs.now) }
+    ensures { result ≡ part_cmp (part_of ours.now) (part_of theirs.now) }
+{
+    let (name, instance) = read_part(ours);
+    let (other_name, other_instance) = read_part(theirs);
+    name.cmp(other_name).then(instance.cmp(&other_instance))
+}
+
+/// Whether two parts are the same.
+fn same_part(ours: &str, theirs: &str) -> bool
+    requires ours { IsTrue (is_part ours.now) }
+    requires theirs { IsTrue (is_part theirs.now) }
+    ensures { result ≡ part_eq (part_of ours.now) (part_of theirs.now) }
+{
+    let (name, instance) = read_part(ours);
+    let (other_name, other_instance) = read_part(theirs);
+    name == other_name && instance == other_instance
+}
+
+/// The order of two texts of parts joined by slashes.
+#[tactic(auto, using(crate::proofs::Cutting::less_first, crate::proofs::Cutting::greater_first), unfolding(crate::specs::Order::parts_cmp))]
+pub fn compare_tails(ours: &str, theirs: &str) -> Ordering
+    requires ours { IsTrue (list_all is_part (slice_split (λ b. b == 47) ours.now)) }
+    requires theirs { IsTrue (list_all is_part (slice_split (λ b. b == 47) theirs.now)) }
+    ensures { result ≡ parts_cmp (map part_of (slice_split (λ b. b == 47) ours.now)) (map part_of (slice_split (λ b. b == 47) theirs.now)) }
+{
+    let (first, rest) = cut_part(ours);
+    let (other_first, other_rest) = cut_part(theirs);
+    match compare_parts(first, other_first) {
+        Ordering::Less => Ordering::Less,
+        Ordering::Greater => Ordering::Greater,
+        Ordering::Equal => match (rest, other_rest) {
+            (None, None) => Ordering::Equal,
+            (None, Some(_)) => Ordering::Less,
+            (Some(_), None) => Ordering::Greater,
+            (Some(ours), Some(theirs)) => compare_tails(ours, theirs),
+        },
+    }
+}
+
+/// Whether the parts of one text begin with those of another.
+#[tactic(auto, using(crate::proofs::Cutting::not_begun))]
+pub fn begins_with_parts(text: &str, above: &str) -> bool
+    requires text { IsTrue (list_all is_part (slice_split (λ b. b == 47) text.now)) }
+    requires above { IsTrue (list_all is_part (slice_split (λ b. b == 47) above.now)) }
+    ensures { result ≡ begins_with_parts (map part_of (slice_split (λ b. b == 47) text.now)) (map part_of (slice_split (λ b. b == 47) above.now)) }
+{
+    let (first, rest) = cut_part(text);
+    let (other_first, other_rest) = cut_part(above);
+    if !same_part(first, other_first) {
+        return false;
+    }
+    match (rest, other_rest) {
+        (_, None) => true,
+        (None, Some(_)) => false,
+        (Some(text), Some(above)) => begins_with_parts(text, above),
+    }
+}
+
+/// The text of the part at a place.
+#[tactic(auto, using(crate::proofs::Cutting::one_text))]
+pub fn part_text(tail: &str, at: usize) -> &str
+    requires within { at < length (slice_split (λ b. b == 47) tail.now) }
+    requires parts { IsTrue (list_all is_part (slice_split (λ b. b == 47) tail.now)) }
+    ensures same { slice_get (slice_split (λ b. b == 47) tail.now) at ≡ Some result.now }
+    ensures part { IsTrue (is_part result.now) }
+{
+    let (first, rest) = cut_part(tail);
+    if at == 0 {
+        return first;
+    }
+    match rest {
+        Some(rest) => part_text(rest, at - 1),
+        None => unreachable!(),
+    }
+}

@@ -1,0 +1,197 @@
+ghost use Rattle.std.specs.Prelude.{◌≡◌, ◌≤◌, ◌<◌, ◌==◌, refl, length, drop, slice_get, codes, IfOk, IsTrue, Some, nat_eq, if◌then◌else◌};
+ghost use Rattle.std.specs.Ordering.{nat_cmp};
+ghost use Rattle.std.specs.Cmp.{partial_equiv_from_equiv, partial_order_from_agreeing_total};
+ghost use Rattle.std.specs.List.{slice_split, list_all};
+ghost use Rattle.fm_name.specs.OrderLaws.{path_cmp_total, path_cmp_ties};
+ghost use Rattle.std.specs.Cmp.Lexicographic.{pointwise, slice_cmp, nat_list_eq_equiv, nat_list_cmp_total, texts_ties, texts_po};
+ghost use Rattle.std.specs.Cmp.Rules.{hashing};
+ghost use Rattle.std.specs.Hash as fed;
+ghost use Rattle.std.proofs.Common.{rules};
+ghost use Rattle.fm_name.specs.Path.{is_name, is_instance, is_part, is_path, parts_of, names_of, instances_of};
+ghost use Rattle.fm_name.specs.Order.{path_cmp, parts_cmp, is_under};
+
+use crate::no_memory::NoMemory;
+use crate::parts::{
+    begins_with_parts, compare_tails, count_texts, joins_parts, part_text, read_part,
+};
+use std::alloc::Global;
+use std::cmp::Ordering;
+use std::fmt;
+use std::hash::{Hash, Hasher};
+use std::marker::Model;
+
+/// A path: `hc:///` and parts `name=instance` joined by slashes. Contracts see its text, as bytes.
+#[derive(Debug, Drop)]
+pub struct Fmri {
+    text: String,
+}
+
+impl Model for Fmri {
+    ghost use Rattle.std.specs.Prelude.{ℕ, List, IsTrue, string_bytes};
+    ghost use Rattle.fm_name.specs.Path.{is_path};
+
+    ghost Value = { List ℕ };
+
+    ghost view = { λ p. string_bytes p.text };
+
+    ghost invariant = { λ p. IsTrue (is_path (string_bytes p.text)) };
+}
+
+/// Whether the text is a path.
+#[tactic(auto, unfolding(crate::specs::Path::is_path))]
+fn spells_path(text: &str) -> bool
+    ensures { result ≡ is_path text.now }
+{
+    if text.len() > 709 {
+        return false;
+    }
+    match text.strip_prefix("hc:///") {
+        Some(tail) => joins_parts(tail, 16),
+        None => false,
+    }
+}
+
+/// Reads a path; None where the text is no path.
+pub fn read_fmri(alloc: Global, text: &str) -> Result<Option<Fmri>, NoMemory>
+    ensures { IfOk result (λ found. found ≡ (if is_path text.now then Some text.now else None)) }
+{
+    if !spells_path(text) {
+        return Ok(None);
+    }
+    let text = String::from_str(alloc, text)?;
+    Ok(Some(Fmri { text }))
+}
+
+/// The parts of a path, joined by slashes.
+#[tactic(auto, using(crate::proofs::Cutting::some_text), unfolding(crate::specs::Path::is_path, crate::specs::Path::are_parts))]
+fn tail_of(text: &str) -> &str
+    requires { IsTrue (is_path text.now) }
+    ensures same { result.now ≡ drop 6 text.now }
+    ensures parts { IsTrue (list_all is_part (slice_split (λ b. b == 47) result.now)) }
+    ensures some { 1 ≤ length (slice_split (λ b. b == 47) result.now) }
+    ensures most { length (slice_split (λ b. b == 47) result.now) ≤ 16 }
+{
+    match text.strip_prefix("hc:///") {
+        Some(tail) => tail,
+        None => unreachable!(),
+    }
+}
+
+impl Fmri {
+    /// How many parts the path has, 1 to 16.
+    #[tactic(auto, using(crate::proofs::Cutting::count_map), unfolding(crate::specs::Path::parts_of))]
+    pub fn depth(&self) -> usize
+        ensures same { result ≡ length (parts_of self.now) }
+        ensures some { 1 ≤ result }
+        ensures most { result ≤ 16 }
+    {
+        count_texts(tail_of(self.text.as_str()))
+    }
+
+    /// The name of the part at a place, counted from the root.
+    #[tactic(auto, using(crate::proofs::Cutting::count_map, crate::proofs::Cutting::name_at), unfolding(crate::specs::Path::parts_of))]
+    pub fn name(&self, at: usize) -> &str
+        requires { at < length (parts_of self.now) }
+        ensures { slice_get (names_of self.now) at ≡ Some result.now }
+    {
+        read_part(part_text(tail_of(self.text.as_str()), at)).0
+    }
+
+    /// The instance of the part at a place, counted from the root.
+    #[tactic(auto, using(crate::proofs::Cutting::count_map, crate::proofs::Cutting::instance_at), unfolding(crate::specs::Path::parts_of))]
+    pub fn instance(&self, at: usize) -> u32
+        requires { at < length (parts_of self.now) }
+        ensures { slice_get (instances_of self.now) at ≡ Some result }
+    {
+        read_part(part_text(tail_of(self.text.as_str()), at)).1
+    }
+
+    /// Whether the parts of this path begin with those of another; each path is under itself. Takes no memory.
+    #[tactic(auto, unfolding(crate::specs::Order::is_under, crate::specs::Path::parts_of))]
+    pub fn is_under(&self, above: &Fmri) -> bool
+        ensures { result ≡ is_under self.now above.now }
+    {
+        begins_with_parts(tail_of(self.text.as_str()), tail_of(above.text.as_str()))
+    }
+
+    /// The text that was read, of at most 709 bytes.
+    #[tactic(auto, unfolding(crate::specs::Path::is_path))]
+    pub fn text(&self) -> &str
+        ensures same { result.now ≡ self.now }
+        ensures path { IsTrue (is_path self.now) }
+        ensures short { length self.now ≤ 709 }
+    {
+        let text = self.text.as_str();
+        prove!(text.len() <= 709);
+        text
+    }
+
+    /// An equal path.
+    pub fn copy(&self) -> Result<Fmri, NoMemory>
+        ensures { IfOk result (λ path. path ≡ self.now) }
+    {
+        let text = self.text.clone()?;
+        Ok(Fmri { text })
+    }
+}
+
+impl PartialEq for Fmri {
+    ghost eq = { pointwise nat_eq };
+
+    ghost laws = { partial_equiv_from_equiv nat_list_eq_equiv };
+
+    fn eq(&self, other: &Fmri) -> bool {
+        self.text.as_str() == other.text.as_str()
+    }
+}
+
+impl Eq for Fmri {
+    ghost laws = { nat_list_eq_equiv };
+}
+
+impl PartialOrd for Fmri {
+    ghost partial_cmp = { λ x y. Some (path_cmp x y) };
+
+    ghost laws = { partial_order_from_agreeing_total path_cmp path_cmp_total (λ x y. refl) path_cmp_ties };
+
+    fn partial_cmp(&self, other: &Fmri) -> Option<Ordering> {
+        Some(self.cmp(other))
+    }
+}
+
+impl Ord for Fmri {
+    ghost cmp = { path_cmp };
+
+    ghost total = { path_cmp_total };
+
+    ghost matches_partial_cmp = { λ x y. refl };
+
+    ghost matches_eq = { path_cmp_ties };
+
+    #[tactic(auto, using(crate::proofs::Same::path_cmp_is), unfolding(crate::specs::Order::path_cmp, crate::specs::Path::parts_of))]
+    fn cmp(&self, other: &Fmri) -> Ordering
+        ensures whole { result ≡ path_cmp self.now other.now }
+        ensures by_parts { result ≡ parts_cmp (parts_of self.now) (parts_of other.now) }
+    {
+        let by_parts = compare_tails(tail_of(self.text.as_str()), tail_of(other.text.as_str()));
+        by_parts.then(self.text.as_str().cmp(other.text.as_str()))
+    }
+}
+
+impl Hash for Fmri {
+    ghost hash_input = { fed.str };
+
+    ghost respects_eq = { Prim.search (hashing, rules) };
+
+    fn hash<H: Hasher>(&self, state: &mut H) {
+        self.text.as_str().hash(state);
+    }
+}
+
+impl fmt::Display for Fmri {
+    ghost output = { λ path. Some path };
+
+    fn fmt<W: fmt::Write>(&self, f: &mut fmt::Formatter<W>) -> fmt::Result {
+        f.write_str(self.text.as_str())
+    }
+}

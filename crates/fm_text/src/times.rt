@@ -1,0 +1,68 @@
+ghost use Rattle.std.specs.Prelude.{◌≡◌, ◌+◌, ◌*◌, ◌^◌, ◌<◌, ◌≤◌, ◌++◌, IfSome, OnOk, OnErr, IfOk, Some};
+ghost use Rattle.fm_text.specs.Number.{value_of};
+ghost use Rattle.fm_text.specs.Time.{time_text, fraction_of, moment_from, time_of};
+
+use crate::no_memory::NoMemory;
+use crate::numbers::read_number;
+
+/// Nanoseconds in a second.
+const SECOND: u64 = 1_000_000_000;
+
+/// Writes a moment of nanoseconds as seconds, a dot and nine digits, behind what `out` holds. After
+/// `NoMemory` it holds what it held.
+#[tactic(auto, using(crate::proofs::Writing::read_back, crate::proofs::Writing::written))]
+pub fn write_time(moment: u64, out: &mut Vec<u8>) -> Result<(), NoMemory>
+    ensures ok { OnOk result (out.new.items ≡ out.old.items ++ time_text moment) }
+    ensures err { OnErr result (out.new.items ≡ out.old.items) }
+    ensures reads_back { moment < 2 ^ 62 → time_of (time_text moment) ≡ Some moment }
+{
+    let seconds = moment / SECOND;
+    let nanoseconds = moment % SECOND;
+    let text = format!(in *out.allocator(); "{seconds}.{nanoseconds:09}")?;
+    out.extend_from_slice(text.as_bytes())?;
+    Ok(())
+}
+
+/// The nanoseconds that the digits after the dot mean.
+#[tactic(auto, using(crate::proofs::Reading::fraction_none, crate::proofs::Reading::fraction_some, crate::proofs::Reading::fraction_long, crate::proofs::Reading::fraction_fits))]
+fn read_fraction(digits: &str) -> Option<u64>
+    ensures { result ≡ fraction_of digits.now }
+{
+    if digits.len() > 9 {
+        return None;
+    }
+    let scale = 10u64.pow(9 - digits.len() as u32);
+    match read_number(digits) {
+        Some(value) => Some(value * scale),
+        None => None,
+    }
+}
+
+/// The moment of seconds and nanoseconds.
+fn moment_of(seconds: u64, nanoseconds: u64) -> Option<u64>
+    ensures { result ≡ moment_from (Some seconds) (Some nanoseconds) }
+{
+    let moment = seconds.checked_mul(SECOND)?.checked_add(nanoseconds)?;
+    if moment < 1 << 62 { Some(moment) } else { None }
+}
+
+/// The moment of a text of seconds and of nanoseconds, where there are any.
+#[tactic(auto, using(crate::proofs::Reading::seconds_none, crate::proofs::Reading::seconds_some))]
+fn moment_at(seconds: &str, nanoseconds: Option<u64>) -> Option<u64>
+    ensures { result ≡ moment_from (value_of seconds.now) nanoseconds }
+{
+    let seconds = read_number(seconds)?;
+    let nanoseconds = nanoseconds?;
+    moment_of(seconds, nanoseconds)
+}
+
+/// Reads digits, or digits, a dot and one to nine digits, as a moment of nanoseconds; None where the text
+/// is nothing of the kind, or the moment is not below 2^62. Takes no memory.
+pub fn read_time(text: &str) -> Option<u64>
+    ensures { result ≡ time_of text.now }
+{
+    match text.split_once('.') {
+        Some((seconds, fraction)) => moment_at(seconds, read_fraction(fraction)),
+        None => moment_at(text, Some(0)),
+    }
+}
