@@ -1,0 +1,13 @@
+pub mod Lists
+pub mod Tests
+pub mod Along
+pub mod Ordered
+pub mod Places
+pub mod Drains
+pub mod Runs
+pub mod Keeping
+pub mod Calls
+pub mod Draining
+pub mod Tallies
+pub mod Decoding
+pub mod Counters

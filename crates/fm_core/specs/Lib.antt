@@ -1,0 +1,15 @@
+pub mod Meaning
+pub mod Hands
+pub mod Folds
+pub mod Records
+pub mod Book
+pub mod Drained
+pub mod Seen
+pub mod Outcome
+pub mod Counts
+pub mod Places
+pub mod Loading
+pub mod Faults
+pub mod CountsOnce
+pub mod Counter
+pub mod Trials

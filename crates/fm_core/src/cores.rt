@@ -1,0 +1,238 @@
+ghost use Rattle.std.specs.Prelude.{◌≡◌, ◌+◌, ◌-◌, ◌<◌, ◌≤◌, ◌^◌, List, [], ◌∷◌, ◌++◌, map, length, slice_get, slice_set, Some, IsTrue, IfOk, OnOk, OnErr};
+ghost use Rattle.std.specs.Option.{ForSome};
+ghost use Rattle.fm_entry.specs.Entries.{IsSpelled};
+ghost use Rattle.fm_core.specs.Hands.{shown, stepped, spoken_at};
+ghost use Rattle.fm_core.specs.Book.{accepted, worked, fallen, floor_of, end_of, is_done};
+ghost use Rattle.fm_core.specs.Seen.{seen, book_of, FollowsAs, IsCore, AreFresh, OnlyWorked, HasComeTo, SameBeside};
+ghost use Rattle.fm_core.specs.Outcome.{outcome, after_step, kept_record};
+ghost use Rattle.fm_entry.specs.declared.spoken.Spoken.{Spoken};
+
+use crate::hand::Hand;
+use crate::module::Module;
+use crate::no_memory::NoMemory;
+use crate::worked::Worked;
+use fm_entry::{Entry, ListEvents, Spoken};
+use std::alloc::Global;
+use std::marker::Model;
+use std::mem;
+
+/// Entries in memory, and the modules that take them, each at its own place.
+#[derive(Drop)]
+pub struct Core<M> {
+    base: u64,
+    kept: Vec<Hand<M>>,
+    entries: Vec<Entry>,
+    hands: Vec<Hand<M>>,
+    records: Vec<Spoken>,
+}
+
+impl<M> Model for Core<M> {
+    ghost use Rattle.fm_core.specs.Seen.{CoreOf, AreFew};
+
+    ghost Value = { CoreOf M };
+
+    ghost use Rattle.std.specs.Coded.{codes};
+    ghost use Rattle.fm_entry.specs.contracts.entry.Entry as entry_row;
+    ghost use Rattle.fm_core.specs.Hands.{hand_code};
+
+    ghost coded = { Prim.hlevel (codes, entry_row.the_row.coded, hand_code M.code) };
+
+    ghost view = { λ c. record { base = c.base; kept = c.kept.items; entries = c.entries.items; hands = c.hands.items; records = c.records.items } };
+
+    ghost invariant = { λ c. AreFew c.base c.entries.items };
+}
+
+impl<M: Module> Core<M> {
+    /// A core without entries, of these hands.
+    pub fn new(
+        alloc: Global,
+        base: u64,
+        hands: Vec<Hand<M>>,
+        kept: Vec<Hand<M>>,
+    ) -> Result<Core<M>, NoMemory>
+        requires fresh { AreFresh base (map (shown M.meaning M.state) hands.items) }
+        requires equal { map (shown M.meaning M.state) hands.items ≡ map (shown M.meaning M.state) kept.items }
+        ensures made { IfOk result (λ core. core ≡ record { base = base; kept = kept.items; entries = []; hands = hands.items; records = [] }) }
+        ensures lawful { IfOk result (λ core. IsCore (seen M.meaning M.state core)) }
+    {
+        Ok(Core {
+            base,
+            kept,
+            entries: Vec::new(alloc),
+            hands,
+            records: Vec::new(alloc),
+        })
+    }
+
+    /// Takes the entry in, and answers its number.
+    pub fn accept(&mut self, entry: Entry) -> Result<u64, NoMemory>
+        requires spelled { IsSpelled entry }
+        requires fits { self.old.base + length self.old.entries < 2 ^ 46 }
+        requires lawful { IsCore (seen M.meaning M.state self.old) }
+        ensures number { IfOk result (λ number. number ≡ self.old.base + length self.old.entries) }
+        ensures accepted { OnOk result (book_of (seen M.meaning M.state self.new) ≡ accepted (book_of (seen M.meaning M.state self.old)) entry) }
+        ensures ok { OnOk result (self.new ≡ record self.old { entries = self.old.entries ++ entry ∷ [] }) }
+        ensures lawful { IsCore (seen M.meaning M.state self.new) }
+        ensures err { OnErr result (self.new ≡ self.old) }
+    {
+        let number = self.base + self.entries.len() as u64;
+        self.entries.push(entry)?;
+        Ok(number)
+    }
+
+    /// The number of entries ever: those before the core, and those that it accepted.
+    pub fn len(&self) -> u64
+        ensures { result ≡ self.now.base + length self.now.entries }
+    {
+        self.base + self.entries.len() as u64
+    }
+
+    /// What was spoken, in the order in which it was spoken.
+    pub fn spoken(&self) -> &[Spoken]
+        ensures { result.now ≡ self.now.records }
+    {
+        self.records.as_slice()
+    }
+
+    /// The hand of a module.
+    pub fn hand(&self, module: u32) -> &Hand<M>
+        requires { «module» < length self.now.hands }
+        ensures { slice_get self.now.hands «module» ≡ Some result.now }
+    {
+        &self.hands[module as usize]
+    }
+
+    /// Puts the hand, which may have taken fewer entries, in place of the module's own, and gives that
+    /// back.
+    pub fn fall(&mut self, module: u32, hand: Hand<M>) -> Hand<M>
+        requires known { «module» < length self.old.hands }
+        requires lawful { IsCore (seen M.meaning M.state self.old) }
+        requires follows { FollowsAs (book_of (seen M.meaning M.state self.old)) «module» (shown M.meaning M.state hand) }
+        requires above { floor_of (book_of (seen M.meaning M.state self.old)) «module» ≤ hand.cursor }
+        requires below { ForSome (slice_get self.old.hands «module») (λ own. hand.cursor ≤ own.cursor) }
+        ensures fallen { book_of (seen M.meaning M.state self.new) ≡ fallen (book_of (seen M.meaning M.state self.old)) «module» hand.cursor }
+        ensures put { self.new ≡ record self.old { hands = slice_set self.old.hands «module» hand } }
+        ensures back { slice_get self.old.hands «module» ≡ Some result }
+        ensures lawful { IsCore (seen M.meaning M.state self.new) }
+    {
+        let own = &mut self.hands[module as usize];
+        mem::replace(own, hand)
+    }
+
+    /// Lets the module take its next entry. After want of memory nothing has changed.
+    pub fn work(&mut self, alloc: Global, module: u32) -> Result<Worked, NoMemory>
+        requires known { «module» < length self.old.hands }
+        requires lawful { IsCore (seen M.meaning M.state self.old) }
+        ensures answer { IfOk result (λ answer. answer ≡ outcome (book_of (seen M.meaning M.state self.old)) «module») }
+        ensures worked { OnOk result (book_of (seen M.meaning M.state self.new) ≡ worked (book_of (seen M.meaning M.state self.old)) «module») }
+        ensures lawful { IsCore (seen M.meaning M.state self.new) }
+        ensures modules { length self.new.hands ≡ length self.old.hands }
+        ensures only { OnlyWorked (seen M.meaning M.state self.old) (seen M.meaning M.state self.new) }
+        ensures err { OnErr result (seen M.meaning M.state self.new ≡ seen M.meaning M.state self.old) }
+    {
+        self.work_at(alloc, module as usize)
+    }
+
+    /// Lets each module in turn take every entry that it has not taken. After want of memory some of
+    /// them may have taken only some.
+    pub fn drain(&mut self, alloc: Global) -> Result<(), NoMemory>
+        requires { IsCore (seen M.meaning M.state self.old) }
+        ensures worked { OnlyWorked (seen M.meaning M.state self.old) (seen M.meaning M.state self.new) }
+        ensures done { OnOk result (IsTrue (is_done (book_of (seen M.meaning M.state self.new)))) }
+    {
+        'modules: for at in 0..self.hands.len() {
+            self.drain_at(alloc, at)?;
+        }
+        Ok(())
+    }
+
+    // lets the module at a place take every entry that it has not taken
+    fn drain_at(&mut self, alloc: Global, at: usize) -> Result<(), NoMemory>
+        requires inside { at < length self.old.hands }
+        requires lawful { IsCore (seen M.meaning M.state self.old) }
+        ensures worked { OnlyWorked (seen M.meaning M.state self.old) (seen M.meaning M.state self.new) }
+        ensures done { OnOk result (HasComeTo (seen M.meaning M.state self.new) at (end_of (book_of (seen M.meaning M.state self.old)))) }
+        ensures others { OnOk result (SameBeside at (seen M.meaning M.state self.old) (seen M.meaning M.state self.new)) }
+    {
+        let place = self.next_place(at);
+        'turns: for _turn in place..self.entries.len() {
+            self.work_at(alloc, at)?;
+        }
+        Ok(())
+    }
+
+    // lets the module at a place take its next entry
+    fn work_at(&mut self, alloc: Global, at: usize) -> Result<Worked, NoMemory>
+        requires inside { at < length self.old.hands }
+        requires lawful { IsCore (seen M.meaning M.state self.old) }
+        ensures answer { IfOk result (λ answer. answer ≡ outcome (book_of (seen M.meaning M.state self.old)) at) }
+        ensures worked { OnOk result (book_of (seen M.meaning M.state self.new) ≡ worked (book_of (seen M.meaning M.state self.old)) at) }
+        ensures lawful { IsCore (seen M.meaning M.state self.new) }
+        ensures modules { length self.new.hands ≡ length self.old.hands }
+        ensures err { OnErr result (seen M.meaning M.state self.new ≡ seen M.meaning M.state self.old) }
+    {
+        let place = self.next_place(at);
+        if place >= self.entries.len() {
+            return Ok(Worked::Idle);
+        }
+        self.records.push(Spoken {
+            module: 0,
+            number: 0,
+            events: ListEvents::new(Vec::new(alloc)),
+        })?;
+        match advance_at(&mut self.hands, at, alloc, &self.entries[place]) {
+            Ok(spoken) => Ok(settle(&mut self.records, spoken)),
+            Err(error) => {
+                self.records.pop();
+                Err(error)
+            }
+        }
+    }
+
+    // the place, among the entries, of the next one that the module at a place takes
+    fn next_place(&self, at: usize) -> usize
+        requires inside { at < length self.now.hands }
+        requires lawful { IsCore (seen M.meaning M.state self.now) }
+        ensures hand { ForSome (slice_get self.now.hands at) (λ hand. (self.now.base ≤ hand.cursor) × (result ≡ hand.cursor - self.now.base)) }
+        ensures cursor { HasComeTo (seen M.meaning M.state self.now) at (self.now.base + result) }
+        ensures within { result ≤ length self.now.entries }
+    {
+        let hand = &self.hands[at];
+        (hand.cursor() - self.base) as usize
+    }
+}
+
+// one step of the hand at a place
+fn advance_at<M: Module>(
+    hands: &mut Vec<Hand<M>>,
+    at: usize,
+    alloc: Global,
+    entry: &Entry,
+) -> Result<Spoken, NoMemory>
+    requires inside { at < length hands.old.items }
+    requires number { ForSome (slice_get hands.old.items at) (λ hand. hand.cursor < 2 ^ 46) }
+    requires spelled { IsSpelled entry.now }
+    ensures hand { OnOk result (ForSome (slice_get hands.old.items at) (λ hand. map (shown M.meaning M.state) hands.new.items ≡ slice_set (map (shown M.meaning M.state) hands.old.items) at (stepped (shown M.meaning M.state hand) entry.now))) }
+    ensures words { IfOk result (λ spoken. ForSome (slice_get hands.old.items at) (λ hand. spoken ≡ spoken_at (shown M.meaning M.state hand) entry.now)) }
+    ensures many { length hands.new.items ≡ length hands.old.items }
+    ensures err { OnErr result (map (shown M.meaning M.state) hands.new.items ≡ map (shown M.meaning M.state) hands.old.items) }
+{
+    let hand = &mut hands[at];
+    hand.advance(alloc, entry)
+}
+
+// puts what was spoken in place of the last record, or drops that where nothing was
+fn settle(records: &mut Vec<Spoken>, spoken: Spoken) -> Worked
+    requires { 0 < length records.old.items }
+    ensures answer { result ≡ after_step spoken.events }
+    ensures records { (front : List Spoken) (last : Spoken) → records.old.items ≡ front ++ last ∷ [] → records.new.items ≡ front ++ kept_record spoken }
+{
+    if spoken.events.as_slice().is_empty() {
+        records.pop();
+        Worked::Silent
+    } else {
+        let last = records.len() - 1;
+        records[last] = spoken;
+        Worked::Spoke
+    }
+}

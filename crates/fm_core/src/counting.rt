@@ -1,0 +1,100 @@
+ghost use Rattle.std.specs.Prelude.{◌≡◌, ◌<◌, ◌≤◌, ◌+◌, ◌%◌, ◌^◌, ◌==◌, [], ◌∷◌, length, slice_get, IsTrue, IfOk, OnOk, OnErr, if◌then◌else◌};
+ghost use Rattle.fm_core.specs.Counts.{is_ordered, count_of, total_of, counted, third};
+ghost use Rattle.fm_core.specs.Places.{place_of, is_standing, standing_count};
+
+use crate::class_count::ClassCount;
+use crate::no_memory::NoMemory;
+use fm_entry::{CaseName, EventNames, ListEvent, ListKind, Suspects};
+use fm_name::{Class, EventName, Fmri};
+use std::alloc::Global;
+
+// where the class stands, or would stand
+pub(crate) fn find_place(counts: &[ClassCount], class: &Class) -> usize
+    requires { IsTrue (is_ordered counts.now) }
+    ensures { result ≡ place_of class.now counts.now }
+{
+    counts.partition_point(|x| x.class < *class)
+}
+
+// whether the class stands at the place
+fn stands(counts: &[ClassCount], at: usize, class: &Class) -> bool
+    ensures { result ≡ is_standing class.now (slice_get counts.now at) }
+{
+    match counts.get(at) {
+        Some(x) => x.class == *class,
+        None => false,
+    }
+}
+
+// the count of the class, which stands at the place or nowhere
+pub(crate) fn count_at(counts: &[ClassCount], at: usize, class: &Class) -> u64
+    requires ordered { IsTrue (is_ordered counts.now) }
+    requires place { at ≡ place_of class.now counts.now }
+    ensures count { result ≡ count_of class.now counts.now }
+    ensures few { result ≤ total_of counts.now }
+{
+    standing(counts, at, class)
+}
+
+// the count of the class, if it stands at the place
+fn standing(counts: &[ClassCount], at: usize, class: &Class) -> u64
+    ensures { result ≡ standing_count class.now (slice_get counts.now at) }
+{
+    match counts.get(at) {
+        Some(x) => { if x.class == *class { x.count } else { 0 } }
+        None => 0,
+    }
+}
+
+// counts one report more of the class
+pub(crate) fn count_in(
+    counts: &mut Vec<ClassCount>,
+    at: usize,
+    class: &Class,
+) -> Result<(), NoMemory>
+    requires place { at ≡ place_of class.now counts.old.items }
+    requires fits { total_of counts.old.items < 2 ^ 46 }
+    ensures ok { OnOk result (counts.new.items ≡ counted class.now counts.old.items) }
+    ensures err { OnErr result (counts.new.items ≡ counts.old.items) }
+{
+    if stands(counts, at, class) {
+        let own = &mut counts[at];
+        own.count += 1;
+        Ok(())
+    } else {
+        let class = class.copy()?;
+        counts.insert(at, ClassCount { class, count: 1 })?;
+        Ok(())
+    }
+}
+
+// the upset that is said where the count is a multiple of three
+pub(crate) fn third_word(
+    alloc: Global,
+    case: CaseName,
+    count: u64,
+    class: &Class,
+    path: &Fmri,
+    moment: u64,
+) -> Result<Vec<ListEvent>, NoMemory>
+    ensures { IfOk result (λ words. words.items ≡ (if count % 3 == 0 then third case.module case.case class.now path.now moment ∷ [] else [])) }
+{
+    let mut words = Vec::new(alloc);
+    if count % 3 != 0 {
+        return Ok(words);
+    }
+    let mut observed = Vec::new(alloc);
+    observed.push(EventName {
+        class: class.copy()?,
+        path: path.copy()?,
+    })?;
+    words.push(ListEvent {
+        kind: ListKind::Upset,
+        case,
+        moment,
+        conf: 0,
+        observed: EventNames::new(observed),
+        suspects: Suspects::new(Vec::new(alloc)),
+    })?;
+    Ok(words)
+}

@@ -1,0 +1,45 @@
+//! The pure core: modules that take each entry once, in order, in whatever order they are worked.
+//!
+//! A `Module` is an object with a state. It takes entries one at a time, by number, and says words about
+//! cases. Contracts see it by its meaning, one value that says what it was made with (its own number,
+//! what it subscribes to, its steps, words and saves), and by its state. A `Hand` is an object with the
+//! place that it has come to. A `Core` keeps the entries in memory, a hand of each module as it was
+//! before them, a hand of each as it has come on, and what was spoken.
+//!
+//! A core stands for a book (`book_of`): the modules at the base, the entries, a cursor for each module,
+//! and the records of what was said. A book is lawful where each module's records from the base on are
+//! just what it says along the entries that it has taken. Each call of a core is one move of its book:
+//! `accept`, `work` and `fall`; a new base is a move too. The theorem over whole runs is the contract of
+//! `any_order`: after any list of moves a lawful book is lawful, it drains to what one thread gets that
+//! takes every entry once, in order, and where a module has come to the end, its state and its records
+//! are those. `IsCore` says of a core that its book is lawful and that its hands follow it; each call asks
+//! for it and keeps it.
+//!
+//! Nothing of a core is lost where memory is wanted: `accept` and `work` leave it as it was, and
+//! `Hand::step` gives the hand back.
+//!
+//! `Counter` is a small module, which counts reports by class and says an upset at every third report of
+//! one class. What its `save` writes, `load` takes back, and `load` refuses all other bytes.
+#![tactic(auto)]
+
+mod class_count;
+mod cores;
+mod counter;
+mod counting;
+mod hand;
+mod laws;
+mod module;
+mod no_memory;
+mod saving;
+#[cfg(test)]
+mod trials;
+mod worked;
+
+pub use class_count::ClassCount;
+pub use cores::Core;
+pub use counter::Counter;
+pub use hand::Hand;
+pub use laws::any_order;
+pub use module::{LoadFault, Module};
+pub use no_memory::NoMemory;
+pub use worked::Worked;

@@ -1,0 +1,101 @@
+// A module behind a box is a module too, and hands and cores work over such objects with all that they
+// promise.
+ghost use Rattle.std.specs.Prelude.{◌≡◌, ◌<◌, ◌^◌, length, IfSome, OnOk};
+ghost use Rattle.fm_entry.specs.Entries.{IsSpelled};
+ghost use Rattle.fm_core.specs.Hands.{shown, stepped};
+ghost use Rattle.fm_core.specs.Book.{worked};
+ghost use Rattle.fm_core.specs.Seen.{seen, book_of, IsCore};
+
+use crate::cores::Core;
+use crate::counter::Counter;
+use crate::hand::Hand;
+use crate::module::{LoadFault, Module};
+use crate::no_memory::NoMemory;
+use crate::trials::report;
+use crate::worked::Worked;
+use fm_entry::{Entry, ListEvent};
+use fm_name::Class;
+use std::alloc::Global;
+use std::test::Fail;
+
+/// An object of a kind that is not known here.
+#[derive(Drop)]
+pub struct Loaded {
+    object: Box<dyn Module>,
+}
+
+impl Module for Loaded {
+    ghost meaning = { λ l. (Module-box l.object).meaning l.object.value };
+
+    ghost state = { λ l. (Module-box l.object).state l.object.value };
+
+    fn subscribes(&self, class: &Class) -> bool {
+        self.object.subscribes(class)
+    }
+
+    fn step(
+        &mut self,
+        alloc: Global,
+        number: u64,
+        entry: &Entry,
+    ) -> Result<Vec<ListEvent>, NoMemory> {
+        self.object.step(alloc, number, entry)
+    }
+
+    fn save(&self, out: &mut Vec<u8>) -> Result<(), NoMemory> {
+        self.object.save(out)
+    }
+
+    fn load(&mut self, alloc: Global, bytes: &[u8]) -> Result<(), LoadFault> {
+        self.object.load(alloc, bytes)
+    }
+}
+
+impl Loaded {
+    /// The module that the object is.
+    pub fn new(object: Box<dyn Module>) -> Loaded
+        ensures meaning { ⟦<Loaded as Module>⟧.meaning result ≡ meaning object }
+        ensures state { ⟦<Loaded as Module>⟧.state result ≡ state object }
+    {
+        Loaded { object }
+    }
+}
+
+/// A step of a hand over a boxed object.
+pub fn step_loaded(alloc: Global, hand: Hand<Loaded>, entry: &Entry) -> Option<Hand<Loaded>>
+    requires number { hand.cursor < 2 ^ 46 }
+    requires spelled { IsSpelled entry.now }
+    ensures { IfSome result (λ new. shown ⟦<Loaded as Module>⟧.meaning ⟦<Loaded as Module>⟧.state new ≡ stepped (shown ⟦<Loaded as Module>⟧.meaning ⟦<Loaded as Module>⟧.state hand) entry.now) }
+{
+    match hand.step(alloc, entry) {
+        Ok((hand, _spoken)) => Some(hand),
+        Err(_) => None,
+    }
+}
+
+/// A move of a core over boxed objects.
+pub fn work_loaded(alloc: Global, core: &mut Core<Loaded>, module: u32) -> Result<Worked, NoMemory>
+    requires known { «module» < length core.old.hands }
+    requires lawful { IsCore (seen ⟦<Loaded as Module>⟧.meaning ⟦<Loaded as Module>⟧.state core.old) }
+    ensures worked { OnOk result (book_of (seen ⟦<Loaded as Module>⟧.meaning ⟦<Loaded as Module>⟧.state core.new) ≡ worked (book_of (seen ⟦<Loaded as Module>⟧.meaning ⟦<Loaded as Module>⟧.state core.old)) «module») }
+    ensures lawful { IsCore (seen ⟦<Loaded as Module>⟧.meaning ⟦<Loaded as Module>⟧.state core.new) }
+{
+    core.work(alloc, module)
+}
+
+#[test]
+fn steps_a_boxed_object(rt: HostRuntime) -> Result<(), Fail> {
+    let alloc = rt.alloc();
+    let object: Box<dyn Module> = Box::new(alloc, Counter::new(alloc, 0))?;
+    let hand = Hand::new(0, 0, Loaded::new(object));
+    let entry = report(alloc, "ereport.cpu.ue", 7).ok_or("entry")?;
+    let hand = step_loaded(alloc, hand, &entry).ok_or("step")?;
+    assert_eq!(rt; hand.cursor(), 1);
+    let mut kept = Vec::new(alloc);
+    hand.state().save(&mut kept)?;
+    assert_eq!(rt;
+        kept.as_slice(),
+        b"\0\0\0\0\0\0\0\x01\0\x0eereport.cpu.ue\0\0\0\0\0\0\0\x01".as_slice()
+    );
+    Ok(())
+}

@@ -1,0 +1,6 @@
+pub mod Entries
+pub mod Words
+pub mod WordBytes
+pub mod Reading
+pub mod Decimals
+pub mod CaseText

@@ -1,0 +1,8 @@
+pub mod Causes
+pub mod Crash
+pub mod Damage
+pub mod Format
+pub mod JournalOf
+pub mod Keeps
+pub mod Look
+pub mod OnlyRead

@@ -1,0 +1,31 @@
+-- The numbers of a case name.
+use Rattle.std.proofs.Common.{◌≡◌, ℕ, ◌+◌, ◌<◌, ◌≤◌, ◌^◌, [], List, length, position, Option, Some, None, refl, sym, ap, ◌∙◌, subst, arith, take, drop}
+use Rattle.std.specs.List.{position_or_len, before_first, after_first}
+use Rattle.std.proofs.Math.ListN.{drop_of_length-le}
+use Rattle.fm_entry.specs.declared.case_name.CaseName.{CaseName}
+use Rattle.fm_line.proofs.Places.{place_is, place_none}
+use Rattle.fm_line.specs.CaseText.{is_slash, case_of, case_numbers}
+use Rattle.fm_line.specs.Numbers.{number_of_word, is_numeral}
+
+pub numbers_at : (text : List ℕ) (at : ℕ) → position is_slash text ≡ Some at
+    → case_of (number_of_word 8 (take at text)) (number_of_word (2 ^ 63) (drop (at + 1) text)) ≡ case_numbers text
+unfolding case_numbers
+numbers_at text at found =
+    ap (λ n. case_of (number_of_word 8 (take n text)) (number_of_word (2 ^ 63) (drop (n + 1) text))) (sym (place_is is_slash text at found).0)
+
+no_case : (m : Option ℕ) → case_of m None ≡ None
+no_case None = refl
+no_case (Some m) = refl
+
+no_number : number_of_word (2 ^ 63) [] ≡ None
+unfolding number_of_word is_numeral
+no_number = refl
+
+pub numbers_none : (text : List ℕ) → position is_slash text ≡ None → None ≡ case_numbers text
+unfolding case_numbers
+numbers_none text none =
+    let past : length text ≤ position_or_len is_slash text = place_none is_slash text none in
+    let rest : after_first is_slash text ≡ [] = drop_of_length-le text (omega arith) in
+    sym (ap (λ l. case_of (number_of_word 8 (before_first is_slash text)) (number_of_word (2 ^ 63) l)) rest
+    ∙ ap (case_of (number_of_word 8 (before_first is_slash text))) no_number
+    ∙ no_case (number_of_word 8 (before_first is_slash text)))

@@ -1,0 +1,10 @@
+pub mod Blank
+pub mod CaseText
+pub mod Faults
+pub mod Forms
+pub mod Lines
+pub mod Numbers
+pub mod Outcomes
+pub mod Payload
+pub mod Printed
+pub mod Sound

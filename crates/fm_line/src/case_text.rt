@@ -1,0 +1,46 @@
+//! Reading a case name.
+
+ghost use Rattle.std.specs.Prelude.{◌≡◌, ◌<◌, position, IfSome};
+ghost use Rattle.fm_line.specs.CaseText.{is_slash, case_of, case_numbers, case_named};
+
+use crate::number::read_below;
+use fm_entry::CaseName;
+
+/// The place of the first slash.
+fn slash_place(text: &[u8]) -> Option<usize>
+    ensures { result ≡ position is_slash text.now }
+{
+    text.iter().position(|b| *b == b'/')
+}
+
+/// The case name of two numbers, where both are there.
+fn case_of(module: Option<u64>, case: Option<u64>) -> Option<CaseName>
+    requires { IfSome «module» (λ m. m < 8) }
+    ensures { result ≡ case_of «module» case }
+{
+    let module = module? as u32;
+    let case = case?;
+    Some(CaseName { module, case })
+}
+
+/// The case name of what follows `dx`.
+fn case_numbers(text: &[u8]) -> Option<CaseName>
+    ensures { result ≡ case_numbers text.now }
+{
+    let at = slash_place(text)?;
+    case_of(
+        read_below(8, &text[..at]),
+        read_below(1 << 63, &text[at + 1..]),
+    )
+}
+
+/// The case name that a text is, if it is one.
+#[tactic(auto, unfolding(crate::specs::CaseText::case_named))]
+pub(crate) fn read_case_name(text: &str) -> Option<CaseName>
+    ensures { result ≡ case_named text.now }
+{
+    match text.strip_prefix("dx") {
+        Some(numbers) => case_numbers(numbers.as_bytes()),
+        None => None,
+    }
+}

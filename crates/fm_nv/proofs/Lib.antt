@@ -1,0 +1,10 @@
+pub mod Booleans
+pub mod Places
+pub mod Steps
+pub mod Adding
+pub mod ReadLoops
+pub mod Numbering
+pub mod Apart
+pub mod Readers
+pub mod ValueKinds
+pub mod ListReader

@@ -1,0 +1,68 @@
+-- One step of a loop over the pairs of a list, or over the items of an array.
+use Rattle.std.proofs.Common.{◌≡◌, ℕ, suc, ◌+◌, ◌<◌, ◌≤◌, IsTrue, List, ◌∷◌, ◌++◌, length, get_or, drop, nat_le, sym, ap, ◌∙◌, arith, append_assoc, subst, string_bytes, drop-cons}
+use Rattle.std.proofs.lemmas.List.{append-nil, drop_all}
+use Rattle.fm_nv.specs.Data.{Pairs, pair, lists_of, count}
+use Rattle.std.proofs.lemmas.Bool.{leb-true}
+use Rattle.fm_nv.proofs.Booleans.{and_parts}
+use Rattle.fm_nv.specs.Spelled.{is_counted, list_fits, is_name, value_fits, pairs_fit, name_bytes, value_bytes, body_bytes, lists_bytes, pairs_bytes}
+use Rattle.fm_nv.specs.View.{datum, pairs_of}
+use Rattle.fm_nv.specs.declared.nv.Pair.{Pair}
+
+-- the items from a place on
+pub drop_item : {A : Type 0} (xs : List A) (i : ℕ) (x : A) → i < length xs → x ≡ get_or xs i x → drop i xs ≡ x ∷ drop (i + 1) xs
+drop_item xs i x h e =
+    let next : suc i ≡ i + 1 = omega arith in
+    let front : get_or xs i x ∷ drop (suc i) xs ≡ x ∷ drop (i + 1) xs = λ j. sym e j ∷ drop (next j) xs in
+    drop-cons xs i x h ∙ front
+
+-- the pairs from a place on
+pub drop_pair : (xs : List Pair) (i : ℕ) (p : Pair) → i < length xs → p ≡ get_or xs i p
+    → pairs_of (drop i xs) ≡ pair (string_bytes p.name) (datum p.value) (pairs_of (drop (i + 1) xs))
+drop_pair xs i p h e = ap pairs_of (drop_item xs i p h e)
+
+-- the pair at a place has a spelling, and so have those behind it
+pub fit_at : (xs : List Pair) (i : ℕ) (p : Pair) → i < length xs → p ≡ get_or xs i p → IsTrue (pairs_fit (pairs_of (drop i xs)))
+    → IsTrue (is_name (string_bytes p.name)) × IsTrue (value_fits (datum p.value)) × IsTrue (pairs_fit (pairs_of (drop (i + 1) xs)))
+fit_at xs i p h e fits =
+    let all : IsTrue (pairs_fit (pair (string_bytes p.name) (datum p.value) (pairs_of (drop (i + 1) xs)))) =
+    subst (λ (ps : Pairs). IsTrue (pairs_fit ps)) (drop_pair xs i p h e) fits in
+    let one = and_parts (is_name (string_bytes p.name)) _ all in
+    let two = and_parts (value_fits (datum p.value)) _ one.1 in
+    (one.0, two.0, two.1)
+
+-- what is written and what is left is the whole, after one item more
+pub push_item : (out new item rest all : List ℕ) → out ++ (item ++ rest) ≡ all → new ≡ out ++ item → new ++ rest ≡ all
+push_item out new item rest all h e = ap (λ (xs : List ℕ). xs ++ rest) e ∙ append_assoc out item rest ∙ h
+
+-- the pair at a place is written
+pub push_pair : (xs : List Pair) (i : ℕ) (p : Pair) (out new all : List ℕ) → i < length xs → p ≡ get_or xs i p
+    → out ++ body_bytes (pairs_of (drop i xs)) ≡ all
+    → new ≡ out ++ (name_bytes (string_bytes p.name) ++ value_bytes (datum p.value))
+    → new ++ body_bytes (pairs_of (drop (i + 1) xs)) ≡ all
+push_pair xs i p out new all h e before step =
+    push_item out new _ _ all (ap (λ (ps : Pairs). out ++ body_bytes ps) (sym (drop_pair xs i p h e)) ∙ before) step
+
+-- nothing is left past the end
+pub pushed_all : (xs : List Pair) (i : ℕ) (out all : List ℕ) → length xs ≤ i → out ++ body_bytes (pairs_of (drop i xs)) ≡ all → out ≡ all
+pushed_all xs i out all h before =
+    sym (append-nil out) ∙ ap (λ (ys : List Pair). out ++ body_bytes (pairs_of ys)) (sym (drop_all i xs h)) ∙ before
+
+-- the list at a place is written
+pub push_list : (xs : List Pairs) (i : ℕ) (p : Pairs) (out new all : List ℕ) → i < length xs → p ≡ get_or xs i p
+    → out ++ lists_bytes (lists_of (drop i xs)) ≡ all
+    → new ≡ out ++ pairs_bytes p
+    → new ++ lists_bytes (lists_of (drop (i + 1) xs)) ≡ all
+push_list xs i p out new all h e before step =
+    push_item out new _ _ all (ap (λ (ps : List Pairs). out ++ lists_bytes (lists_of ps)) (sym (drop_item xs i p h e)) ∙ before) step
+
+-- nothing is left past the end
+pub pushed_lists : (xs : List Pairs) (i : ℕ) (out all : List ℕ) → length xs ≤ i → out ++ lists_bytes (lists_of (drop i xs)) ≡ all → out ≡ all
+pushed_lists xs i out all h before =
+    sym (append-nil out) ∙ ap (λ (ys : List Pairs). out ++ lists_bytes (lists_of ys)) (sym (drop_all i xs h)) ∙ before
+
+-- a list that has a spelling has at most 65,535 pairs
+pub count_bound : (ps : Pairs) → IsTrue (list_fits ps) → count ps ≤ 65535
+count_bound ps h =
+    let counted = and_parts (is_counted ps) _ h in
+    let few = and_parts (nat_le (count ps) 65535) _ counted.0 in
+    leb-true _ _ few.0

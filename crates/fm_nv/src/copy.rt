@@ -1,0 +1,95 @@
+//! Lists and values once more.
+
+ghost use Rattle.std.specs.Prelude.{◌≡◌, IfOk};
+ghost use Rattle.fm_nv.specs.View.{named};
+
+use crate::no_memory::NoMemory;
+use crate::numbers::{Numbers, NvTexts};
+use crate::nv::{Nv, NvLists, Pair, Value};
+use std::alloc::Global;
+
+impl Nv {
+    /// The same list once more.
+    #[cycle(copying)]
+    pub fn copy(&self, alloc: Global) -> Result<Nv, NoMemory>
+        ensures { IfOk result (λ list. list ≡ self.now) }
+    {
+        let mut pairs = Vec::new(alloc);
+        'pairs: for pair in &self.pairs {
+            pairs.push(pair.copy(alloc)?)?;
+        }
+        Ok(Nv {
+            deep: self.deep,
+            pairs,
+        })
+    }
+}
+
+impl Pair {
+    /// The same pair once more.
+    #[cycle(copying)]
+    fn copy(&self, alloc: Global) -> Result<Pair, NoMemory>
+        ensures { IfOk result (λ pair. named pair ≡ named self.now) }
+    {
+        let name = String::from_str(alloc, self.name.as_str())?;
+        let value = self.value.copy(alloc)?;
+        Ok(Pair { name, value })
+    }
+}
+
+impl Value {
+    /// The same value once more.
+    #[cycle(copying)]
+    pub fn copy(&self, alloc: Global) -> Result<Value, NoMemory>
+        ensures { IfOk result (λ value. value ≡ self.now) }
+    {
+        match self {
+            Value::Bool(flag) => Ok(Value::Bool(*flag)),
+            Value::Unsigned(number) => Ok(Value::Unsigned(*number)),
+            Value::Signed(number) => Ok(Value::Signed(*number)),
+            Value::Text(text) => Ok(Value::Text(text.copy(alloc)?)),
+            Value::List(list) => Ok(Value::List(list.copy(alloc)?)),
+            Value::Unsigneds(numbers) => Ok(Value::Unsigneds(numbers.copy(alloc)?)),
+            Value::Texts(texts) => Ok(Value::Texts(texts.copy(alloc)?)),
+            Value::Lists(lists) => Ok(Value::Lists(lists.copy(alloc)?)),
+        }
+    }
+}
+
+impl NvLists {
+    /// The same array once more.
+    #[cycle(copying)]
+    pub fn copy(&self, alloc: Global) -> Result<NvLists, NoMemory>
+        ensures { IfOk result (λ array. array ≡ self.now) }
+    {
+        let mut items = Vec::new(alloc);
+        'items: for list in &self.items {
+            items.push(list.copy(alloc)?)?;
+        }
+        Ok(NvLists::from_vec(items))
+    }
+}
+
+impl Numbers {
+    /// The same array once more.
+    pub fn copy(&self, alloc: Global) -> Result<Numbers, NoMemory>
+        ensures { IfOk result (λ array. array ≡ self.now) }
+    {
+        let items = Vec::from_slice(alloc, self.as_slice())?;
+        Ok(Numbers::from_vec(items))
+    }
+}
+
+impl NvTexts {
+    /// The same array once more.
+    pub fn copy(&self, alloc: Global) -> Result<NvTexts, NoMemory>
+        ensures { IfOk result (λ array. array ≡ self.now) }
+    {
+        let texts = self.as_slice();
+        let mut items = Vec::new(alloc);
+        'items: for text in texts {
+            items.push(text.copy(alloc)?)?;
+        }
+        Ok(NvTexts::from_vec(items))
+    }
+}

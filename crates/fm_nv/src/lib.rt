@@ -1,0 +1,50 @@
+//! Name-value lists: values of eight kinds under distinct names, kept in order, and their spelling.
+//!
+//! An `Nv` is a list of pairs, each a name and a `Value`. Contracts see it as `Pairs`, data of
+//! `specs/Data.antt`, and a value as `Data` through `datum`: a text is its bytes, an array is a list.
+//! `specs/Spelled.antt` says which lists have a spelling (`IsSpelledList`: names that are distinct and of
+//! 1 to 255 bytes, at most 65,535 pairs, texts of at most 65,536 bytes, arrays of at most 65,535 items,
+//! no list deeper than 8) and what the spelling is (`pairs_bytes`).
+//!
+//! The invariant of `Nv` is that its pairs have a spelling, and that the field `deep` is their depth. So
+//! `write_nv` asks for nothing, and `push` refuses what would break it: `refusal` is the first fault of a
+//! pair, in the order of `NvFault`. `NvLists` keeps the depth of its lists in the same way.
+//!
+//! `read_nv` answers a list exactly where the bytes begin with the spelling of one. It reads over an
+//! `Input`, the bytes that are left; each reader ensures what the front of them reads as
+//! (`specs/Reading.antt`), and `proofs/ListReader.antt` shows that this is the spelling both ways: what is
+//! read is spelled so, what is spelled is read again whatever follows it, and no spelling is a proper
+//! prefix of another. A list in a list is read by recursion, at most eight deep; a count that promises
+//! more than is there takes no memory, since the items are pushed one by one as they are read.
+//!
+//! `Input` and the `put_` functions read and write the numbers and short texts of other formats too.
+#![tactic(auto)]
+
+mod copy;
+mod distinct;
+mod fault;
+mod input;
+mod list;
+mod lists;
+mod no_memory;
+mod numbers;
+mod nv;
+mod output;
+mod push;
+mod read;
+mod reading;
+mod text;
+mod write;
+
+pub use fault::{NvFault, ReadFault};
+pub use input::Input;
+pub use no_memory::NoMemory;
+pub use numbers::{Numbers, NvTexts};
+pub use nv::{Nv, NvLists, Value};
+pub use output::{put_byte, put_long, put_long_text, put_short, put_short_text, put_word};
+pub use read::read_nv;
+pub use text::NvText;
+pub use write::write_nv;
+
+#[cfg(test)]
+mod tests;

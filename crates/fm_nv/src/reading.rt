@@ -1,0 +1,307 @@
+//! Lists and their values, read from the front of some bytes.
+
+ghost use Rattle.std.specs.Prelude.{◌≡◌, ◌<◌, ◌≤◌, false, Some, None, IfOk, IfErr, IsTrue, map};
+ghost use Rattle.std.specs.Int.{w64, cast_signed};
+ghost use Rattle.fm_nv.specs.Data.{count, depth, boolean, unsigned, signed, text, nested, unsigneds, texts, lists, lists_of};
+ghost use Rattle.fm_nv.specs.Reading.{IsMisspelled, made, number_from, flag_from, value_text_from, name_from, items_from, array_from, tagged_from, value_from, pair_from, list_from};
+ghost use Rattle.fm_nv.specs.Spelled.{distinct, pairs_fit};
+ghost use Rattle.fm_nv.specs.View.{datum, named, pairs_of};
+
+use crate::distinct::are_distinct;
+use crate::fault::ReadFault;
+use crate::input::Input;
+use crate::numbers::{Numbers, NvTexts};
+use crate::nv::{Nv, NvLists, Pair, Value};
+use crate::text::NvText;
+use std::alloc::Global;
+
+impl<'a> Input<'a> {
+    /// A list of names and values.
+    pub fn list(&mut self, alloc: Global) -> Result<Nv, ReadFault>
+        ensures ok { IfOk result (λ ps. list_from 8 self.old ≡ Some (ps, self.new)) }
+        ensures err { IfErr result (λ f. IsMisspelled f → list_from 8 self.old ≡ None) }
+    {
+        read_list(self, alloc, 8)
+    }
+}
+
+/// A list that is at most so deep.
+#[cycle(reading)]
+fn read_list(input: &mut Input, alloc: Global, deep: u64) -> Result<Nv, ReadFault>
+    requires { deep ≤ 8 }
+    ensures ok { IfOk result (λ ps. list_from deep input.old ≡ Some (ps, input.new)) }
+    ensures err { IfErr result (λ f. IsMisspelled f → list_from deep input.old ≡ None) }
+{
+    if deep == 0 {
+        return Err(ReadFault::NoSpelling);
+    }
+    let _left = input.left();
+    let pairs = read_pairs(input, alloc, deep - 1)?;
+    checked(alloc, pairs)
+}
+
+/// The pairs of a list, behind their number. Lists in them are at most so deep.
+#[cycle(reading)]
+#[tactic(auto, unfolding(crate::specs::Reading::array_from))]
+fn read_pairs(input: &mut Input, alloc: Global, deep: u64) -> Result<Vec<Pair>, ReadFault>
+    requires { deep < 8 }
+    ensures ok { IfOk result (λ v. array_from (pair_from (list_from deep)) input.old ≡ Some (map named v.items, input.new)) }
+    ensures err { IfErr result (λ f. IsMisspelled f → array_from (pair_from (list_from deep)) input.old ≡ None) }
+{
+    let count = input.short()?;
+    read_each_pair(input, alloc, deep, count)
+}
+
+/// So many pairs.
+#[cycle(reading)]
+fn read_each_pair(
+    input: &mut Input,
+    alloc: Global,
+    deep: u64,
+    count: u16,
+) -> Result<Vec<Pair>, ReadFault>
+    requires { deep < 8 }
+    ensures ok { IfOk result (λ v. items_from (pair_from (list_from deep)) count input.old ≡ Some (map named v.items, input.new)) }
+    ensures err { IfErr result (λ f. IsMisspelled f → items_from (pair_from (list_from deep)) count input.old ≡ None) }
+{
+    let mut pairs = Vec::new(alloc);
+    'pairs: for at in 0..count {
+        let _at = at;
+        pairs.push(read_pair(input, alloc, deep)?)?;
+    }
+    Ok(pairs)
+}
+
+/// A name and its value.
+#[cycle(reading)]
+#[tactic(auto, unfolding(crate::specs::Reading::pair_from))]
+fn read_pair(input: &mut Input, alloc: Global, deep: u64) -> Result<Pair, ReadFault>
+    requires { deep < 8 }
+    ensures ok { IfOk result (λ p. pair_from (list_from deep) input.old ≡ Some (named p, input.new)) }
+    ensures err { IfErr result (λ f. IsMisspelled f → pair_from (list_from deep) input.old ≡ None) }
+{
+    let name = read_name(input)?;
+    let value = read_value(input, alloc, deep)?;
+    let name = String::from_str(alloc, name)?;
+    Ok(Pair { name, value })
+}
+
+/// A name behind its length in one byte.
+#[tactic(auto, unfolding(crate::specs::Reading::name_from))]
+fn read_name<'a>(input: &mut Input<'a>) -> Result<&'a str, ReadFault>
+    ensures ok { IfOk result (λ t. name_from input.old ≡ Some (t.now, input.new)) }
+    ensures err { IfErr result (λ f. IsMisspelled f → name_from input.old ≡ None) }
+{
+    let length = input.byte()?;
+    if length == 0 {
+        return Err(ReadFault::NoSpelling);
+    }
+    input.text(usize::from(length))
+}
+
+/// A value: its tag, and its content.
+#[cycle(reading)]
+#[tactic(auto, unfolding(crate::specs::Reading::value_from))]
+fn read_value(input: &mut Input, alloc: Global, deep: u64) -> Result<Value, ReadFault>
+    requires { deep < 8 }
+    ensures ok { IfOk result (λ v. value_from (list_from deep) input.old ≡ Some (datum v, input.new)) }
+    ensures err { IfErr result (λ f. IsMisspelled f → value_from (list_from deep) input.old ≡ None) }
+{
+    let tag = input.byte()?;
+    read_tagged(input, alloc, deep, tag)
+}
+
+/// The content of a value with this tag.
+#[cycle(reading)]
+#[tactic(auto, unfolding(crate::specs::Reading::tagged_from))]
+fn read_tagged(input: &mut Input, alloc: Global, deep: u64, tag: u8) -> Result<Value, ReadFault>
+    requires { deep < 8 }
+    ensures ok { IfOk result (λ v. tagged_from (list_from deep) tag input.old ≡ Some (datum v, input.new)) }
+    ensures err { IfErr result (λ f. IsMisspelled f → tagged_from (list_from deep) tag input.old ≡ None) }
+{
+    match tag {
+        1 => read_flag(input),
+        2 => read_unsigned(input),
+        3 => read_signed(input),
+        4 => read_text_value(input, alloc),
+        5 => read_nested(input, alloc, deep),
+        6 => read_unsigneds(input, alloc),
+        7 => read_texts(input, alloc),
+        8 => read_lists(input, alloc, deep),
+        _ => Err(ReadFault::NoSpelling),
+    }
+}
+
+/// A truth value.
+#[tactic(auto, unfolding(crate::specs::Reading::flag_from))]
+fn read_flag(input: &mut Input) -> Result<Value, ReadFault>
+    ensures ok { IfOk result (λ v. made boolean (flag_from input.old) ≡ Some (datum v, input.new)) }
+    ensures err { IfErr result (λ f. IsMisspelled f → made boolean (flag_from input.old) ≡ None) }
+{
+    match input.byte()? {
+        0 => Ok(Value::Bool(false)),
+        1 => Ok(Value::Bool(true)),
+        _ => Err(ReadFault::NoSpelling),
+    }
+}
+
+/// A number from 0.
+fn read_unsigned(input: &mut Input) -> Result<Value, ReadFault>
+    ensures ok { IfOk result (λ v. made unsigned (number_from 8 input.old) ≡ Some (datum v, input.new)) }
+    ensures err { IfErr result (λ f. IsMisspelled f → made unsigned (number_from 8 input.old) ≡ None) }
+{
+    let number = input.long()?;
+    Ok(Value::Unsigned(number))
+}
+
+/// A number with a sign.
+fn read_signed(input: &mut Input) -> Result<Value, ReadFault>
+    ensures ok { IfOk result (λ v. made (λ n. signed (cast_signed w64 n)) (number_from 8 input.old) ≡ Some (datum v, input.new)) }
+    ensures err { IfErr result (λ f. IsMisspelled f → made (λ n. signed (cast_signed w64 n)) (number_from 8 input.old) ≡ None) }
+{
+    let number = input.long()?;
+    Ok(Value::Signed(number.cast_signed()))
+}
+
+/// A text of at most 65,536 bytes behind its length in four bytes.
+#[tactic(auto, unfolding(crate::specs::Reading::value_text_from))]
+fn read_text<'a>(input: &mut Input<'a>) -> Result<&'a str, ReadFault>
+    ensures ok { IfOk result (λ t. value_text_from input.old ≡ Some (t.now, input.new)) }
+    ensures err { IfErr result (λ f. IsMisspelled f → value_text_from input.old ≡ None) }
+{
+    let length = input.word()?;
+    if length > 65536 {
+        return Err(ReadFault::NoSpelling);
+    }
+    input.text(length as usize)
+}
+
+/// A text.
+fn read_text_value(input: &mut Input, alloc: Global) -> Result<Value, ReadFault>
+    ensures ok { IfOk result (λ v. made text (value_text_from input.old) ≡ Some (datum v, input.new)) }
+    ensures err { IfErr result (λ f. IsMisspelled f → made text (value_text_from input.old) ≡ None) }
+{
+    let text = read_text(input)?;
+    Ok(Value::Text(NvText::new(alloc, text)?))
+}
+
+/// A list in a list.
+#[cycle(reading)]
+fn read_nested(input: &mut Input, alloc: Global, deep: u64) -> Result<Value, ReadFault>
+    requires { deep < 8 }
+    ensures ok { IfOk result (λ v. made nested (list_from deep input.old) ≡ Some (datum v, input.new)) }
+    ensures err { IfErr result (λ f. IsMisspelled f → made nested (list_from deep input.old) ≡ None) }
+{
+    let list = read_list(input, alloc, deep)?;
+    Ok(Value::List(list))
+}
+
+/// An array of numbers.
+#[tactic(auto, unfolding(crate::specs::Reading::array_from))]
+fn read_unsigneds(input: &mut Input, alloc: Global) -> Result<Value, ReadFault>
+    ensures ok { IfOk result (λ v. made unsigneds (array_from (number_from 8) input.old) ≡ Some (datum v, input.new)) }
+    ensures err { IfErr result (λ f. IsMisspelled f → made unsigneds (array_from (number_from 8) input.old) ≡ None) }
+{
+    let count = input.short()?;
+    let items = read_each_number(input, alloc, count)?;
+    Ok(Value::Unsigneds(Numbers::from_vec(items)))
+}
+
+/// So many numbers.
+fn read_each_number(input: &mut Input, alloc: Global, count: u16) -> Result<Vec<u64>, ReadFault>
+    ensures ok { IfOk result (λ v. items_from (number_from 8) count input.old ≡ Some (v.items, input.new)) }
+    ensures err { IfErr result (λ f. IsMisspelled f → items_from (number_from 8) count input.old ≡ None) }
+{
+    let mut items = Vec::new(alloc);
+    'items: for at in 0..count {
+        let _at = at;
+        items.push(input.long()?)?;
+    }
+    Ok(items)
+}
+
+/// An array of texts.
+#[tactic(auto, unfolding(crate::specs::Reading::array_from))]
+fn read_texts(input: &mut Input, alloc: Global) -> Result<Value, ReadFault>
+    ensures ok { IfOk result (λ v. made texts (array_from value_text_from input.old) ≡ Some (datum v, input.new)) }
+    ensures err { IfErr result (λ f. IsMisspelled f → made texts (array_from value_text_from input.old) ≡ None) }
+{
+    let count = input.short()?;
+    let items = read_each_text(input, alloc, count)?;
+    Ok(Value::Texts(NvTexts::from_vec(items)))
+}
+
+/// So many texts.
+fn read_each_text(input: &mut Input, alloc: Global, count: u16) -> Result<Vec<NvText>, ReadFault>
+    ensures ok { IfOk result (λ v. items_from value_text_from count input.old ≡ Some (v.items, input.new)) }
+    ensures err { IfErr result (λ f. IsMisspelled f → items_from value_text_from count input.old ≡ None) }
+{
+    let mut items = Vec::new(alloc);
+    'items: for at in 0..count {
+        let _at = at;
+        let text = read_text(input)?;
+        items.push(NvText::new(alloc, text)?)?;
+    }
+    Ok(items)
+}
+
+/// An array of lists.
+#[cycle(reading)]
+#[tactic(auto, unfolding(crate::specs::Reading::array_from))]
+fn read_lists(input: &mut Input, alloc: Global, deep: u64) -> Result<Value, ReadFault>
+    requires { deep < 8 }
+    ensures ok { IfOk result (λ v. made (λ ls. lists (lists_of ls)) (array_from (list_from deep) input.old) ≡ Some (datum v, input.new)) }
+    ensures err { IfErr result (λ f. IsMisspelled f → made (λ ls. lists (lists_of ls)) (array_from (list_from deep) input.old) ≡ None) }
+{
+    let count = input.short()?;
+    let items = read_each_list(input, alloc, deep, count)?;
+    Ok(Value::Lists(NvLists::from_vec(items)))
+}
+
+/// So many lists.
+#[cycle(reading)]
+fn read_each_list(
+    input: &mut Input,
+    alloc: Global,
+    deep: u64,
+    count: u16,
+) -> Result<Vec<Nv>, ReadFault>
+    requires { deep < 8 }
+    ensures ok { IfOk result (λ v. items_from (list_from deep) count input.old ≡ Some (v.items, input.new)) }
+    ensures err { IfErr result (λ f. IsMisspelled f → items_from (list_from deep) count input.old ≡ None) }
+{
+    let mut items = Vec::new(alloc);
+    'items: for at in 0..count {
+        let _at = at;
+        items.push(read_list(input, alloc, deep)?)?;
+    }
+    Ok(items)
+}
+
+/// The list of these pairs, where their names are distinct.
+fn checked(alloc: Global, pairs: Vec<Pair>) -> Result<Nv, ReadFault>
+    requires fit { IsTrue (pairs_fit (pairs_of pairs.items)) }
+    requires few { count (pairs_of pairs.items) ≤ 65535 }
+    requires shallow { depth (pairs_of pairs.items) ≤ 8 }
+    ensures ok { IfOk result (λ ps. (ps ≡ pairs_of pairs.items) × IsTrue (distinct ps)) }
+    ensures err { IfErr result (λ f. IsMisspelled f → distinct (pairs_of pairs.items) ≡ false) }
+{
+    if !are_distinct(alloc, &pairs)? {
+        return Err(ReadFault::NoSpelling);
+    }
+    let deep = deepest_of(&pairs);
+    Ok(Nv { deep, pairs })
+}
+
+/// How deep the list of these pairs is.
+#[tactic(auto, using(crate::proofs::Places::depth_positive))]
+fn deepest_of(pairs: &[Pair]) -> u64
+    requires { depth (pairs_of pairs.now) ≤ 8 }
+    ensures { result ≡ depth (pairs_of pairs.now) }
+{
+    let mut deep = 1;
+    'pairs: for pair in pairs {
+        deep = deep.max(pair.value.depth() + 1);
+    }
+    deep
+}

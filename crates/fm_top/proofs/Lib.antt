@@ -1,0 +1,13 @@
+pub mod Accepts
+pub mod AnswerLists
+pub mod CountLines
+pub mod Cuts
+pub mod Feeding
+pub mod Halts
+pub mod Moving
+pub mod OnPieces
+pub mod Opens
+pub mod Replays
+pub mod Sinks
+pub mod Stopping
+pub mod Summaries

@@ -1,0 +1,10 @@
+use Rattle.fm_top.proofs.last.put_last.Goals as goal
+
+pub returns-in-Read-clause-err : goal.returns-in-Read-clause-err
+returns-in-Read-clause-err g c = rw c.in-Read.is c.put_text-in-Read.ensures.err
+
+pub returns-in-Disk-clause-ok : goal.returns-in-Disk-clause-ok
+returns-in-Disk-clause-ok g c = rw c.in-Disk.is c.put_text-in-Disk.ensures.ok
+
+pub returns-in-Disk-clause-err : goal.returns-in-Disk-clause-err
+returns-in-Disk-clause-err g c = rw c.in-Disk.is c.put_text-in-Disk.ensures.err

@@ -1,0 +1,76 @@
+// The last line, and the status.
+ghost use Rattle.std.specs.Prelude.{◌≡◌, ◌⊎◌, ◌≤◌, [], Ok, Err, OnOk, IfErr};
+ghost use Rattle.std.specs.Io.KnownBytes.{Appends};
+ghost use Rattle.fm_outer.specs.Failures.{Rose};
+ghost use Rattle.fm_journal.specs.declared.fault.FullKind.TheVariants as full;
+ghost use Rattle.fm_top.specs.Stops.{last_text, kind_text};
+ghost use Rattle.fm_top.specs.Refusing.{PutStops};
+ghost use Rattle.fm_top.specs.Ending.{LastPut, EndCause};
+
+use crate::answering::put_text;
+use crate::status::ToolStatus;
+use crate::stops::Stop;
+use fm_journal::FullKind;
+use fm_outer::Sink;
+use std::alloc::Global;
+
+/// Tells which limit is reached.
+fn put_full<K: Sink>(kind: FullKind, out: &mut K) -> Result<(), Stop>
+    ensures ok { OnOk result (Appends (K.put_bytes out.old) (K.put_bytes out.new) (last_text (Stop.Full kind))) }
+    ensures err { IfErr result (PutStops (Appends (K.put_bytes out.old) (K.put_bytes out.new)) (last_text (Stop.Full kind))) }
+    ensures later { K.failures out.old ≤ K.failures out.new }
+    ensures cause { result ≡ Err Stop.Write → Rose (K.failures out.old) (K.failures out.new) }
+{
+    match kind {
+        FullKind::Records => put_text(out, "full records\n"),
+        FullKind::Numbers => put_text(out, "full numbers\n"),
+        FullKind::Bytes => put_text(out, "full bytes\n"),
+        FullKind::Payload => put_text(out, "full payload\n"),
+        FullKind::Input => put_text(out, "full input\n"),
+    }
+}
+
+/// Tells where the journal of reports is damaged.
+#[tactic(auto, using(crate::proofs::Sinks::appends_none))]
+fn put_damaged<K: Sink>(alloc: Global, place: u64, out: &mut K) -> Result<(), Stop>
+    ensures ok { OnOk result (Appends (K.put_bytes out.old) (K.put_bytes out.new) (last_text (Stop.Damaged place))) }
+    ensures err { IfErr result (PutStops (Appends (K.put_bytes out.old) (K.put_bytes out.new)) (last_text (Stop.Damaged place))) }
+    ensures later { K.failures out.old ≤ K.failures out.new }
+    ensures cause { result ≡ Err Stop.Write → Rose (K.failures out.old) (K.failures out.new) }
+{
+    let text = format!(in alloc; "damaged err_a {place}\n")?;
+    put_text(out, text.as_str())
+}
+
+/// Puts the last line, if there is one.
+fn put_last<K: Sink>(alloc: Global, stop: Stop, out: &mut K) -> Result<(), Stop>
+    ensures ok { OnOk result (Appends (K.put_bytes out.old) (K.put_bytes out.new) (last_text stop)) }
+    ensures err { IfErr result (PutStops (Appends (K.put_bytes out.old) (K.put_bytes out.new)) (last_text stop)) }
+    ensures later { K.failures out.old ≤ K.failures out.new }
+    ensures cause { result ≡ Err Stop.Write → Rose (K.failures out.old) (K.failures out.new) }
+{
+    match stop {
+        Stop::Usage => put_text(out, "usage\n"),
+        Stop::Damaged(place) => put_damaged(alloc, place, out),
+        Stop::Read => put_text(out, "read fault\n"),
+        Stop::Disk => put_text(out, "disk fault\n"),
+        Stop::Full(kind) => put_full(kind, out),
+        Stop::Write | Stop::Memory => Ok(()),
+    }
+}
+
+/// Puts the last line of a command that stopped, and gives the status. Where that line can't be put whole, the status
+/// tells why.
+pub(crate) fn end<K: Sink>(alloc: Global, ran: Result<(), Stop>, out: &mut K) -> ToolStatus
+    ensures put { LastPut ran (Appends (K.put_bytes out.old) (K.put_bytes out.new)) result }
+    ensures later { K.failures out.old ≤ K.failures out.new }
+    ensures cause { EndCause ran (K.failures out.old) (K.failures out.new) result }
+{
+    match ran {
+        Ok(()) => ToolStatus::Done,
+        Err(stop) => match put_last(alloc, stop, out) {
+            Ok(()) => stop.status(),
+            Err(cut) => cut.status(),
+        },
+    }
+}

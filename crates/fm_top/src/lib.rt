@@ -1,0 +1,43 @@
+//! The top call: what one run of the fault manager does with its words, its input, its sink and its disks.
+//!
+//! `tool` finds the command in the words and runs it. Both commands read the input by one loop, `pieces::run`: it reads
+//! pieces, cuts them into lines, and answers each line once, after its entry was taken. What takes the entries is a
+//! `takers::Taker`: for `accept` the journal of reports, which is opened or made first, for `replay` a core of two
+//! counters in memory. Why a command stops before all is done is a `Stop`; it gives the last line and the status.
+//!
+//! The model of a run is the list of bytes that were read. The answers (`specs/Answers`) and the entries are functions
+//! of its lines, and the lines are those of the whole stream, however it came in pieces. `specs/Running` says how a
+//! run ends: at the end of the input with each line answered; between two lines, with each line answered that ended in
+//! the bytes read before; or at a line, with each line before it answered. It says so of any taker, by what became of
+//! the entries; `specs/Accepting` and `specs/Replaying` say what that is for each command.
+//!
+//! The loops carry one relation, `Moved` (`specs/Halting`): from one moment to a later one a piece was read, the lines
+//! that ended in it were answered, and whatever follows goes on from what is kept of the line in progress. It is
+//! transitive, and each loop's invariant is that it holds from the loop's start.
+//!
+//! `tool` carries all of it: `accept` (the text put, the entries in the journal, in each image that a crash at the
+//! return may leave), `replay` (the text put), `usage`, and when each status comes (`cause`).
+#![tactic(auto)]
+
+mod accept;
+mod acts;
+mod answering;
+mod call;
+mod last;
+mod opening;
+mod pieces;
+mod reading;
+mod recording;
+mod replaying;
+mod six_disks;
+mod status;
+mod stops;
+mod takers;
+mod words;
+
+pub use acts::{ActFault, Actuator};
+pub use call::tool;
+pub use six_disks::Disks;
+pub use status::ToolStatus;
+pub use stops::Stop;
+pub use words::Command;

@@ -1,0 +1,189 @@
+// The input, piece by piece, and a whole run over it.
+ghost use Rattle.std.specs.Prelude.{◌≡◌, ℕ, ◌+◌, ◌-◌, ◌≤◌, ◌<◌, ◌^◌, List, [], min, length, take, Ok, Err, Some, None, OnOk, IfOk, IfErr};
+ghost use Rattle.std.specs.Io.KnownBytes.{Appends, Consumes, IsAtEnd};
+ghost use Rattle.fm_outer.specs.Failures.{Rose};
+ghost use Rattle.fm_top.specs.Answers.{answers};
+ghost use Rattle.fm_top.specs.Halting.{MovedOn, MovedWithin, StoppedOn, Finished, FinishStops};
+ghost use Rattle.fm_top.specs.Running.{RanAll, RanUntil};
+
+use crate::reading::Reading;
+use crate::stops::Stop;
+use crate::takers::Taker;
+use fm_journal::FullKind;
+use fm_line::Splitter;
+use fm_outer::{Sink, Source};
+use std::alloc::Global;
+
+/// The most bytes that are asked of the source at once.
+const PIECE_LEN: usize = 4096;
+
+/// The most bytes that a run takes.
+const INPUT_LIMIT: u64 = 1 << 40;
+
+/// Reads the next bytes of the input; none only at its end.
+fn read_piece<S: Source>(input: &mut S, buf: &mut [u8]) -> Result<usize, Stop>
+    requires { 0 < length buf.old }
+    ensures bound { IfOk result (λ n. n ≤ length buf.new) }
+    ensures bytes { IfOk result (λ n. Consumes (S.left input.old) (S.left input.new) (take n buf.new)) }
+    ensures end { IfOk result (λ n. n ≡ 0 → IsAtEnd (S.left input.new)) }
+    ensures err { IfErr result (λ stop. (stop ≡ Stop.Read) × Consumes (S.left input.old) (S.left input.new) []) }
+    ensures later { S.failures input.old ≤ S.failures input.new }
+    ensures cause { result ≡ Err Stop.Read → Rose (S.failures input.old) (S.failures input.new) }
+{
+    match input.next(buf) {
+        Ok(count) => Ok(count),
+        Err(_) => Err(Stop::Read),
+    }
+}
+
+/// How many of these bytes are within the limit, after `total` bytes.
+fn within_limit(total: u64, count: usize) -> usize
+    requires { total ≤ 2 ^ 40 }
+    ensures { result ≡ min (2 ^ 40 - total) count }
+{
+    (INPUT_LIMIT - total).min(count as u64) as usize
+}
+
+impl Reading {
+    /// Reads one piece of the input, after `total` bytes, and answers each line that ends in it. Tells how many
+    /// bytes these were; none only at the end of the input.
+    fn read_on<S: Source, K: Sink, T: Taker>(
+        &mut self,
+        alloc: Global,
+        total: u64,
+        input: &mut S,
+        buf: &mut [u8],
+        out: &mut K,
+        taker: &mut T,
+    ) -> Result<u64, Stop>
+        requires ready { T.ready taker.old }
+        requires buffer { length buf.old ≡ 4096 }
+        requires within { total ≤ 2 ^ 40 }
+        requires room { self.old.lines ≤ total }
+        ensures moved { IfOk result (MovedOn (T.went taker.old taker.new) (Appends (K.put_bytes out.old) (K.put_bytes out.new)) self.old.is_told (T.next taker.old)
+            (Consumes (S.left input.old) (S.left input.new)) self.old.splitter.pending self.new.splitter.pending self.old.lines self.new.lines) }
+        ensures stopped { IfErr result (StoppedOn (T.went taker.old taker.new) (Appends (K.put_bytes out.old) (K.put_bytes out.new)) self.old.is_told (T.next taker.old)
+            (Consumes (S.left input.old) (S.left input.new)) self.old.splitter.pending self.old.lines total) }
+        ensures end { IfOk result (λ n. n ≡ 0 → IsAtEnd (S.left input.new)) }
+        ensures within { IfOk result (λ n. total + n ≤ 2 ^ 40) }
+        ensures grew { IfOk result (λ n. self.new.lines ≤ total + n) }
+        ensures ready { OnOk result (T.ready taker.new) }
+        ensures same_taker { T.name taker.new ≡ T.name taker.old }
+        ensures same_telling { self.new.is_told ≡ self.old.is_told }
+        ensures later_out { K.failures out.old ≤ K.failures out.new }
+        ensures cause_out { result ≡ Err Stop.Write → Rose (K.failures out.old) (K.failures out.new) }
+        ensures later_input { S.failures input.old ≤ S.failures input.new }
+        ensures cause_input { result ≡ Err Stop.Read → Rose (S.failures input.old) (S.failures input.new) }
+    {
+        let count = read_piece(input, buf)?;
+        let kept = within_limit(total, count);
+        self.feed(alloc, &buf[..kept], out, taker)?;
+        if kept < count {
+            Err(Stop::Full(FullKind::Input))
+        } else {
+            Ok(kept as u64)
+        }
+    }
+
+    /// Reads the input to its end, and answers each line that ends in a newline.
+    fn read_all<S: Source, K: Sink, T: Taker>(
+        &mut self,
+        alloc: Global,
+        input: &mut S,
+        out: &mut K,
+        taker: &mut T,
+    ) -> Result<(), Stop>
+        requires ready { T.ready taker.old }
+        requires fresh { self.old.lines ≡ 0 }
+        ensures moved { OnOk result (MovedWithin (T.went taker.old taker.new) (Appends (K.put_bytes out.old) (K.put_bytes out.new)) self.old.is_told (T.next taker.old)
+            (Consumes (S.left input.old) (S.left input.new)) self.old.splitter.pending self.new.splitter.pending self.old.lines self.new.lines) }
+        ensures stopped { IfErr result (StoppedOn (T.went taker.old taker.new) (Appends (K.put_bytes out.old) (K.put_bytes out.new)) self.old.is_told (T.next taker.old)
+            (Consumes (S.left input.old) (S.left input.new)) self.old.splitter.pending self.old.lines 0) }
+        ensures end { OnOk result (IsAtEnd (S.left input.new)) }
+        ensures few { OnOk result (self.new.lines ≤ 2 ^ 40) }
+        ensures ready { OnOk result (T.ready taker.new) }
+        ensures same_taker { T.name taker.new ≡ T.name taker.old }
+        ensures same_telling { self.new.is_told ≡ self.old.is_told }
+        ensures later_out { K.failures out.old ≤ K.failures out.new }
+        ensures cause_out { result ≡ Err Stop.Write → Rose (K.failures out.old) (K.failures out.new) }
+        ensures later_input { S.failures input.old ≤ S.failures input.new }
+        ensures cause_input { result ≡ Err Stop.Read → Rose (S.failures input.old) (S.failures input.new) }
+    {
+        let mut buf = [0u8; PIECE_LEN];
+        let mut total = 0;
+        'input: loop {
+            let count = self.read_on(alloc, total, input, &mut buf, out, taker)?;
+            if count == 0 {
+                return Ok(());
+            }
+            total += count;
+        }
+    }
+}
+
+impl Reading {
+    /// At the start of the input.
+    fn new(alloc: Global, is_told: bool) -> Result<Reading, Stop>
+        ensures pending { IfOk result (λ reading. reading.splitter.pending ≡ Some []) }
+        ensures is_told { IfOk result (λ reading. reading.is_told ≡ is_told) }
+        ensures lines { IfOk result (λ reading. reading.lines ≡ 0) }
+        ensures err { IfErr result (λ stop. stop ≡ Stop.Memory) }
+    {
+        match Splitter::new(alloc) {
+            Ok(splitter) => Ok(Reading {
+                splitter,
+                is_told,
+                lines: 0,
+            }),
+            Err(_) => Err(Stop::Memory),
+        }
+    }
+
+    /// Ends the input, and answers its last line, if that has no newline.
+    fn finish<K: Sink, T: Taker>(
+        &mut self,
+        alloc: Global,
+        out: &mut K,
+        taker: &mut T,
+    ) -> Result<(), Stop>
+        requires ready { T.ready taker.old }
+        requires few { self.old.lines ≤ 2 ^ 40 }
+        ensures all { OnOk result (Finished (T.went taker.old taker.new) (Appends (K.put_bytes out.old) (K.put_bytes out.new))
+            (answers self.old.is_told (self.old.lines + 1) (T.next taker.old)) self.old.splitter.pending) }
+        ensures until { IfErr result (FinishStops (T.went taker.old taker.new) (Appends (K.put_bytes out.old) (K.put_bytes out.new))
+            (answers self.old.is_told (self.old.lines + 1) (T.next taker.old)) self.old.splitter.pending) }
+        ensures ready { OnOk result (T.ready taker.new) }
+        ensures same_taker { T.name taker.new ≡ T.name taker.old }
+        ensures later { K.failures out.old ≤ K.failures out.new }
+        ensures cause { result ≡ Err Stop.Write → Rose (K.failures out.old) (K.failures out.new) }
+    {
+        let ended = self.splitter.finish();
+        self.answer_ended(alloc, ended, out, taker)
+    }
+}
+
+/// Reads the input to its end and answers each of its lines, the last one too, which may lack its newline. Each line
+/// is answered by one put at most, after its entry was taken. `is_told` says whether the numbers of entries are told.
+pub(crate) fn run<S: Source, K: Sink, T: Taker>(
+    alloc: Global,
+    is_told: bool,
+    input: &mut S,
+    out: &mut K,
+    taker: &mut T,
+) -> Result<(), Stop>
+    requires ready { T.ready taker.old }
+    ensures all { OnOk result (RanAll (T.went taker.old taker.new) (Appends (K.put_bytes out.old) (K.put_bytes out.new)) is_told (T.next taker.old)
+        (Consumes (S.left input.old) (S.left input.new)) (IsAtEnd (S.left input.new))) }
+    ensures until { IfErr result (RanUntil (T.went taker.old taker.new) (Appends (K.put_bytes out.old) (K.put_bytes out.new)) is_told (T.next taker.old)
+        (Consumes (S.left input.old) (S.left input.new)) (IsAtEnd (S.left input.new))) }
+    ensures ready { OnOk result (T.ready taker.new) }
+    ensures same_taker { T.name taker.new ≡ T.name taker.old }
+    ensures later_out { K.failures out.old ≤ K.failures out.new }
+    ensures cause_out { result ≡ Err Stop.Write → Rose (K.failures out.old) (K.failures out.new) }
+    ensures later_input { S.failures input.old ≤ S.failures input.new }
+    ensures cause_input { result ≡ Err Stop.Read → Rose (S.failures input.old) (S.failures input.new) }
+{
+    let mut reading = Reading::new(alloc, is_told)?;
+    reading.read_all(alloc, input, out, taker)?;
+    reading.finish(alloc, out, taker)
+}

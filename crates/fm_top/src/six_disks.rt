@@ -1,0 +1,28 @@
+// The disks of a manager.
+ghost use Rattle.std.specs.Prelude.{◌≡◌};
+
+/// The six disks of a manager: the configuration, the two journals of reports, the two slots of checkpoints, and
+/// the journal of what the modules said.
+#[derive(Drop)]
+pub struct Disks<D> {
+    pub conf: D,
+    pub err_a: D,
+    pub err_b: D,
+    pub slot_a: D,
+    pub slot_b: D,
+    pub flt: D,
+}
+
+impl<D> Disks<D> {
+    /// The disks, lent. Who writes through them writes to these.
+    pub fn lend(&mut self) -> Disks<&mut D> {
+        Disks {
+            conf: &mut self.conf,
+            err_a: &mut self.err_a,
+            err_b: &mut self.err_b,
+            slot_a: &mut self.slot_a,
+            slot_b: &mut self.slot_b,
+            flt: &mut self.flt,
+        }
+    }
+}

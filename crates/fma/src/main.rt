@@ -1,0 +1,72 @@
+//! The program `fma`: the fault manager over the files of its folder.
+//!
+//! `main` opens what the top call works on, hands it in with the words of the command line, and ends with the status
+//! that the top call gives. It has no answer of its own but 9, want of memory. What can't be opened is handed in as an
+//! object of which every call fails, so that the top call tells it.
+//!
+//! Files, in the folder that the program runs in: the rule files `dx0.esc`, `dx1.esc` and so on up to the first that is
+//! missing, at most eight; the topology `topology.txt`, empty where missing; the disks `conf`, `err_a`, `err_b`,
+//! `slot_a`, `slot_b` and `flt` in the folder `store`, which are made where they are missing; and for each kind of
+//! actuator its list `retired.KIND`, of one path a line.
+#![tactic(auto)]
+
+mod input;
+mod opened;
+mod retired;
+
+use crate::input::Input;
+use crate::opened::{open_disks, open_rules, open_topology};
+use crate::retired::Retired;
+use fm_outer::WriteSink;
+use fm_text::ArgText;
+use fm_top::{Actuator, ToolStatus, tool};
+use std::alloc::AllocError;
+use std::env;
+use std::process::ExitCode;
+
+/// The kinds of resource that there is an actuator for.
+const KINDS: [&str; 5] = ["cpu", "dimm", "disk", "fan", "psu"];
+
+/// The status where memory was wanted and not to be had.
+const NO_MEMORY: u8 = 9;
+
+/// The words of the command line, without the program's own name.
+fn words_of(rt: &HostRuntime) -> Result<Vec<ArgText>, AllocError> {
+    let mut words = Vec::new(rt.alloc());
+    let args = env::args(rt).map_err(|_| AllocError)?;
+    for word in args.skip(1) {
+        words.push(ArgText::new(rt.alloc(), word.as_str()).map_err(|_| AllocError)?)?;
+    }
+    Ok(words)
+}
+
+/// Opens everything, and makes the top call.
+fn run(rt: &HostRuntime) -> Result<ToolStatus, AllocError> {
+    let words = words_of(rt)?;
+    let mut disks = open_disks(rt);
+    let mut rules = open_rules(rt)?;
+    let mut topology = open_topology(rt);
+    let mut input = Input::standard(rt.stdin());
+    let mut out = WriteSink::new(rt.stdout());
+    let mut acts: Vec<Box<dyn Actuator + Send>> = Vec::new(rt.alloc());
+    for kind in KINDS {
+        acts.push(Box::new(rt.alloc(), Retired::new(rt.clone()?, kind))?)?;
+    }
+    Ok(tool(
+        rt.alloc(),
+        &words,
+        &mut input,
+        &mut rules,
+        &mut topology,
+        &mut out,
+        &mut disks,
+        &mut acts,
+    ))
+}
+
+fn main(rt: HostRuntime) -> ExitCode {
+    match run(&rt) {
+        Ok(status) => ExitCode::from(status.code()),
+        Err(_) => ExitCode::from(NO_MEMORY),
+    }
+}
