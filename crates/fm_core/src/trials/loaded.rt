@@ -7,16 +7,13 @@ ghost use Rattle.fm_core.specs.Book.{worked};
 ghost use Rattle.fm_core.specs.Seen.{seen, book_of, IsCore};
 
 use crate::cores::Core;
-use crate::counter::Counter;
 use crate::hand::Hand;
 use crate::module::{LoadFault, Module};
 use crate::no_memory::NoMemory;
-use crate::trials::report;
 use crate::worked::Worked;
 use fm_entry::{Entry, ListEvent};
 use fm_name::Class;
 use std::alloc::Global;
-use std::test::Fail;
 
 /// An object of a kind that is not known here.
 #[derive(Drop)]
@@ -81,21 +78,4 @@ pub fn work_loaded(alloc: Global, core: &mut Core<Loaded>, module: u32) -> Resul
     ensures lawful { IsCore (seen ⟦<Loaded as Module>⟧.meaning ⟦<Loaded as Module>⟧.state core.new) }
 {
     core.work(alloc, module)
-}
-
-#[test]
-fn steps_a_boxed_object(rt: HostRuntime) -> Result<(), Fail> {
-    let alloc = rt.alloc();
-    let object: Box<dyn Module> = Box::new(alloc, Counter::new(alloc, 0))?;
-    let hand = Hand::new(0, 0, Loaded::new(object));
-    let entry = report(alloc, "ereport.cpu.ue", 7).ok_or("entry")?;
-    let hand = step_loaded(alloc, hand, &entry).ok_or("step")?;
-    assert_eq!(rt; hand.cursor(), 1);
-    let mut kept = Vec::new(alloc);
-    hand.state().save(&mut kept)?;
-    assert_eq!(rt;
-        kept.as_slice(),
-        b"\0\0\0\0\0\0\0\x01\0\x0eereport.cpu.ue\0\0\0\0\0\0\0\x01".as_slice()
-    );
-    Ok(())
 }
