@@ -7,7 +7,7 @@ use Rattle.std.proofs.lemmas.Bool.{lt-ltb}
 use Rattle.std.proofs.lemmas.Bool.Decides.{nat_tests}
 use Rattle.std.proofs.lemmas.Fmt.{decimal_is_IsNumeral}
 use Rattle.std.proofs.lemmas.Str.Parse.{digit_from_value}
-use Rattle.fm_nv.proofs.Tests.{and_parts, and_true}
+use Rattle.fm_nv.proofs.Booleans.{and_parts, and_true}
 use Rattle.fm_line.proofs.Cutting.{positive_eqb}
 use Rattle.fm_line.proofs.Spelling.{entry_spelled, entry_payload}
 use Rattle.fm_line.specs.Sound.{HasSpelledPayload, HasReadPayload, ReadsAsJson}

@@ -10,7 +10,7 @@ use Rattle.std.proofs.lemmas.List.Splits.{join_with_byte-slice_split}
 use Rattle.std.proofs.lemmas.Slice.Eq.{bytes_eq-Decides}
 use Rattle.fm_name.specs.Class.{is_piece_byte, is_piece, is_component, are_components, is_class, components_of}
 use Rattle.fm_name.specs.Path.{is_name, is_instance, is_part, are_parts, is_path, part_texts}
-use Rattle.fm_nv.proofs.Tests.{and_parts, and_true}
+use Rattle.fm_nv.proofs.Booleans.{and_parts, and_true}
 
 -- a byte of a text without spaces, in ASCII
 abbrev pub is_graphic : ℕ → Bool

@@ -15,7 +15,7 @@ use Rattle.std.proofs.lemmas.Str.{is_utf8-from_IsUtf8, IsUtf8-from_ascii}
 use Rattle.std.proofs.lemmas.Str.Parse.{digit_from_value}
 use Rattle.fm_name.specs.Class.{is_class}
 use Rattle.fm_name.specs.Path.{is_path}
-use Rattle.fm_nv.proofs.Tests.{and_parts, and_true}
+use Rattle.fm_nv.proofs.Booleans.{and_parts, and_true}
 use Rattle.fm_entry.specs.declared.entry.Entry.{Entry}
 use Rattle.fm_line.proofs.Cutting.{positive_eqb}
 use Rattle.fm_line.proofs.Graphic.{is_graphic, graphic}

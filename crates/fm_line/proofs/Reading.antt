@@ -10,7 +10,7 @@ use Rattle.serde_json.specs.Read.{of_json, of_items, of_members, number_of, numb
 use Rattle.std.specs.Float.{binary64}
 use Rattle.std.proofs.lemmas.Bool.{ltb-true}
 use Rattle.fast_float.specs.Text.{minus, Parts, scan, digits_of, nearest, with_sign}
-use Rattle.fm_nv.proofs.Tests.{and_parts}
+use Rattle.fm_nv.proofs.Booleans.{and_parts}
 
 -- a name stands before another in byte order
 abbrev pub IsBefore : List ℕ → List ℕ → Type 0
