@@ -1,0 +1,6 @@
+pub mod Condition
+pub mod Pattern
+pub mod Rule
+pub mod Tok
+pub mod Language
+pub mod Grammar

@@ -1,0 +1,24 @@
+use std::alloc::{AllocError, AllocFailed};
+
+/// Memory ran out. Nothing else ever makes a call of this crate fail.
+#[derive(Clone, Copy, Debug, PartialEq, Eq)]
+pub struct NoMemory;
+
+impl From<AllocError> for NoMemory {
+    fn from(_error: AllocError) -> Self {
+        NoMemory
+    }
+}
+
+impl<T: Drop> From<AllocFailed<T>> for NoMemory {
+    fn from(_error: AllocFailed<T>) -> Self {
+        NoMemory
+    }
+}
+
+impl From<fm_name::NoMemory> for NoMemory {
+    fn from(error: fm_name::NoMemory) -> Self {
+        let fm_name::NoMemory = error;
+        NoMemory
+    }
+}
