@@ -1,0 +1,9 @@
+pub mod Ascii
+pub mod Meanings
+pub mod Laws
+pub mod Many
+pub mod Rules
+pub mod GrammarLaws
+pub mod Loops
+pub mod Whole
+pub mod Walked
