@@ -1,0 +1,9 @@
+pub mod Line
+pub mod Property
+pub mod Topology
+pub mod Fault
+pub mod Printed
+pub mod Query
+pub mod Word
+pub mod Stop
+pub mod Reading

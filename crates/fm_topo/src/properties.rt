@@ -1,0 +1,68 @@
+ghost use Rattle.std.specs.Prelude.{◌≡◌, IfOk, List, ℕ, option_copied};
+ghost use Rattle.std.specs.Ordering.{nat_cmp};
+ghost use Rattle.std.specs.Cmp.Lexicographic.{slice_cmp};
+ghost use Rattle.std.specs.List.Sorted.{IsStrictlySortedBy};
+ghost use Rattle.std.specs.Map.{keys_of};
+ghost use Rattle.fm_topo.specs.Query.{value_at};
+
+use crate::no_memory::NoMemory;
+use crate::values::{TopoText, TopoValue};
+use std::marker::Model;
+
+/// The properties of one path, in byte order of their names.
+#[derive(Debug, Drop)]
+pub struct Properties {
+    items: Vec<(TopoText, TopoValue)>,
+}
+
+impl Model for Properties {
+    ghost use Rattle.std.specs.Ordering.{nat_cmp};
+    ghost use Rattle.std.specs.Cmp.Lexicographic.{slice_cmp};
+    ghost use Rattle.std.specs.List.Sorted.{IsStrictlySortedBy};
+    ghost use Rattle.std.specs.Map.{keys_of};
+    ghost use Rattle.fm_topo.specs.Property.{Properties as Pairs};
+
+    ghost Value = { Pairs };
+
+    ghost view = { λ p. p.items.items };
+
+    ghost invariant = { λ p. IsStrictlySortedBy (slice_cmp nat_cmp) (keys_of p.items.items) };
+}
+
+impl Properties {
+    /// The pairs as properties.
+    pub fn from_vec(items: Vec<(TopoText, TopoValue)>) -> Properties
+        requires { IsStrictlySortedBy (slice_cmp nat_cmp) (keys_of items.items) }
+        ensures { result ≡ items.items }
+    {
+        Properties { items }
+    }
+
+    /// The pairs, in byte order of the names.
+    pub fn pairs(&self) -> &[(TopoText, TopoValue)]
+        ensures { result.now ≡ self.now }
+    {
+        self.items.as_slice()
+    }
+
+    /// The value of a name.
+    pub fn value(&self, name: &str) -> Option<&TopoValue>
+        ensures { option_copied result ≡ value_at self.now name.now }
+    {
+        match self.items.binary_search_by(|pair| pair.0.get().cmp(name)) {
+            Ok(at) => Some(&self.items[at].1),
+            Err(_) => None,
+        }
+    }
+
+    /// Equal properties.
+    pub fn copy(&self) -> Result<Properties, NoMemory>
+        ensures { IfOk result (λ properties. properties ≡ self.now) }
+    {
+        let mut items = Vec::new(*self.items.allocator());
+        for (name, value) in &self.items {
+            items.push((name.copy()?, value.copy()?))?;
+        }
+        Ok(Properties { items })
+    }
+}

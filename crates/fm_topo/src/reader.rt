@@ -1,0 +1,71 @@
+ghost use Rattle.std.specs.Prelude.{◌≡◌, ◌+◌, ◌≤◌, ◌<◌, ⊤, length, IfOk, IfErr, OnOk, MatchOption};
+ghost use Rattle.fm_topo.specs.Fault.{IsClean, IsFirstFault};
+ghost use Rattle.fm_topo.specs.Reading.{IsAt};
+ghost use Rattle.fm_topo.specs.Topology.{topology_of};
+
+use crate::bytes::find_byte;
+use crate::entries::{Stop, take_line};
+use crate::faults::TopoFault;
+use crate::no_memory::NoMemory;
+use crate::properties::Properties;
+use crate::topo::Topo;
+use fm_name::Fmri;
+use std::alloc::Global;
+use std::collections::BTreeMap;
+
+/// The places of a map as a topology.
+fn topology_from(alloc: Global, found: BTreeMap<Fmri, Properties>) -> Result<Topo, NoMemory>
+    ensures { IfOk result (λ topo. topo ≡ found.entries) }
+{
+    let places = found.into_iter().collect(alloc)?;
+    Ok(Topo::from_vec(places))
+}
+
+/// Reads the line of a number, counted from 0, at the begin of the rest of a text; what is left behind it.
+#[tactic(auto, using(crate::proofs::Stepping::at_next, crate::proofs::Stepping::at_end, crate::proofs::Stepping::at_fault, crate::proofs::Ranges::rest_all))]
+fn step<'a>(
+    alloc: Global,
+    text: &[u8],
+    found: &mut BTreeMap<Fmri, Properties>,
+    rest: &'a [u8],
+    number: u32,
+) -> Result<Option<&'a [u8]>, TopoFault>
+    requires { IsAt text.now number rest.now found.old.entries }
+    ensures next { IfOk result (λ left. MatchOption left ((IsClean text.now) × (found.new.entries ≡ topology_of text.now))
+        (λ more. (IsAt text.now (number + 1) more.now found.new.entries) × (length more.now < length rest.now) × (number + 1 ≤ 16777216))) }
+    ensures fault { IfErr result (IsFirstFault text.now) }
+{
+    let at = find_byte(rest, b'\n');
+    let before = text.len() - rest.len();
+    let last = (before + at + 1).min(text.len());
+    match take_line(alloc, found, &rest[..at], last) {
+        Ok(()) => {}
+        Err(Stop::At(kind)) => return Err(TopoFault::At {
+            line: number + 1,
+            kind,
+        }),
+        Err(Stop::Memory) => return Err(TopoFault::NoMemory),
+    }
+    if at < rest.len() {
+        Ok(Some(&rest[at + 1..]))
+    } else {
+        Ok(None)
+    }
+}
+
+/// Reads a topology text, or answers its first fault.
+pub fn read_topo(alloc: Global, text: &[u8]) -> Result<Topo, TopoFault>
+    ensures clean { OnOk result (IsClean text.now) }
+    ensures same { IfOk result (λ topo. topo ≡ topology_of text.now) }
+    ensures fault { IfErr result (IsFirstFault text.now) }
+{
+    let mut found = BTreeMap::new(alloc);
+    let mut rest = text;
+    let mut number = 0;
+    while let Some(left) = step(alloc, text, &mut found, rest, number)? {
+        rest = left;
+        number += 1;
+    }
+    let topo = topology_from(alloc, found)?;
+    Ok(topo)
+}

@@ -1,0 +1,126 @@
+ghost use Rattle.std.specs.Prelude.{◌≡◌, ◌+◌, ◌<◌, ◌≤◌, length, take, drop, filter, count_by, IfOk, Some, slice_get, map, option_copied};
+ghost use Rattle.std.specs.Ordering.{is_le};
+ghost use Rattle.std.specs.List.Sorted.{IsStrictlySortedBy};
+ghost use Rattle.std.specs.Map.{keys_of};
+ghost use Rattle.fm_name.specs.Order.{path_cmp, parts_cmp};
+ghost use Rattle.fm_name.specs.Path.{parts_of};
+ghost use Rattle.fm_topo.specs.Query.{lies_under, property_at};
+ghost use Rattle.fm_topo.specs.Topology.{properties_at, has_path};
+
+use crate::no_memory::NoMemory;
+use crate::properties::Properties;
+use crate::values::TopoValue;
+use fm_name::Fmri;
+use std::marker::Model;
+
+/// A topology: the paths in path order, each with its properties. Contracts see the list of these pairs.
+#[derive(Debug, Drop)]
+pub struct Topo {
+    places: Vec<(Fmri, Properties)>,
+}
+
+impl Model for Topo {
+    ghost use Rattle.std.specs.List.Sorted.{IsStrictlySortedBy};
+    ghost use Rattle.std.specs.Map.{keys_of};
+    ghost use Rattle.fm_name.specs.Order.{path_cmp};
+    ghost use Rattle.fm_topo.specs.Topology.{Topology};
+
+    ghost Value = { Topology };
+
+    ghost view = { λ t. t.places.items };
+
+    ghost invariant = { λ t. IsStrictlySortedBy path_cmp (keys_of t.places.items) };
+}
+
+impl Topo {
+    /// The places as a topology.
+    pub(crate) fn from_vec(places: Vec<(Fmri, Properties)>) -> Topo
+        requires { IsStrictlySortedBy path_cmp (keys_of places.items) }
+        ensures { result ≡ places.items }
+    {
+        Topo { places }
+    }
+
+    /// The places, in path order.
+    pub(crate) fn places(&self) -> &[(Fmri, Properties)]
+        ensures { result.now ≡ self.now }
+    {
+        self.places.as_slice()
+    }
+
+    /// How many paths there are.
+    pub fn len(&self) -> usize
+        ensures { result ≡ length self.now }
+    {
+        self.places.len()
+    }
+
+    /// The path of a number, in path order.
+    pub fn path(&self, at: usize) -> &Fmri
+        requires { at < length self.now }
+        ensures { slice_get (keys_of self.now) at ≡ Some result.now }
+    {
+        &self.places[at].0
+    }
+
+    /// The properties of a path, where it is there.
+    fn properties(&self, path: &Fmri) -> Option<&Properties>
+        ensures { option_copied result ≡ properties_at self.now path.now }
+    {
+        match self.places.binary_search_by(|place| place.0.cmp(path)) {
+            Ok(at) => Some(&self.places[at].1),
+            Err(_) => None,
+        }
+    }
+
+    /// Whether a path is there.
+    pub fn has(&self, path: &Fmri) -> bool
+        ensures { result ≡ has_path self.now path.now }
+    {
+        self.properties(path).is_some()
+    }
+
+    /// The range of the paths strictly under a path, as the number of the first and how many they are. Where
+    /// there are none, the first number is that of the first path behind it.
+    pub fn children(&self, above: &Fmri) -> (usize, usize)
+        ensures within { result.0 + result.1 ≤ length self.now }
+        ensures first { result.0 ≡ count_by (λ place. is_le (parts_cmp (parts_of place.0) (parts_of above.now))) self.now }
+        ensures range { take result.1 (drop result.0 self.now) ≡ filter (λ place. lies_under place.0 above.now) self.now }
+    {
+        let first = self
+            .places
+            .partition_point(|place| place.0.cmp(above).is_le());
+        let behind = &self.places[first..];
+        let count = behind.partition_point(|place| lies_under(&place.0, above));
+        (first, count)
+    }
+
+    /// The value of a property of a path, where path and name are there.
+    #[tactic(auto, unfolding(crate::specs::Query::property_at))]
+    pub fn property(&self, path: &Fmri, name: &str) -> Option<&TopoValue>
+        ensures { option_copied result ≡ property_at self.now path.now name.now }
+    {
+        match self.properties(path) {
+            Some(properties) => properties.value(name),
+            None => None,
+        }
+    }
+
+    /// An equal topology.
+    pub fn copy(&self) -> Result<Topo, NoMemory>
+        ensures { IfOk result (λ topo. topo ≡ self.now) }
+    {
+        let mut places = Vec::new(*self.places.allocator());
+        for (path, properties) in &self.places {
+            places.push((path.copy()?, properties.copy()?))?;
+        }
+        Ok(Topo { places })
+    }
+}
+
+/// Whether a path is under another and longer.
+fn lies_under(path: &Fmri, above: &Fmri) -> bool
+    ensures { result ≡ lies_under path.now above.now }
+{
+    path.is_under(above) && above.depth() < path.depth()
+}
