@@ -4,3 +4,5 @@ pub mod Rule
 pub mod Tok
 pub mod Language
 pub mod Grammar
+pub mod Text
+pub mod Printing

@@ -8,18 +8,30 @@
 //! **Grammar.** `specs/Grammar.antt` says, rule by rule, which tokens spell which tree, by the combinators of
 //! `specs/Language.antt` over the tokens of `specs/Tok.antt`.
 //!
+//! **Printed text.** `specs/Printing.antt` says which tokens a tree is printed as: one list for each rule of the
+//! grammar, with parentheses round an `Any` that is a member of an `Any` or `All` or is negated, and round an `All`
+//! that is a member of an `All` or is negated, and nowhere else. `specs/Text.antt` says the bytes of a token, and
+//! that a newline follows each `;` and a space each other token.
+//!
 //! **Promises.** Each `copy` answers an equal value, or, where a condition is in it, one with the same view; a
-//! statement's copy has its place too. Want of memory is the one error.
+//! statement's copy has its place too. [`print_tree`] adds exactly the printed text of the tree's rules, or nothing.
+//! Want of memory is the one error.
 #![tactic(auto)]
 
 mod copies;
 mod lists;
 mod no_memory;
+mod print;
+mod print_conditions;
+mod print_parts;
+mod print_sums;
+mod print_words;
 mod text;
 mod tree;
 
 pub use lists::{EngineAttrs, EventAttrs, Names, Operands, Parts, Patterns, Statements};
 pub use no_memory::NoMemory;
+pub use print::print_tree;
 pub use text::TreeText;
 pub use tree::{
     At, Compare, Cond, Count, Declared, EngineAttr, EventAttr, Operand, Part, SidePattern,

@@ -1,7 +1,7 @@
 -- The calls of a core over objects of any kind, as what shows of them.
-use Rattle.std.proofs.Common.{◌≡◌, ℕ, Bool, true, false, ◌==◌, ◌+◌, ◌-◌, ◌<◌, ◌≤◌, List, [], ◌∷◌, ◌++◌, length, map, set, get_or, Option, Some, None, Result, Ok, Err, OnOk, OnErr, IfOk, ◌^◌, refl, sym, ◌∙◌, ap, subst, arith}
+use Rattle.std.proofs.Common.{◌≡◌, ℕ, Bool, true, false, ◌==◌, ◌+◌, ◌-◌, ◌<◌, ◌≤◌, List, [], ◌∷◌, ◌++◌, length, map, set, get_or, Some, Result, Ok, Err, OnOk, OnErr, IfOk, ◌^◌, refl, sym, ◌∙◌, ap, subst, arith}
 use Rattle.std.specs.Option.{ForSome}
-use Rattle.std.proofs.lemmas.List.{map-set, length-append, set_at, set-get_or}
+use Rattle.std.proofs.lemmas.List.{map-set, set-get_or}
 use Rattle.std.proofs.lemmas.Option.{slice_get_read, slice_get-get_or, same_Some}
 use Rattle.std.specs.List.{slice_get, slice_set}
 use Rattle.fm_entry.specs.declared.entry.Entry.{Entry}
@@ -9,8 +9,8 @@ use Rattle.fm_entry.specs.declared.spoken.Spoken.{Spoken}
 use Rattle.fm_entry.specs.declared.list_event.ListEvent.{ListEvent}
 use Rattle.fm_core.specs.Meaning.{Meaning, State, says_of}
 use Rattle.fm_core.specs.Hands.{HandOf, Shown, shown, stepped, spoken_at}
-use Rattle.fm_core.specs.Book.{Book, floor_of, fallen, worked}
-use Rattle.fm_core.specs.Seen.{CoreOf, Seen, seen, book_of, FollowsAs, IsCore, HasComeTo, AreFresh, speech, with_step}
+use Rattle.fm_core.specs.Book.{floor_of, fallen, worked}
+use Rattle.fm_core.specs.Seen.{CoreOf, seen, book_of, FollowsAs, IsCore, HasComeTo, AreFresh, speech, with_step}
 use Rattle.fm_core.specs.Outcome.{outcome, after_step, kept_of, kept_record}
 use Rattle.fm_core.specs.declared.worked.Worked.{Worked}
 use Rattle.fm_core.specs.declared.worked.Worked.TheVariants.{Idle}
@@ -25,13 +25,9 @@ kept_one : (spoken : Spoken) (ws : List ListEvent) → 0 < length ws → kept_of
 kept_one spoken [] h = absurd (let no : ⊥ = omega arith in no)
 kept_one spoken (w ∷ ws) h = refl
 
--- the last record made another, where it has words
-pub settled : (records front : List Spoken) (last spoken : Spoken) (n : ℕ) → n ≡ length records - 1 → 0 < length spoken.events → records ≡ front ++ last ∷ []
-    → slice_set records n spoken ≡ front ++ kept_record spoken
-settled records front last spoken n at some whole =
-    let size : length records ≡ length front + 1 = ap length whole ∙ length-append front (last ∷ []) in
-    let place : length front ≡ n = omega arith in
-    ap (λ rs. set rs n spoken) whole ∙ set_at front last [] spoken n place ∙ ap (λ rs. front ++ rs) (sym (kept_one spoken spoken.events some))
+-- what is kept of a record that has words is the record
+pub kept_more : (records : List Spoken) (spoken : Spoken) → 0 < length spoken.events → records ++ spoken ∷ [] ≡ records ++ kept_record spoken
+kept_more records spoken some = ap (λ rs. records ++ rs) (sym (kept_one spoken spoken.events some))
 
 -- a list that is not empty has an element
 pub some_left : {X : Type 0} (ys xs : List X) (r : Bool) → r ≡ (length ys == 0) → r ≡ false → ys ≡ xs → 0 < length xs

@@ -1,17 +1,16 @@
 -- A core of two counters, as the tests make it.
-use Rattle.std.proofs.Common.{◌≡◌, ℕ, ◌-◌, ◌≤◌, List, [], ◌∷◌, ◌++◌, length, map, take, Some, refl, sym, ◌∙◌, ap, subst, arith}
+use Rattle.std.proofs.Common.{◌≡◌, ℕ, ◌-◌, ◌≤◌, List, [], ◌∷◌, length, map, take, Some, refl, sym, ◌∙◌, ap, subst, arith}
 use Rattle.std.proofs.lemmas.List.{length-map, length-set, nil_from_length}
 use Rattle.std.proofs.lemmas.Option.{same_Some}
 use Rattle.std.specs.List.{slice_get, slice_set}
 use Rattle.fm_entry.specs.declared.spoken.Spoken.{Spoken}
-use Rattle.fm_entry.specs.declared.entry.Entry.{Entry}
 use Rattle.fm_core.specs.Hands.{HandOf, shown}
 use Rattle.fm_core.specs.Counter.{CounterOf, counter_meaning}
 use Rattle.fm_core.specs.Meaning.{Counting}
 use Rattle.fm_core.specs.Folds.{state_along}
 use Rattle.fm_core.specs.Records.{of_module, numbered_from, past_all}
 use Rattle.fm_core.specs.Book.{floor_of}
-use Rattle.fm_core.specs.Seen.{CoreOf, seen, book_of, part_of, Follows, FollowsAs, IsCore, OnlyWorked}
+use Rattle.fm_core.specs.Seen.{CoreOf, book_of, part_of, Follows, FollowsAs, IsCore, OnlyWorked}
 use Rattle.fm_core.specs.Trials.{fresh_hand, counter_state, own_meaning, seen_counters, fresh_part, IsFilled}
 
 -- a core that was just made

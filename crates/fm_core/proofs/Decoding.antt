@@ -1,6 +1,6 @@
 -- Reading counts from bytes, against how they are kept.
-use Rattle.std.proofs.Common.{◌≡◌, ◌≢◌, ℕ, zero, suc, ◌+◌, ◌-◌, ◌^◌, ◌<◌, ◌≤◌, Bool, true, false, cond, ◌&&◌, ◌||◌, nat_lt, nat_le, IsTrue, List, [], ◌∷◌, ◌++◌, length, take, drop, get_or, Option, Some, None, refl, sym, ◌∙◌, ap, subst, append_assoc, append-nil, arith}
-use Rattle.std.specs.Prelude.{flat_map, ◌==◌}
+use Rattle.std.proofs.Common.{◌≡◌, ℕ, zero, suc, ◌+◌, ◌^◌, ◌<◌, ◌≤◌, true, false, ◌&&◌, nat_lt, nat_le, IsTrue, List, [], ◌∷◌, ◌++◌, length, take, drop, get_or, Some, None, refl, sym, ◌∙◌, ap, append_assoc, append-nil, arith}
+use Rattle.std.specs.Prelude.{flat_map}
 use Rattle.std.specs.List.{AllByRecursion, list_all}
 use Rattle.std.specs.Str.{is_utf8}
 use Rattle.std.proofs.lemmas.Bool.Decides.{nat_tests}
@@ -16,7 +16,7 @@ use Rattle.fm_core.specs.Faults.{load_fault}
 use Rattle.fm_nv.proofs.Readers.{short_text_reader, long_reader, left_bytes}
 use Rattle.fm_core.specs.declared.class_count.ClassCount.{ClassCount}
 use Rattle.fm_core.specs.Counts.{is_ereport, is_count, is_ordered, are_counts, total_of, count_bytes, counts_bytes}
-use Rattle.fm_core.specs.CountsOnce.{both_true, class_short, long_once, counts_prefix, IsShort, Counts, counts_are}
+use Rattle.fm_core.specs.CountsOnce.{both_true, class_short, counts_prefix, IsShort, Counts, counts_are}
 use Rattle.fm_core.proofs.Lists.{all_map, all_append}
 use Rattle.fm_core.specs.Loading.{IsBad, IsKept, NoCount, NoneRead, NoCounts}
 

@@ -1,14 +1,14 @@
 -- Work alone: what it keeps of a core, and how far the modules come.
-use Rattle.std.proofs.Common.{◌≡◌, ◌≢◌, ℕ, zero, suc, ◌+◌, ◌-◌, ◌<◌, ◌≤◌, Bool, true, false, ◌&&◌, ◌==◌, IsTrue, List, [], ◌∷◌, ◌++◌, length, map, set, get_or, Option, Some, None, Result, Ok, Err, OnOk, OnErr, refl, sym, ◌∙◌, ap, subst, arith}
-use Rattle.std.specs.List.{slice_get, slice_set, list_all}
+use Rattle.std.proofs.Common.{◌≡◌, ◌≢◌, ℕ, suc, ◌+◌, ◌-◌, ◌<◌, ◌≤◌, Bool, true, ◌&&◌, ◌==◌, IsTrue, List, [], ◌∷◌, length, map, get_or, Option, Some, None, Result, Ok, Err, OnOk, OnErr, refl, sym, ◌∙◌, ap, subst, arith}
+use Rattle.std.specs.List.{slice_get, list_all}
 use Rattle.std.proofs.lemmas.List.{length-map}
 use Rattle.std.proofs.lemmas.Option.{slice_get_within, slice_get-get_or, same_Some}
 use Rattle.fm_entry.specs.declared.entry.Entry.{Entry}
 use Rattle.fm_core.specs.Hands.{Shown}
-use Rattle.fm_core.specs.Book.{Part, Book, end_of, worked, worked_at, worked_on, is_done, IsLawful}
+use Rattle.fm_core.specs.Book.{Part, Book, end_of, worked, worked_at, worked_on, is_done}
 use Rattle.fm_core.specs.Drained.{drained}
 use Rattle.fm_core.specs.Seen.{Seen, book_of, IsCore, OnlyWorked, HasComeTo, SameBeside}
-use Rattle.fm_core.proofs.Lists.{get_set_same, get_set_other, map_got, map_get}
+use Rattle.fm_core.proofs.Lists.{get_set_same, get_set_other, map_got}
 use Rattle.fm_core.proofs.Tests.{eq_true}
 use Rattle.fm_core.proofs.Drains.{drained_worked}
 use Rattle.fm_core.proofs.Runs.{with_none}

@@ -1,22 +1,21 @@
 -- What a book drains to, and what each move keeps of it.
-use Rattle.std.proofs.Common.{◌≡◌, ◌≢◌, ℕ, ◌+◌, ◌-◌, ◌<◌, ◌≤◌, Bool, true, false, cond, ◌&&◌, nat_lt, nat_le, ◌==◌, List, [], ◌∷◌, ◌++◌, length, take, map, set, get_or, Option, Some, None, ◌⊎◌, inl, inr, refl, sym, ◌∙◌, ap, subst, append-nil, append_assoc, length-append, arith}
-use Rattle.std.proofs.lemmas.List.{length-map, length-set}
+use Rattle.std.proofs.Common.{◌≡◌, ℕ, ◌+◌, ◌-◌, ◌<◌, ◌≤◌, Bool, true, false, cond, ◌&&◌, nat_lt, nat_le, ◌==◌, List, [], ◌∷◌, ◌++◌, length, map, get_or, Option, Some, None, refl, sym, ◌∙◌, ap, subst, append-nil, append_assoc, length-append, arith}
 use Rattle.std.proofs.lemmas.List.Elements.{filter-append}
 use Rattle.std.proofs.lemmas.Option.{slice_get_within, slice_get-get_or}
-use Rattle.std.specs.List.{AllByRecursion, slice_get, slice_set}
+use Rattle.std.specs.List.{slice_get, slice_set}
 use Rattle.fm_entry.specs.declared.entry.Entry.{Entry}
 use Rattle.fm_entry.specs.declared.list_event.ListEvent.{ListEvent}
 use Rattle.fm_entry.specs.declared.spoken.Spoken.{Spoken}
-use Rattle.fm_core.specs.Meaning.{Meaning, State, says_of}
+use Rattle.fm_core.specs.Meaning.{says_of}
 use Rattle.fm_core.specs.Folds.{state_along, words_along, records_at}
-use Rattle.fm_core.specs.Records.{of_module, numbered_from, numbered_before, IsAscending, past_all}
-use Rattle.fm_core.specs.Book.{Part, Book, end_of, taken, state_at, IsPlaced, IsLawful, accepted, worked, worked_at, worked_on, floor_of, fallen, fallen_at, floored, is_done, based, rebased, with_entries, greatest_of}
-use Rattle.fm_core.specs.Drained.{Ended, ended, Drained, drained}
-use Rattle.fm_core.proofs.Lists.{all_append, all_map, filter_swap, map_same, map_map, map_got, list_all_get}
+use Rattle.fm_core.specs.Records.{of_module, numbered_before}
+use Rattle.fm_core.specs.Book.{Part, Book, end_of, state_at, IsPlaced, IsLawful, accepted, worked, worked_at, worked_on, floor_of, fallen, fallen_at, floored, is_done, based, rebased, with_entries, greatest_of}
+use Rattle.fm_core.specs.Drained.{ended, Drained, drained}
+use Rattle.fm_core.proofs.Lists.{filter_swap, map_same, map_map, list_all_get}
 use Rattle.fm_core.proofs.Tests.{true_eq}
 use Rattle.fm_core.proofs.Along.{state_append, words_append, records_within}
 use Rattle.fm_core.proofs.Ordered.{within_from, before_none, before_all}
-use Rattle.fm_core.proofs.Places.{length_taken, taken_all, records_split, records_below}
+use Rattle.fm_core.proofs.Places.{taken_all, records_split, records_below}
 
 -- the drained book, by the records below the base: nothing else of the records counts
 abbrev pub drained_by : Book → List Entry → List Spoken → Drained

@@ -1,16 +1,16 @@
 -- What each call of a core keeps: a lawful book, and hands that follow it.
-use Rattle.std.proofs.Common.{◌≡◌, ◌≢◌, ℕ, zero, suc, ◌+◌, ◌-◌, ◌<◌, ◌≤◌, Bool, true, false, cond, ◌&&◌, nat_le, List, [], ◌∷◌, ◌++◌, length, take, map, set, get_or, Option, Some, None, ◌⊎◌, inl, inr, refl, sym, ◌∙◌, ap, subst, arith}
+use Rattle.std.proofs.Common.{◌≡◌, ℕ, zero, suc, ◌+◌, ◌-◌, ◌<◌, ◌≤◌, true, cond, ◌&&◌, nat_le, List, [], ◌∷◌, ◌++◌, length, take, map, set, get_or, Option, Some, None, ◌⊎◌, inl, inr, refl, sym, ◌∙◌, ap, subst, arith}
 use Rattle.std.proofs.lemmas.List.{length-map, map-set, length-append}
 use Rattle.std.proofs.lemmas.Option.{slice_get_within, slice_get-get_or, slice_get_past}
 use Rattle.std.proofs.lemmas.Bool.{cases_eq}
-use Rattle.std.specs.List.{AllByRecursion, slice_get, slice_set}
+use Rattle.std.specs.List.{slice_get, slice_set}
 use Rattle.fm_entry.specs.declared.entry.Entry.{Entry}
 use Rattle.fm_entry.specs.declared.list_event.ListEvent.{ListEvent}
 use Rattle.fm_entry.specs.declared.spoken.Spoken.{Spoken}
-use Rattle.fm_core.specs.Meaning.{Meaning, State, says_of, after_of}
+use Rattle.fm_core.specs.Meaning.{says_of, after_of}
 use Rattle.fm_core.specs.Hands.{Shown, stepped}
 use Rattle.fm_core.specs.Folds.{state_along, words_along, records_at}
-use Rattle.fm_core.specs.Book.{Part, Book, end_of, taken, state_at, IsPlaced, IsLawful, accepted, worked, worked_at, worked_on, floor_of, fallen, fallen_at}
+use Rattle.fm_core.specs.Book.{Part, Book, taken, state_at, IsPlaced, IsLawful, accepted, worked, worked_at, worked_on, floor_of, fallen, fallen_at}
 use Rattle.fm_core.specs.Seen.{Seen, part_of, book_of, Follows, FollowsAs, IsCore, IsFresh, AreFresh, speech, with_step}
 use Rattle.fm_core.specs.Outcome.{outcome, outcome_at, outcome_on, after_step, kept_of}
 use Rattle.fm_core.specs.declared.worked.Worked.TheVariants.{Idle}

@@ -1,5 +1,5 @@
 -- Lists: facts of each element, what a filter keeps, and elements by place.
-use Rattle.std.proofs.Common.{◌≡◌, ◌≢◌, ℕ, zero, suc, ◌+◌, ◌<◌, ◌≤◌, Bool, true, false, cond, ◌&&◌, List, [], ◌∷◌, ◌++◌, length, take, map, set, Option, Some, None, refl, sym, ◌∙◌, ap, add-one, arith, rules}
+use Rattle.std.proofs.Common.{◌≡◌, ◌≢◌, ℕ, zero, suc, ◌+◌, Bool, true, false, ◌&&◌, List, [], ◌∷◌, ◌++◌, take, map, set, Some, refl, ap, add-one}
 use Rattle.std.specs.List.{AllByRecursion, filter, slice_get, list_all}
 
 -- a fact of each element of two lists is one of each element of both

@@ -1,13 +1,13 @@
 -- Records in order: what one more keeps, the parts below and from a number, and records of one module.
-use Rattle.std.proofs.Common.{◌≡◌, ◌≢◌, ℕ, ◌+◌, ◌<◌, ◌≤◌, max, Bool, true, false, nat_lt, nat_le, ◌==◌, List, [], ◌∷◌, ◌++◌, refl, sym, ◌∙◌, ap, subst, append-nil, arith}
-use Rattle.std.specs.List.{AllByRecursion, filter}
+use Rattle.std.proofs.Common.{◌≡◌, ◌≢◌, ℕ, ◌+◌, ◌<◌, ◌≤◌, max, Bool, true, false, nat_lt, nat_le, ◌==◌, List, [], ◌∷◌, ◌++◌, refl, sym, ◌∙◌, ap, append-nil, arith}
+use Rattle.std.specs.List.{AllByRecursion}
 use Rattle.fm_entry.specs.declared.spoken.Spoken.{Spoken}
 use Rattle.fm_entry.specs.declared.list_event.ListEvent.{ListEvent}
 use Rattle.fm_core.specs.Folds.{records_at}
 use Rattle.fm_core.specs.Records.{of_module, numbered_from, numbered_before, IsAscending, past_all}
 use Rattle.fm_core.proofs.Lists.{all_append, all_map, filter_all, filter_none}
 use Rattle.fm_core.proofs.Tests.{lt_true, lt_false, true_lt, false_lt, le_true, le_false, eq_true, eq_false}
-use Rattle.fm_core.proofs.Along.{IsWithin, records_within}
+use Rattle.fm_core.proofs.Along.{IsWithin}
 
 -- each record has a number below n
 abbrev pub AllBelow : ℕ → List Spoken → Type 0

@@ -1,20 +1,20 @@
 -- How a module stands in a book, and what each move keeps of it.
-use Rattle.std.proofs.Common.{◌≡◌, ◌≢◌, ℕ, zero, suc, ◌+◌, ◌-◌, ◌<◌, ◌≤◌, Bool, true, false, ◌&&◌, nat_lt, nat_le, ◌==◌, List, [], ◌∷◌, ◌++◌, length, take, drop, map, set, Option, Some, None, ◌⊎◌, inl, inr, refl, sym, ◌∙◌, ap, subst, append-nil, append_assoc, length-append, arith}
-use Rattle.std.proofs.lemmas.List.{take-append-le, take-append-drop, take-take, length-take-le, take_all, length-map, length-set}
+use Rattle.std.proofs.Common.{◌≡◌, ◌≢◌, ℕ, ◌+◌, ◌-◌, ◌<◌, ◌≤◌, true, nat_lt, nat_le, ◌==◌, List, [], ◌∷◌, ◌++◌, length, take, drop, Some, sym, ◌∙◌, ap, subst, append-nil, length-append, arith}
+use Rattle.std.proofs.lemmas.List.{take-append-le, take-append-drop, take-take, length-take-le, take_all}
 use Rattle.std.proofs.lemmas.List.Elements.{filter-append}
 use Rattle.std.proofs.lemmas.Option.{slice_get_within}
-use Rattle.std.specs.List.{AllByRecursion, slice_get, slice_set}
+use Rattle.std.specs.List.{slice_get}
 use Rattle.fm_entry.specs.declared.entry.Entry.{Entry}
 use Rattle.fm_entry.specs.declared.list_event.ListEvent.{ListEvent}
 use Rattle.fm_entry.specs.declared.spoken.Spoken.{Spoken}
-use Rattle.fm_core.specs.Meaning.{Meaning, State, says_of}
-use Rattle.fm_core.specs.Folds.{state_along, words_along, records_at}
-use Rattle.fm_core.specs.Records.{of_module, numbered_from, numbered_before, IsAscending, past_all}
-use Rattle.fm_core.specs.Book.{Part, Book, end_of, taken, state_at, IsPlaced, IsLawful, accepted, worked, worked_at, worked_on, floor_of, fallen, fallen_at, floored, is_done, based, rebased}
-use Rattle.fm_core.proofs.Lists.{all_append, all_map, all_right, filter_swap, filter_passes, get_set_same, get_set_other, take_push, map_got, list_all_get}
-use Rattle.fm_core.proofs.Tests.{true_lt, true_le, true_eq}
-use Rattle.fm_core.proofs.Along.{IsWithin, words_append, words_push, words_within, records_within}
-use Rattle.fm_core.proofs.Ordered.{AllBelow, AllFrom, within_below, within_from, below_weaker, ascending_said, from_all, from_none, before_none, before_all, split_at, of_own, of_other, none_between, past_all_below, past_all_from}
+use Rattle.fm_core.specs.Meaning.{State, says_of}
+use Rattle.fm_core.specs.Folds.{words_along, records_at}
+use Rattle.fm_core.specs.Records.{of_module, numbered_from, numbered_before, IsAscending}
+use Rattle.fm_core.specs.Book.{Part, Book, end_of, taken, state_at, IsPlaced, accepted, floor_of}
+use Rattle.fm_core.proofs.Lists.{all_append, all_map, all_right, filter_swap, filter_passes, take_push}
+use Rattle.fm_core.proofs.Tests.{true_lt}
+use Rattle.fm_core.proofs.Along.{words_append, words_push, words_within, records_within}
+use Rattle.fm_core.proofs.Ordered.{AllBelow, AllFrom, within_below, within_from, below_weaker, ascending_said, from_all, split_at, of_own, of_other, none_between, past_all_below, past_all_from}
 
 -- as many entries are taken as the cursor is past the base
 pub length_taken : (k : Book) (c : ℕ) → k.base ≤ c → c ≤ end_of k → k.base + length (taken k c) ≡ c

@@ -1,17 +1,16 @@
 -- Each move keeps a book lawful, and so does every list of moves.
-use Rattle.std.proofs.Common.{◌≡◌, ◌≢◌, ℕ, suc, ◌+◌, ◌-◌, ◌<◌, ◌≤◌, Bool, true, false, cond, ◌&&◌, nat_lt, nat_le, ◌==◌, List, [], ◌∷◌, ◌++◌, length, take, map, set, get_or, Option, Some, None, ◌⊎◌, inl, inr, refl, sym, ◌∙◌, ap, subst, append-nil, append_assoc, length-append, arith}
+use Rattle.std.proofs.Common.{◌≡◌, ◌≢◌, ℕ, ◌+◌, ◌-◌, ◌<◌, ◌≤◌, Bool, true, false, cond, ◌&&◌, nat_le, ◌==◌, List, [], ◌∷◌, ◌++◌, length, take, map, set, Option, Some, None, inl, inr, refl, sym, ◌∙◌, ap, subst, append-nil, arith}
 use Rattle.std.proofs.lemmas.List.{length-map, length-set}
-use Rattle.std.proofs.lemmas.Option.{slice_get_within, slice_get-get_or, same_Some}
+use Rattle.std.proofs.lemmas.Option.{slice_get_within, same_Some}
 use Rattle.std.proofs.lemmas.Bool.{cases_eq}
 use Rattle.std.specs.List.{AllByRecursion, slice_get, slice_set}
 use Rattle.fm_entry.specs.declared.entry.Entry.{Entry}
 use Rattle.fm_entry.specs.declared.list_event.ListEvent.{ListEvent}
-use Rattle.fm_entry.specs.declared.spoken.Spoken.{Spoken}
-use Rattle.fm_core.specs.Meaning.{Meaning, State, says_of}
+use Rattle.fm_core.specs.Meaning.{says_of}
 use Rattle.fm_core.specs.Folds.{state_along, words_along, records_at}
-use Rattle.fm_core.specs.Records.{of_module, numbered_from, numbered_before, IsAscending, past_all}
-use Rattle.fm_core.specs.Book.{Part, Book, end_of, greatest_of, taken, state_at, IsPlaced, IsLawful, accepted, worked, worked_at, worked_on, floor_of, fallen, fallen_at, floored, is_done, based, rebased, with_entries, Move, Accept, Work, Fall, Base, moved, run, accepts_of}
-use Rattle.fm_core.specs.Drained.{Ended, ended, Drained, drained, AnyOrder}
+use Rattle.fm_core.specs.Records.{of_module, numbered_from, numbered_before}
+use Rattle.fm_core.specs.Book.{Part, Book, end_of, greatest_of, state_at, IsPlaced, IsLawful, accepted, worked, worked_at, worked_on, floor_of, fallen, fallen_at, floored, is_done, based, rebased, with_entries, Move, Accept, Work, Fall, Base, moved, run, accepts_of}
+use Rattle.fm_core.specs.Drained.{ended, drained, AnyOrder}
 use Rattle.fm_core.proofs.Lists.{all_append, all_map, get_set_same, get_set_other, map_got, map_get, list_all_get}
 use Rattle.fm_core.proofs.Tests.{true_le, true_eq}
 use Rattle.fm_core.proofs.Along.{IsWithin, records_within}

@@ -1,11 +1,11 @@
 -- What a book comes to once every module has taken every entry.
-use Rattle.std.specs.Prelude.{◌≡◌, ℕ, ◌≤◌, List, ◌++◌, map, slice_get, Some}
+use Rattle.std.specs.Prelude.{◌≡◌, ℕ, List, ◌++◌, map, slice_get, Some}
 use Rattle.fm_entry.specs.declared.entry.Entry.{Entry}
 use Rattle.fm_entry.specs.declared.spoken.Spoken.{Spoken}
-use Rattle.fm_core.specs.Meaning.{Meaning, State}
+use Rattle.fm_core.specs.Meaning.{State}
 use Rattle.fm_core.specs.Folds.{state_along, words_along}
 use Rattle.fm_core.specs.Records.{of_module, numbered_before}
-use Rattle.fm_core.specs.Book.{Book, Part, end_of, state_at, IsLawful, Move, run, accepts_of, with_entries, floored}
+use Rattle.fm_core.specs.Book.{Book, Part, end_of, state_at, IsLawful, Move, run, accepts_of, with_entries}
 
 -- a module at the end: its state, and all that it ever said
 pub record Ended : Type 0 where

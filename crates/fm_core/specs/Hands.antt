@@ -1,5 +1,5 @@
 -- Hands: an object of a module with the place that it has come to.
-use Rattle.std.specs.Prelude.{◌≡◌, ℕ, ◌+◌, List, refl}
+use Rattle.std.specs.Prelude.{ℕ, ◌+◌, refl}
 use Rattle.std.specs.Coded.{Coded, code_by, coded×, coded_ℕ}
 use Rattle.fm_entry.specs.declared.entry.Entry.{Entry}
 use Rattle.fm_entry.specs.declared.spoken.Spoken.{Spoken}

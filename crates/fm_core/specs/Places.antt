@@ -1,5 +1,5 @@
 -- Where a class stands among counts, or would stand.
-use Rattle.std.specs.Prelude.{ℕ, zero, suc, ◌+◌, Bool, true, false, cond, nat_eq, List, [], ◌∷◌, insert, slice_set, slice_get, Option, Some, None}
+use Rattle.std.specs.Prelude.{ℕ, suc, ◌+◌, Bool, true, false, cond, nat_eq, List, [], ◌∷◌, insert, slice_set, Option, Some, None}
 use Rattle.std.specs.Ordering.{is_lt}
 use lib.Pointwise.{pointwise}
 use Rattle.fm_core.specs.declared.class_count.ClassCount.{ClassCount}

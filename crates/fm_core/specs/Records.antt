@@ -1,5 +1,5 @@
 -- Lists of records: those of one module, those from a number on, those before it, and their order.
-use Rattle.std.specs.Prelude.{◌≡◌, ℕ, ◌+◌, ◌<◌, max, Bool, ◌==◌, nat_lt, nat_le, List, [], ◌∷◌, filter}
+use Rattle.std.specs.Prelude.{ℕ, ◌+◌, ◌<◌, max, ◌==◌, nat_lt, nat_le, List, [], ◌∷◌, filter}
 use Rattle.std.specs.List.{AllByRecursion}
 use Rattle.fm_entry.specs.declared.spoken.Spoken.{Spoken}
 

@@ -1,7 +1,6 @@
 -- The core as contracts see it: what shows of its hands, and the book that it stands for.
-use Rattle.std.specs.Prelude.{◌≡◌, ◌≢◌, ℕ, ◌+◌, ◌-◌, ◌<◌, ◌≤◌, ◌^◌, List, [], ◌∷◌, ◌++◌, map, length, All, slice_get, slice_set, Option, Some, None}
+use Rattle.std.specs.Prelude.{◌≡◌, ◌≢◌, ℕ, ◌-◌, ◌≤◌, ◌^◌, List, ◌++◌, map, length, All, slice_get, slice_set, Some}
 use Rattle.fm_entry.specs.declared.entry.Entry.{Entry}
-use Rattle.fm_entry.specs.declared.list_event.ListEvent.{ListEvent}
 use Rattle.fm_entry.specs.declared.spoken.Spoken.{Spoken}
 use Rattle.fm_entry.specs.Entries.{IsSpelled}
 use Rattle.fm_core.specs.Meaning.{Meaning, State, says_of}

@@ -1,6 +1,6 @@
 -- A core of two counters, as the tests make it.
-use Rattle.std.specs.Prelude.{◌≡◌, ℕ, List, [], ◌∷◌, length}
-use Rattle.fm_core.specs.Hands.{HandOf, Shown}
+use Rattle.std.specs.Prelude.{◌≡◌, ℕ, [], ◌∷◌, length}
+use Rattle.fm_core.specs.Hands.{HandOf}
 use Rattle.fm_core.specs.Meaning.{State, Counting, Meaning}
 use Rattle.fm_core.specs.Counter.{CounterOf, counter_meaning}
 use Rattle.fm_core.specs.Book.{Part}

@@ -1,17 +1,16 @@
-ghost use Rattle.std.specs.Prelude.{◌≡◌, ◌+◌, ◌-◌, ◌<◌, ◌≤◌, ◌^◌, List, [], ◌∷◌, ◌++◌, map, length, slice_get, slice_set, Some, IsTrue, IfOk, OnOk, OnErr};
+ghost use Rattle.std.specs.Prelude.{◌≡◌, ◌+◌, ◌-◌, ◌<◌, ◌≤◌, ◌^◌, [], ◌∷◌, ◌++◌, map, length, slice_get, slice_set, vec_len, vec_capacity, Some, IsTrue, IfOk, OnOk, OnErr};
 ghost use Rattle.std.specs.Option.{ForSome};
 ghost use Rattle.fm_entry.specs.Entries.{IsSpelled};
 ghost use Rattle.fm_core.specs.Hands.{shown, stepped, spoken_at};
 ghost use Rattle.fm_core.specs.Book.{accepted, worked, fallen, floor_of, end_of, is_done};
 ghost use Rattle.fm_core.specs.Seen.{seen, book_of, FollowsAs, IsCore, AreFresh, OnlyWorked, HasComeTo, SameBeside};
 ghost use Rattle.fm_core.specs.Outcome.{outcome, after_step, kept_record};
-ghost use Rattle.fm_entry.specs.declared.spoken.Spoken.{Spoken};
 
 use crate::hand::Hand;
 use crate::module::Module;
 use crate::no_memory::NoMemory;
 use crate::worked::Worked;
-use fm_entry::{Entry, ListEvents, Spoken};
+use fm_entry::{Entry, Spoken};
 use std::alloc::Global;
 use std::marker::Model;
 use std::mem;
@@ -175,18 +174,9 @@ impl<M: Module> Core<M> {
         if place >= self.entries.len() {
             return Ok(Worked::Idle);
         }
-        self.records.push(Spoken {
-            module: 0,
-            number: 0,
-            events: ListEvents::new(Vec::new(alloc)),
-        })?;
-        match advance_at(&mut self.hands, at, alloc, &self.entries[place]) {
-            Ok(spoken) => Ok(settle(&mut self.records, spoken)),
-            Err(error) => {
-                self.records.pop();
-                Err(error)
-            }
-        }
+        self.records.reserve(1)?;
+        let spoken = advance_at(&mut self.hands, at, alloc, &self.entries[place])?;
+        Ok(settle(&mut self.records, spoken))
     }
 
     // the place, among the entries, of the next one that the module at a place takes
@@ -221,18 +211,15 @@ fn advance_at<M: Module>(
     hand.advance(alloc, entry)
 }
 
-// puts what was spoken in place of the last record, or drops that where nothing was
+// keeps what was spoken, for which there is room, unless nothing was
 fn settle(records: &mut Vec<Spoken>, spoken: Spoken) -> Worked
-    requires { 0 < length records.old.items }
+    requires { vec_len records.old < vec_capacity records.old }
     ensures answer { result ≡ after_step spoken.events }
-    ensures records { (front : List Spoken) (last : Spoken) → records.old.items ≡ front ++ last ∷ [] → records.new.items ≡ front ++ kept_record spoken }
+    ensures records { records.new.items ≡ records.old.items ++ kept_record spoken }
 {
     if spoken.events.as_slice().is_empty() {
-        records.pop();
-        Worked::Silent
-    } else {
-        let last = records.len() - 1;
-        records[last] = spoken;
-        Worked::Spoke
+        return Worked::Silent;
     }
+    records.push_reserved(spoken);
+    Worked::Spoke
 }

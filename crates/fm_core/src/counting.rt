@@ -79,22 +79,21 @@ pub(crate) fn third_word(
 ) -> Result<Vec<ListEvent>, NoMemory>
     ensures { IfOk result (λ words. words.items ≡ (if count % 3 == 0 then third case.module case.case class.now path.now moment ∷ [] else [])) }
 {
-    let mut words = Vec::new(alloc);
     if count % 3 != 0 {
-        return Ok(words);
+        return Ok(Vec::new(alloc));
     }
-    let mut observed = Vec::new(alloc);
-    observed.push(EventName {
+    let name = EventName {
         class: class.copy()?,
         path: path.copy()?,
-    })?;
-    words.push(ListEvent {
+    };
+    let observed = Vec::from_array(alloc, [name])?;
+    let upset = ListEvent {
         kind: ListKind::Upset,
         case,
         moment,
         conf: 0,
         observed: EventNames::new(observed),
         suspects: Suspects::new(Vec::new(alloc)),
-    })?;
-    Ok(words)
+    };
+    Ok(Vec::from_array(alloc, [upset])?)
 }

@@ -3,6 +3,8 @@ use crate::counter::Counter;
 use crate::hand::Hand;
 use crate::laws::any_order;
 use crate::module::{LoadFault, Module};
+use crate::trials::loaded::{Loaded, core_of_one, step_loaded, work_loaded};
+use crate::worked::Worked;
 use fm_entry::Entry;
 use fm_name::{Category, read_class, read_fmri};
 use fm_nv::Nv;
@@ -140,6 +142,25 @@ fn work_first(alloc: Global, core: &mut Core<Counter>) -> Option<()>
     }
 }
 
+// lets both modules take every entry
+fn finish(alloc: Global, core: &mut Core<Counter>) -> Option<()>
+    requires { IsFilled core.old }
+    ensures { OnSome result (IsFilled core.new) }
+{
+    match core.drain(alloc) {
+        Ok(()) => Some(()),
+        Err(_) => None,
+    }
+}
+
+// how many reports of its first class a module has counted
+fn counted_by(core: &Core<Counter>, module: u32) -> Option<u64>
+    requires filled { IsFilled core.now }
+    requires known { «module» < 2 }
+{
+    Some(core.hand(module).state().counts().first()?.count)
+}
+
 #[test]
 fn takes_each_entry_once_after_a_fall(rt: HostRuntime) -> Result<(), Fail> {
     let alloc = rt.alloc();
@@ -147,10 +168,12 @@ fn takes_each_entry_once_after_a_fall(rt: HostRuntime) -> Result<(), Fail> {
     work_first(alloc, &mut core).ok_or("work")?;
     let fallen_from = fall_to_start(alloc, &mut core).ok_or("fall")?;
     assert_eq!(rt; fallen_from, 1);
-    core.drain(alloc)?;
+    finish(alloc, &mut core).ok_or("drain")?;
     assert_eq!(rt; core.spoken().len(), 2);
     assert_eq!(rt; told(&core, 0), Some((2, 0, 9)));
     assert_eq!(rt; told(&core, 1), Some((2, 0, 9)));
+    assert_eq!(rt; counted_by(&core, 0), Some(3));
+    assert_eq!(rt; counted_by(&core, 1), Some(3));
     Ok(())
 }
 
@@ -158,11 +181,13 @@ fn takes_each_entry_once_after_a_fall(rt: HostRuntime) -> Result<(), Fail> {
 fn takes_each_entry_once(rt: HostRuntime) -> Result<(), Fail> {
     let alloc = rt.alloc();
     let mut core = filled(alloc).ok_or("core")?;
-    core.drain(alloc)?;
+    finish(alloc, &mut core).ok_or("drain")?;
     assert_eq!(rt; core.len(), 3);
     assert_eq!(rt; core.spoken().len(), 2);
     assert_eq!(rt; told(&core, 0), Some((2, 0, 9)));
     assert_eq!(rt; told(&core, 1), Some((2, 0, 9)));
+    assert_eq!(rt; counted_by(&core, 0), Some(3));
+    assert_eq!(rt; counted_by(&core, 1), Some(3));
     Ok(())
 }
 
@@ -172,10 +197,12 @@ fn takes_each_entry_once_with_module_one_first(rt: HostRuntime) -> Result<(), Fa
     let mut core = filled(alloc).ok_or("core")?;
     work_second(alloc, &mut core).ok_or("work")?;
     assert_eq!(rt; core.spoken().len(), 1);
-    core.drain(alloc)?;
+    finish(alloc, &mut core).ok_or("drain")?;
     assert_eq!(rt; core.spoken().len(), 2);
     assert_eq!(rt; told(&core, 0), Some((2, 0, 9)));
     assert_eq!(rt; told(&core, 1), Some((2, 0, 9)));
+    assert_eq!(rt; counted_by(&core, 0), Some(3));
+    assert_eq!(rt; counted_by(&core, 1), Some(3));
     Ok(())
 }
 
@@ -254,5 +281,30 @@ fn subscribes_to_every_class(rt: HostRuntime) -> Result<(), Fail> {
     let class = read_class(alloc, "ereport.io.scsi")?.ok_or("class")?;
     assert!(rt; counter.subscribes(&class));
     any_order();
+    Ok(())
+}
+
+#[test]
+fn steps_a_boxed_object(rt: HostRuntime) -> Result<(), Fail> {
+    let alloc = rt.alloc();
+    let object: Box<dyn Module> = Box::new(alloc, Counter::new(alloc, 3))?;
+    let hand = Hand::new(3, 0, Loaded::new(object));
+    let entry = report(alloc, "ereport.cpu.ue", 7).ok_or("entry")?;
+    let hand = step_loaded(alloc, hand, &entry).ok_or("step")?;
+    assert_eq!(rt; hand.cursor(), 1);
+    assert_eq!(rt; hand.module(), 3);
+    Ok(())
+}
+
+#[test]
+fn works_a_boxed_object(rt: HostRuntime) -> Result<(), Fail> {
+    let alloc = rt.alloc();
+    let own: Box<dyn Module> = Box::new(alloc, Counter::new(alloc, 0))?;
+    let kept: Box<dyn Module> = Box::new(alloc, Counter::new(alloc, 0))?;
+    let mut core = core_of_one(alloc, Loaded::new(own), Loaded::new(kept)).ok_or("core")?;
+    let entry = report(alloc, "ereport.cpu.ue", 7).ok_or("entry")?;
+    assert_eq!(rt; core.accept(entry), Ok(0));
+    assert_eq!(rt; work_loaded(alloc, &mut core, 0), Ok(Worked::Silent));
+    assert_eq!(rt; work_loaded(alloc, &mut core, 0), Ok(Worked::Idle));
     Ok(())
 }

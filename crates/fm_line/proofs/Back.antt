@@ -1,5 +1,5 @@
 -- What is printed for an entry that a line gives reads as the entry.
-use Rattle.std.proofs.Common.{◌≡◌, ◌≢◌, ℕ, zero, suc, ◌+◌, ◌-◌, ◌^◌, ◌<◌, ◌≤◌, ◌==◌, ◌++◌, ◌∷◌, [], List, Bool, true, false, cond, not, length, take, drop, codes, Option, Some, None, Result, Ok, Err, OnOk, IsTrue, refl, sym, ap, ◌∙◌, subst, arith, append_assoc, decimal, nat_eq, bytes_eq}
+use Rattle.std.proofs.Common.{◌≡◌, ℕ, suc, ◌+◌, ◌^◌, ◌<◌, ◌≤◌, ◌==◌, ◌++◌, ◌∷◌, [], List, Bool, true, false, cond, not, length, take, drop, codes, Some, None, Result, Ok, Err, OnOk, IsTrue, refl, sym, ap, ◌∙◌, subst, arith, append_assoc, decimal}
 use Rattle.std.specs.List.{before_first, after_first, position_or_len, list_all}
 use Rattle.std.proofs.Math.Seq.{take-append_seam}
 use Rattle.std.specs.Str.Parse.{AllDigits}
@@ -12,25 +12,23 @@ use Rattle.fm_line.proofs.Cutting.{positive_eqb}
 use Rattle.fm_line.proofs.Spelling.{entry_spelled, entry_payload}
 use Rattle.fm_line.specs.Sound.{HasSpelledPayload, HasReadPayload, ReadsAsJson}
 use Rattle.fm_line.specs.declared.fault.LineFault.TheVariants.{Json}
-use Rattle.serde_json.specs.Data.{Data, number, unsigned, string, object, Items, no_items, item, Members, no_members, member}
+use Rattle.serde_json.specs.Data.{Data, number, unsigned, string, object, Members, no_members, member}
 use Rattle.serde_json.specs.Written.{compact_text, members_text, comma_if}
-use Rattle.serde_json.proofs.OnLiterals.{serde_json_on_literals}
 use Rattle.json.specs.Print.{quoted}
 use Rattle.fm_name.specs.Category.{category_of}
 use Rattle.fm_name.specs.Class.{is_class}
 use Rattle.fm_name.specs.Path.{is_path}
 use Rattle.fm_name.specs.declared.classes.Category.TheVariants.{Ereport}
 use Rattle.fm_nv.specs.Data as nv
-use Rattle.fm_entry.specs.Entries.{IsSpelled, IsCaseName, IsReport}
-use Rattle.fm_entry.specs.declared.case_name.CaseName.{CaseName}
+use Rattle.fm_entry.specs.Entries.{IsSpelled}
 use Rattle.fm_entry.specs.declared.entry.Entry.{Entry}
 use Rattle.fm_entry.specs.declared.entry.Entry.TheVariants.{Report, Tick, Repaired, Replaced, Acquit}
 use Rattle.fm_line.proofs.Graphic.{is_graphic, graphic, graphic_append, class_graphic, path_graphic}
 use Rattle.fm_line.proofs.PlainBack.{text_of_graphic, decimal_graphic, number_back, EndsPlainly, ends_behind, line_is, two_is, three_is, four_is}
-use Rattle.fm_line.specs.CaseText.{is_slash, case_of, case_numbers, case_named}
+use Rattle.fm_entry.specs.CaseText.{is_slash, case_of, case_numbers, case_named}
 use Rattle.fm_line.specs.Forms.{text_of, needed, words, words_entry, is_ereport, class_in, path_in, case_in, moment_in, report, tick, repaired, replaced, acquit, is_json, two_words, three_words, four_words, report_keys, four_keys, object_entry, json_of, json_entry, content_entry, line_entry}
 use Rattle.fm_line.specs.Lines.{line_limit}
-use Rattle.fm_line.specs.Numbers.{as_below, number_of_word}
+use Rattle.fm_entry.specs.Decimals.{as_below, number_of_word}
 use Rattle.fm_line.specs.Payload.{list_of}
 use Rattle.fm_line.specs.Printed.{payload_data, report_data, plain_report, json_report, report_line, line_text}
 

@@ -1,12 +1,11 @@
 -- The words of a line, cut off one by one.
-use Rattle.std.proofs.Common.{◌≡◌, ℕ, ◌+◌, ◌<◌, ◌++◌, ◌∷◌, [], List, length, position, Option, Some, None, refl, sym, ap, ◌∙◌, arith, take, drop, get_or, ◌-◌, length-drop, Err, Result}
+use Rattle.std.proofs.Common.{◌≡◌, ℕ, ◌+◌, ◌<◌, ◌∷◌, [], List, length, position, Some, None, refl, sym, ap, ◌∙◌, arith, take, drop, get_or, ◌-◌, length-drop, Err}
 use Rattle.std.specs.List.{slice_split}
 use Rattle.std.proofs.lemmas.List.Splits.{slice_split_none, slice_split_at, length-slice_split}
 use Rattle.std.proofs.Math.Seq.{take-length}
 use Rattle.fm_line.proofs.Places.{fails_all, fails_before, passes_at, parts_at}
 use Rattle.fm_line.specs.Forms.{is_space, words, words_entry}
 use Rattle.fm_line.specs.declared.fault.LineFault.TheVariants.{Shape}
-use Rattle.fm_entry.specs.declared.entry.Entry.{Entry}
 
 -- a line without a space is one word
 pub words_none : (line : List ℕ) → position is_space line ≡ None → words line ≡ line ∷ []

@@ -1,10 +1,9 @@
 -- The lines of a stream do not depend on how it is cut into pieces.
-use Rattle.std.proofs.Common.{◌≡◌, ◌==◌, ℕ, suc, not, ◌+◌, ◌<◌, ◌≤◌, ◌++◌, ◌∷◌, [], List, Bool, true, false, cond, length, map, Option, Some, None, ◌≢◌, refl, sym, ◌∙◌, ap, subst, arith, append_assoc, length-append, length-take, get_or-take, append-nil, add-one, drop, take, get_or, nat_lt, nat_le, if◌then◌else◌}
-use Rattle.std.specs.List.{slice_split, after_first, before_first, position_or_len, prefix_len, All, position}
+use Rattle.std.proofs.Common.{◌≡◌, ◌==◌, ℕ, suc, not, ◌+◌, ◌<◌, ◌≤◌, ◌++◌, ◌∷◌, [], List, Bool, true, false, cond, length, map, Option, Some, None, ◌≢◌, refl, sym, ◌∙◌, ap, arith, append_assoc, length-append, append-nil, drop, take, get_or, nat_le}
+use Rattle.std.specs.List.{slice_split, after_first, position_or_len, prefix_len, position}
 use Rattle.std.proofs.lemmas.List.Splits.{slice_split_none, slice_split_at, length-slice_split}
-use Rattle.std.proofs.lemmas.Bool.{le-leb, lt-leb, leb-false, ltb-true, ltb-false}
+use Rattle.std.proofs.lemmas.Bool.{le-leb, lt-leb, leb-false}
 use Rattle.std.proofs.lemmas.List.Elements.{All-append, All-head, All-cons}
-use Rattle.std.proofs.lemmas.Grind.{common_steps}
 use Rattle.std.proofs.lemmas.Bool.Decides.{nat_tests}
 use Rattle.fm_line.proofs.Places.{fails_before, passes_at, parts_at}
 use Rattle.fm_line.specs.Lines.{line_limit, is_newline, HasNoNewline, kept, lines_of_parts, lines_of, lines_from, grown}

@@ -1,5 +1,5 @@
 -- The keys of an object.
-use Rattle.std.proofs.Common.{◌≡◌, ℕ, Option, Some, None, refl, ap}
+use Rattle.std.proofs.Common.{◌≡◌, Some, None, refl, ap}
 use Rattle.serde_json.specs.Data.{Data, null, boolean, number, string, array, object, Members}
 use Rattle.serde_json.specs.Events.{members_len}
 use Rattle.serde_json.specs.Find.{as_object}

@@ -1,6 +1,6 @@
 -- Arrays of lists as JSON.
 use Rattle.std.proofs.Common.{◌≡◌, ℕ, zero, suc, ◌≤◌, ◌<◌, ◌∷◌, [], List, map, refl, ap, ◌∙◌, arith, String, string_bytes, string_cmp, Global, length, get_or}
-use Rattle.serde_json.specs.Data.{Items, item, put}
+use Rattle.serde_json.specs.Data.{item, put}
 use Rattle.serde_json.specs.View.{items_of, members_view, view}
 use Rattle.serde_json.specs.declared.value.Value.{Value}
 use Rattle.std.specs.BTreeMap.{insert_entry}

@@ -1,12 +1,12 @@
 -- A list that was made of a value that was read is that value again.
-use Rattle.std.proofs.Common.{◌≡◌, ℕ, ℤ, pos, negsuc, List, [], ◌∷◌, ◌++◌, Bool, true, false, cond, Option, Some, None, option_map, option_and_then, is_none, map, refl, sym, ap, ◌∙◌, subst, Ordering, Less, Equal, Greater, nat_cmp}
+use Rattle.std.proofs.Common.{◌≡◌, ℕ, pos, negsuc, List, [], ◌∷◌, Option, Some, None, option_map, option_and_then, is_none, refl, sym, ap, ◌∙◌, Greater, nat_cmp}
 use Rattle.std.specs.Ordering.{match_ordering, ordering_reverse}
 use Rattle.std.specs.Cmp.Lexicographic.{slice_cmp, nat_list_cmp_total}
 use Rattle.std.proofs.lemmas.Option.{cond_some}
 use Rattle.serde_json.specs.Data.{Num, unsigned, negative, float, Data, null, boolean, number, string, array, object, Items, no_items, item, Members, no_members, member, put}
-use Rattle.serde_json.specs.Find.{as_number, as_u64, as_str}
+use Rattle.serde_json.specs.Find.{as_str}
 use Rattle.fm_nv.specs.Data as nv
-use Rattle.fm_nv.specs.Refusal.{refusal, pushed}
+use Rattle.fm_nv.specs.Refusal.{refusal}
 use Rattle.fm_line.proofs.Reading.{IsBefore, IsBeforeAll, IsReadNumber, IsRead, ItemsRead, MembersRead}
 use Rattle.fm_line.specs.Payload.{joined, unsigned_in, unsigneds_of, texts_of, number_value, array_value, added, value_of, lists_from, list_of, pairs_onto}
 use Rattle.fm_line.specs.Printed.{data_of, lists_items, members_onto, payload_data, numbers_items, texts_items}

@@ -1,5 +1,5 @@
 -- The first byte of a list that passes a test, by its place.
-use Rattle.std.proofs.Common.{◌≡◌, ℕ, ◌+◌, ◌<◌, ◌≤◌, ◌++◌, ◌∷◌, List, Bool, true, false, cond, length, position, Option, Some, None, refl, ap, ◌∙◌, subst, arith, take, drop, get_or, get_or-take, length-take, add-one, nat_lt}
+use Rattle.std.proofs.Common.{◌≡◌, ℕ, ◌+◌, ◌<◌, ◌≤◌, ◌++◌, ◌∷◌, List, Bool, true, false, cond, length, position, Some, None, refl, ap, ◌∙◌, subst, arith, take, drop, get_or, get_or-take, length-take, add-one, nat_lt}
 use Rattle.std.specs.List.{All, position_or_len}
 use Rattle.std.proofs.Math.Seq.{split_at}
 use Rattle.std.proofs.lemmas.Bool.{ltb-true, ltb-false}

@@ -1,11 +1,10 @@
 -- What is printed in the plain form reads as the entry.
-use Rattle.std.proofs.Common.{◌≡◌, ◌≢◌, ℕ, zero, suc, ◌||◌, ◌+◌, ◌-◌, ◌*◌, ◌^◌, ◌<◌, ◌≤◌, ◌==◌, ◌&&◌, ◌++◌, ◌∷◌, [], List, Bool, true, false, cond, not, length, take, drop, codes, Option, Some, None, Result, Ok, Err, IsTrue, refl, sym, ap, ◌∙◌, subst, arith, nat_lt, nat_le, nat_eq, get_or, slice_index, length-append, append_assoc, decimal}
-use Rattle.std.specs.List.{list_all, slice_split, before_first, after_first, position_or_len, prefix_len}
+use Rattle.std.proofs.Common.{◌≡◌, ℕ, zero, suc, ◌||◌, ◌+◌, ◌-◌, ◌^◌, ◌<◌, ◌≤◌, ◌==◌, ◌&&◌, ◌++◌, ◌∷◌, [], List, Bool, true, false, cond, not, length, take, Some, None, Err, IsTrue, refl, ap, ◌∙◌, arith, nat_lt, nat_le, get_or, slice_index, length-append, decimal}
+use Rattle.std.specs.List.{list_all}
 use Rattle.std.specs.Char.{is_ascii_digit, digit_value}
-use Rattle.std.specs.Int.{is_in_range}
-use Rattle.std.specs.Str.{is_utf8, IsAscii}
-use Rattle.std.specs.Str.Parse.{IsNumeral, AllDigits, digits_value}
-use Rattle.std.proofs.lemmas.Bool.{lt-ltb, le-ltb, ltb-true, leb-true, le-leb, eqb-true}
+use Rattle.std.specs.Str.{IsAscii}
+use Rattle.std.specs.Str.Parse.{AllDigits, digits_value}
+use Rattle.std.proofs.lemmas.Bool.{lt-ltb, le-ltb, ltb-true, le-leb}
 use Rattle.std.proofs.lemmas.Bool.Decides.{nat_tests}
 use Rattle.std.proofs.lemmas.Fmt.{decimal_is_IsNumeral, first_decimal, decimal_digit, decimal_nonempty}
 use Rattle.std.proofs.lemmas.List.{get_or-append_right}
@@ -13,17 +12,13 @@ use Rattle.std.proofs.lemmas.List.Splits.{slice_split_none, slice_split_at}
 use Rattle.std.proofs.lemmas.List.Sums.{AllPass-from_list_all}
 use Rattle.std.proofs.lemmas.Str.{is_utf8-from_IsUtf8, IsUtf8-from_ascii}
 use Rattle.std.proofs.lemmas.Str.Parse.{digit_from_value}
-use Rattle.fm_name.specs.Class.{is_class}
-use Rattle.fm_name.specs.Path.{is_path}
 use Rattle.fm_nv.proofs.Booleans.{and_parts, and_true}
-use Rattle.fm_entry.specs.declared.entry.Entry.{Entry}
 use Rattle.fm_line.proofs.Cutting.{positive_eqb}
 use Rattle.fm_line.proofs.Graphic.{is_graphic, graphic}
-use Rattle.fm_line.specs.declared.fault.LineFault.{LineFault}
 use Rattle.fm_line.specs.declared.fault.LineFault.TheVariants.{TooLong}
 use Rattle.fm_line.specs.Forms.{text_of, words, is_space, without_return, is_json, json_entry, content_entry, words_entry, line_entry}
 use Rattle.fm_line.specs.Lines.{line_limit}
-use Rattle.fm_line.specs.Numbers.{is_numeral, leads_plainly, as_below, number_of_word}
+use Rattle.fm_entry.specs.Decimals.{is_numeral, leads_plainly, as_below, number_of_word}
 
 -- ---- texts without spaces
 

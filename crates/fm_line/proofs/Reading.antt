@@ -1,5 +1,5 @@
 -- What a value that was read keeps: negative numbers are negative, and the members of an object ascend.
-use Rattle.std.proofs.Common.{◌≡◌, ◌==◌, ◌&&◌, ◌<◌, ◌^◌, ℕ, zero, suc, arith, nat_lt, nat_le, slice_index, drop, ℤ, pos, negsuc, List, [], ◌∷◌, Bool, true, false, cond, Option, Some, None, option_map, option_and_then, IfSome, refl, sym, ap, ◌∙◌, subst, Ordering, Less, Equal, Greater, nat_cmp}
+use Rattle.std.proofs.Common.{◌≡◌, ◌==◌, ◌&&◌, ◌<◌, ◌^◌, ℕ, zero, suc, arith, nat_lt, nat_le, slice_index, drop, pos, negsuc, List, Bool, true, false, cond, Option, Some, None, option_map, option_and_then, IfSome, refl, ap, ◌∙◌, Ordering, Less, Equal, Greater, nat_cmp}
 use Rattle.std.specs.Ordering.{match_ordering, ordering_reverse}
 use Rattle.std.specs.Cmp.Lexicographic.{slice_cmp, nat_list_cmp_total}
 use Rattle.json.specs.Json as json

@@ -1,5 +1,5 @@
 -- Lines and what they say, each computed from the definitions.
-use Rattle.std.proofs.Common.{◌≡◌, ℕ, [], ◌∷◌, ◌++◌, refl, codes, Ok, Err, negsuc}
+use Rattle.std.proofs.Common.{◌≡◌, [], ◌∷◌, ◌++◌, refl, codes, Ok, Err, negsuc}
 use Rattle.std.specs.Str.{is_utf8, chars}
 use Rattle.serde_json.proofs.OnLiterals.{serde_json_on_literals}
 use Rattle.fm_name.specs.Category.{category_of}
@@ -8,9 +8,9 @@ use Rattle.fm_name.specs.Path.{is_name, is_instance, is_part, are_parts, is_path
 use Rattle.fm_nv.specs.Data.{no_pairs, pair, unsigned, signed, nested, unsigneds}
 use Rattle.fm_nv.specs.Refusal.{refusal}
 use Rattle.fm_entry.specs.declared.entry.Entry.TheVariants.{Report, Tick, Repaired, Acquit}
-use Rattle.fm_line.specs.CaseText.{case_numbers, case_named}
+use Rattle.fm_entry.specs.CaseText.{case_numbers, case_named}
 use Rattle.fm_line.specs.Forms.{text_of, class_in, path_in, case_in, moment_in, report, tick, repaired, replaced, acquit, words, two_words, three_words, four_words, one_key, acquit_keys, replaced_keys, repaired_keys, two_keys, report_keys, four_keys, object_entry, json_of, json_entry, without_return, is_json, content_entry, line_entry}
-use Rattle.fm_line.specs.Numbers.{is_numeral, number_of_word}
+use Rattle.fm_entry.specs.Decimals.{is_numeral, number_of_word}
 use Rattle.fm_line.specs.declared.fault.LineFault.TheVariants.{Json, Shape, Class, Path, Time, Value}
 
 -- the definitions by which a line computes

@@ -1,5 +1,5 @@
 -- The entry of a line has a spelling, if its payload has one.
-use Rattle.std.proofs.Common.{◌≡◌, ℕ, ◌<◌, ◌^◌, ◌∷◌, [], List, Bool, true, false, cond, Option, Some, None, Result, Ok, Err, IfSome, IsTrue, refl, ap, ◌∙◌, subst, arith, nat_lt, nat_eq, bytes_eq, codes, option_and_then, length, drop}
+use Rattle.std.proofs.Common.{◌≡◌, ℕ, ◌<◌, ◌^◌, ◌∷◌, [], List, Bool, true, false, cond, Option, Some, None, Result, Ok, Err, IfSome, IsTrue, refl, subst, nat_lt, nat_eq, codes, option_and_then, drop}
 use Rattle.std.specs.List.{before_first, after_first, starts_with}
 use Rattle.std.proofs.lemmas.Bool.{ltb-true}
 use Rattle.serde_json.specs.Data.{Data}
@@ -15,10 +15,10 @@ use Rattle.fm_entry.specs.declared.entry.Entry.{Entry}
 use Rattle.fm_entry.specs.Entries.{IsSpelled, IsCaseName}
 use Rattle.fm_line.specs.declared.fault.LineFault.{LineFault}
 use Rattle.fm_line.specs.declared.fault.LineFault.TheVariants.{Shape, TooLong, Json}
-use Rattle.fm_line.specs.CaseText.{is_slash, case_of, case_numbers, case_named}
-use Rattle.fm_line.specs.Forms.{text_of, is_ereport, class_in, path_in, case_in, moment_in, needed, report, tick, repaired, replaced, acquit, words, words_entry, two_words, three_words, four_words, key_count, one_key, acquit_keys, replaced_keys, repaired_keys, two_keys, report_keys, four_keys, object_entry, json_of, json_entry, without_return, is_json, content_entry, line_entry}
-use Rattle.fm_line.specs.Lines.{line_limit}
-use Rattle.fm_line.specs.Numbers.{as_below, as_moment, number_of_word, moment_of_word, is_numeral}
+use Rattle.fm_entry.specs.CaseText.{is_slash, case_of, case_numbers, case_named}
+use Rattle.fm_line.specs.Forms.{text_of, is_ereport, class_in, path_in, case_in, moment_in, needed, report, tick, repaired, replaced, acquit, words, words_entry, two_words, three_words, four_words, one_key, acquit_keys, replaced_keys, repaired_keys, two_keys, report_keys, four_keys, object_entry, json_of, json_entry, without_return, content_entry, line_entry}
+use Rattle.fm_entry.specs.Decimals.{as_below, number_of_word, is_numeral}
+use Rattle.fm_line.specs.Numbers.{as_moment, moment_of_word}
 use Rattle.fm_line.specs.Payload.{list_of}
 use Rattle.fm_line.specs.Sound.{HasSpelledPayload, HasReadPayload}
 use Rattle.fm_line.specs.Printed.{payload_data}

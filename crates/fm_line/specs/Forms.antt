@@ -1,5 +1,5 @@
 -- The entry that a line says, or its first fault: the forms of a line, over its bytes.
-use Rattle.std.specs.Prelude.{ℕ, ◌-◌, ◌^◌, ◌==◌, ◌&&◌, ◌||◌, not, Bool, true, false, List, [], ◌∷◌, length, take, codes, slice_index, nat_lt, find, if◌then◌else◌, Option, Some, None, option_and_then, Result, Ok, Err, bytes_eq}
+use Rattle.std.specs.Prelude.{ℕ, ◌-◌, ◌==◌, ◌&&◌, ◌||◌, not, Bool, true, false, List, [], ◌∷◌, length, take, codes, slice_index, nat_lt, find, if◌then◌else◌, Option, Some, None, option_and_then, Result, Ok, Err, bytes_eq}
 use Rattle.std.specs.List.{slice_split}
 use Rattle.std.specs.Str.{is_utf8}
 use Rattle.serde_json.specs.Data.{Data, null, boolean, number, string, array, object}
@@ -15,7 +15,7 @@ use Rattle.fm_nv.specs.Data.{Pairs, no_pairs}
 use Rattle.fm_entry.specs.declared.case_name.CaseName.{CaseName}
 use Rattle.fm_entry.specs.declared.entry.Entry.{Entry}
 use Rattle.fm_entry.specs.declared.entry.Entry.TheVariants.{Report, Tick, Repaired, Replaced, Acquit}
-use Rattle.fm_line.specs.CaseText.{case_named}
+use Rattle.fm_entry.specs.CaseText.{case_named}
 use Rattle.fm_line.specs.Lines.{line_limit}
 use Rattle.fm_line.specs.Numbers.{as_moment, moment_of_word}
 use Rattle.fm_line.specs.Payload.{list_of}

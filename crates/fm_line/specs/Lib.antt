@@ -1,5 +1,4 @@
 pub mod Blank
-pub mod CaseText
 pub mod Faults
 pub mod Forms
 pub mod Lines

@@ -5,7 +5,6 @@ use Rattle.fm_nv.specs.Spelled.{IsSpelledList}
 use Rattle.fm_entry.specs.declared.entry.Entry.{Entry}
 use Rattle.fm_entry.specs.declared.entry.Entry.TheVariants.{Report, Tick, Repaired, Replaced, Acquit}
 use Rattle.fm_line.specs.Forms.{json_of, line_entry}
-use Rattle.fm_line.specs.Lines.{line_limit}
 use Rattle.fm_line.specs.Payload.{list_of}
 use Rattle.fm_line.specs.Printed.{payload_data, json_report, report_data, line_text}
 
@@ -34,6 +33,10 @@ ReadsAsJson (Repaired path moment) = Unit {0}
 ReadsAsJson (Replaced path moment) = Unit {0}
 ReadsAsJson (Acquit case moment) = Unit {0}
 
--- If some line gives the entry, the line that is printed for it gives it too, as long as that is within the limit of a line.
+-- If some line gives the entry, the line that is printed for it gives it too.
 abbrev pub ReadsBack : Entry → Type 0
-ReadsBack entry = (line : List ℕ) → line_entry line ≡ Ok entry → length (line_text entry) ≤ line_limit → line_entry (line_text entry) ≡ Ok entry
+ReadsBack entry = (line : List ℕ) → line_entry line ≡ Ok entry → line_entry (line_text entry) ≡ Ok entry
+
+-- What is printed is no longer than any line that gives the entry.
+abbrev pub IsShortest : Entry → Type 0
+IsShortest entry = (line : List ℕ) → line_entry line ≡ Ok entry → length (line_text entry) ≤ length line

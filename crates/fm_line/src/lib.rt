@@ -23,7 +23,6 @@
 #![tactic(auto)]
 
 mod blank;
-mod case_text;
 mod data;
 mod fault;
 mod json_form;

@@ -4,11 +4,10 @@ ghost use Rattle.std.specs.Prelude.{◌≡◌, IfOk, option_map};
 ghost use Rattle.serde_json.specs.View.{view};
 ghost use Rattle.fm_line.specs.Forms.{text_of, class_in, path_in, case_in, moment_in, report, tick, repaired, replaced, acquit};
 
-use crate::case_text::read_case_name;
 use crate::fault::LineFault;
 use crate::no_memory::NoMemory;
 use crate::number::as_moment;
-use fm_entry::{CaseName, Entry};
+use fm_entry::{CaseName, Entry, read_case_name};
 use fm_name::{Category, Class, Fmri, read_class, read_fmri};
 use fm_nv::Nv;
 use serde_json::Value as Json;

@@ -9,13 +9,15 @@ use crate::number::read_moment;
 use crate::parts::{acquit, case_in, class_in, path_in, repaired, replaced, report, text_of, tick};
 use fm_entry::Entry;
 use fm_nv::Nv;
+use memchr::memchr;
 use std::alloc::Global;
 
 /// The place of the first space.
+#[tactic(auto, using(crate::proofs::First::first_place))]
 fn space_place(line: &[u8]) -> Option<usize>
     ensures { result ≡ position is_space line.now }
 {
-    line.iter().position(|b| *b == b' ')
+    memchr(b' ', line)
 }
 
 /// The first word of a line, and what stands after the space that ends it.

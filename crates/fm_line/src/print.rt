@@ -4,7 +4,7 @@ ghost use Rattle.std.specs.Prelude.{◌≡◌, ◌++◌, OnOk, OnErr, IfOk, stri
 ghost use Rattle.serde_json.specs.View.{view};
 ghost use Rattle.fm_entry.specs.declared.entry.Entry.TheVariants as Entry;
 ghost use Rattle.fm_line.specs.Forms.{json_of};
-ghost use Rattle.fm_line.specs.Sound.{ReadsAsJson, ReadsBack};
+ghost use Rattle.fm_line.specs.Sound.{IsShortest, ReadsAsJson, ReadsBack};
 ghost use Rattle.fm_line.specs.Printed.{line_text, payload_text, plain_report, report_data, json_report, report_line};
 
 use crate::data::list_json;
@@ -149,12 +149,12 @@ fn print_any(alloc: Global, entry: &Entry, out: &mut Vec<u8>) -> Result<(), NoMe
 }
 
 /// Appends the entry's line, without a newline: the plain form, or the JSON form where it is a report with
-/// a payload. The line of an entry that `read_line` gave reads as that entry, if it is no longer than a
-/// line may be.
+/// a payload. The line of an entry that `read_line` gave reads as that entry, and is no longer than what was read.
 pub fn print_line(alloc: Global, entry: &Entry, out: &mut Vec<u8>) -> Result<(), NoMemory>
     ensures ok { OnOk result (out.new.items ≡ out.old.items ++ line_text entry.now) }
     ensures err { OnErr result (out.new.items ≡ out.old.items) }
     ensures back { OnOk result (ReadsBack entry.now) }
+    ensures shortest { IsShortest entry.now }
 {
     prove_payload(entry);
     print_any(alloc, entry, out)

@@ -8,6 +8,7 @@ ghost use Rattle.std.specs.List.{before_first};
 ghost use Rattle.fm_line.specs.Lines.{is_newline, HasNoNewline, lines_from, grown, told, lines_told, taken_len};
 
 use crate::no_memory::NoMemory;
+use memchr::memchr;
 use std::alloc::Global;
 use std::marker::Model;
 
@@ -40,10 +41,11 @@ impl Model for Splitter {
 }
 
 /// The place of the first newline.
+#[tactic(auto, using(crate::proofs::First::first_place))]
 fn newline_place(piece: &[u8]) -> Option<usize>
     ensures { result ≡ position is_newline piece.now }
 {
-    piece.iter().position(|b| *b == b'\n')
+    memchr(b'\n', piece)
 }
 
 impl Splitter {

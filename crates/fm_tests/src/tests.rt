@@ -198,6 +198,90 @@ fn each_fault_of_a_line_has_its_number(rt: HostRuntime) -> Result<(), Fail> {
     faults_in_pieces(&rt, alloc, 1)
 }
 
+/// Lines of several kinds, the last without a newline.
+const MIXED: &str =
+    "tick 1\r\n \t\nhello\n{\"tick\":2}\nreport ereport.cpu.ue hc:///chassis=0 3\ntick 4";
+
+/// Asserts the answers to those lines, where the input comes in pieces of so many bytes.
+fn mixed_in_pieces(rt: &impl Abort, alloc: Global, piece: usize) -> Result<(), Fail> {
+    let mut disks = disks_of(alloc, b"", &[])?;
+    let outside = Outside { piece, ..WHOLE };
+    let text = "ok 0\nrefused 3 2\nok 1\nok 2\nok 3\n";
+    puts(
+        rt,
+        alloc,
+        &mut disks,
+        "accept",
+        MIXED.as_bytes(),
+        outside,
+        (ToolStatus::Done, text),
+    )
+}
+
+#[test]
+fn lines_are_the_same_however_the_input_is_cut(rt: HostRuntime) -> Result<(), Fail> {
+    for piece in 1..=MIXED.len() {
+        mixed_in_pieces(&rt, rt.alloc(), piece)?;
+    }
+    Ok(())
+}
+
+/// A report in the JSON form up to its payload.
+const FRONT: &str =
+    "{\"class\":\"ereport.cpu.ue\",\"path\":\"hc:///chassis=0/cpu=1\",\"time\":10000000000,\"payload\":";
+
+#[test]
+fn a_payload_is_kept_as_a_list(rt: HostRuntime) -> Result<(), Fail> {
+    let alloc = rt.alloc();
+    let mut disks = disks_of(alloc, b"", &[])?;
+    let input = format!(in alloc; "{FRONT}{{\"bank\":3,\"ena\":17}}}}\n")?;
+    let told = (ToolStatus::Done, "ok 0\n");
+    puts(
+        &rt,
+        alloc,
+        &mut disks,
+        "accept",
+        input.as_bytes(),
+        WHOLE,
+        told,
+    )?;
+    let journal = bytes_of(alloc, &mut disks.err_a)?;
+    let want =
+        b"FMAJRNL1\0\0\0\0\0\0\0\0\x01\0\0\0\x4d\x01\0\x0eereport.cpu.ue\0\x15hc:///chassis=0/cpu=1\0\0\0\x02\x54\x0b\xe4\0\0\x02\x04bank\x02\0\0\0\0\0\0\0\x03\x03ena\x02\0\0\0\0\0\0\0\x11\0";
+    assert_eq!(rt; journal.as_slice(), want.as_slice());
+    Ok(())
+}
+
+/// Payloads of eight and of nine objects, one in the other.
+const EIGHT: &str = "{\"a\":{\"a\":{\"a\":{\"a\":{\"a\":{\"a\":{\"a\":{}}}}}}}}";
+
+const NINE: &str = "{\"a\":{\"a\":{\"a\":{\"a\":{\"a\":{\"a\":{\"a\":{\"a\":{}}}}}}}}}";
+
+/// Adds a report whose payload has so many arrays, one in the other.
+fn push_arrays(alloc: Global, input: &mut Vec<u8>, count: usize) -> Result<(), Fail> {
+    input.extend_from_slice(FRONT.as_bytes())?;
+    input.extend_from_slice(b"{\"x\":")?;
+    input.extend_from_slice(&vec![in alloc; b'['; count]?)?;
+    input.extend_from_slice(&vec![in alloc; b']'; count]?)?;
+    input.extend_from_slice(b"}}\n")?;
+    Ok(())
+}
+
+#[test]
+fn deep_payloads_are_refused(rt: HostRuntime) -> Result<(), Fail> {
+    let alloc = rt.alloc();
+    let mut input = Vec::new(alloc);
+    input.extend_from_slice(format!(in alloc; "{FRONT}{EIGHT}}}\n{FRONT}{NINE}}}\n")?.as_bytes())?;
+    push_arrays(alloc, &mut input, 2)?;
+    push_arrays(alloc, &mut input, 130)?;
+    let mut disks = disks_of(alloc, b"", &[])?;
+    let told = (
+        ToolStatus::Done,
+        "ok 0\nrefused 2 6\nrefused 3 6\nrefused 4 1\n",
+    );
+    puts(&rt, alloc, &mut disks, "accept", &input, WHOLE, told)
+}
+
 #[test]
 fn a_second_run_goes_on(rt: HostRuntime) -> Result<(), Fail> {
     let alloc = rt.alloc();

@@ -20,6 +20,7 @@ use fm_journal::FullKind;
 use fm_outer::{Sink, Source};
 use std::alloc::{AllocError, Global};
 use std::fmt::Write;
+use std::mem;
 
 /// The most entries of a core.
 const MAX_ENTRIES: u64 = 1 << 46;
@@ -160,5 +161,8 @@ pub(crate) fn replay<S: Source, K: Sink>(
 {
     let mut core = fresh_core(alloc)?;
     run(alloc, false, input, out, &mut core)?;
-    put_summary(alloc, &mut core, out)
+    let done = put_summary(alloc, &mut core, out);
+    // The run ends here: millions of texts are left to the system, and not given back one by one.
+    mem::forget(core);
+    done
 }

@@ -4,3 +4,11 @@ pub mod Pieces
 pub mod Printing
 pub mod Stepping
 pub mod Meanings
+pub mod Maps
+pub mod Cuts
+pub mod Pairs
+pub mod Parents
+pub mod Places
+pub mod Round
+pub mod Kept
+pub mod Codes

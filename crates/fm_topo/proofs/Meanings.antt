@@ -1,5 +1,5 @@
 -- The words of a line.
-use Rattle.std.proofs.Common.{◌≡◌, ◌<◌, ◌≤◌, ◌+◌, ◌-◌, ◌^◌, ℕ, Bool, true, false, ◌&&◌, ◌||◌, List, [], ◌∷◌, length, take, drop, refl, arith, ap, sym, ◌∙◌, subst, IsTrue, Option, Some, None, Result, Ok, Err, nat_lt, nat_le, slice_index}
+use Rattle.std.proofs.Common.{◌≡◌, ◌<◌, ◌+◌, ◌^◌, ℕ, Bool, true, false, ◌&&◌, ◌||◌, List, [], ◌∷◌, length, refl, arith, ap, sym, ◌∙◌, Option, Some, None, Result, Ok, Err, nat_lt, slice_index}
 use Rattle.std.specs.Prelude.{◌==◌, if◌then◌else◌}
 use Rattle.std.specs.Char.{is_ascii_digit}
 use Rattle.std.specs.List.{list_all, position_or_len, before_first, after_first}
@@ -21,7 +21,7 @@ use Rattle.fm_topo.specs.declared.values.TopoValue.TheVariants.{Number, Text}
 own : IsNumeralModel (λ ds. all_ascii_digits ds ≡ true) (digits_value 10)
 own = numerals_by_value _ tells_all_ascii_digits
 
-all_digits : (bs : List ℕ) → list_all is_ascii_digit bs ≡ all_ascii_digits bs
+pub all_digits : (bs : List ℕ) → list_all is_ascii_digit bs ≡ all_ascii_digits bs
 all_digits [] = refl
 all_digits (b ∷ bs) = ap (λ r. is_ascii_digit b && r) (all_digits bs)
 

@@ -1,16 +1,14 @@
 -- Lines and their pieces.
-use Rattle.std.proofs.Common.{◌≡◌, ◌<◌, ◌≤◌, ◌+◌, ◌-◌, ℕ, zero, suc, Bool, true, false, not, cond, ◌&&◌, ◌||◌, List, [], ◌∷◌, ◌++◌, length, take, drop, get_or, refl, arith, ap, sym, ◌∙◌, subst, IsTrue, Option, Some, None, add-one, one-add, nat_lt, ⊎_elim}
-use Rattle.std.specs.Prelude.{◌==◌, position, if◌then◌else◌}
-use Rattle.std.specs.List.{list_all, list_any, position_or_len, before_first, after_first, onto_first}
+use Rattle.std.proofs.Common.{◌≡◌, ◌<◌, ◌≤◌, ◌+◌, ◌-◌, ℕ, zero, suc, Bool, true, false, not, cond, ◌&&◌, List, [], ◌∷◌, length, take, drop, refl, arith, ap, sym, ◌∙◌, add-one, one-add}
+use Rattle.std.specs.Prelude.{◌==◌, if◌then◌else◌}
+use Rattle.std.specs.List.{list_all, list_any, position_or_len, after_first, onto_first}
 use Rattle.std.specs.Str.{IsUtf8, IsAscii}
 use Rattle.std.proofs.lemmas.Grind.{common_steps}
-use Rattle.std.proofs.lemmas.Bool.{cases_lt}
-use Rattle.std.proofs.lemmas.List.Sums.{prefix_len-le-length}
 use Rattle.std.proofs.lemmas.Str.{IsUtf8-from_ascii}
 use Rattle.std.proofs.lemmas.Str.Ascii.{IsAscii-nil, IsAscii-cons}
 use Rattle.std.proofs.Math.Seq.{take-length}
 use Rattle.fm_topo.specs.Line.{is_clean_byte, words_from, path_of, words_of}
-use Rattle.fm_topo.specs.Word.{word_end, words_left}
+use Rattle.fm_topo.specs.Word.{word_end}
 use Rattle.fm_topo.specs.Fault.{parent_of}
 
 -- ---- clean bytes

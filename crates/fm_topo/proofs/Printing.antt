@@ -1,6 +1,5 @@
 -- What is printed piece by piece.
-use Rattle.std.proofs.Common.{◌≡◌, ℕ, List, [], ◌∷◌, ◌++◌, map, refl, ap, sym, ◌∙◌, append_assoc, append-nil, length, arith}
-use Rattle.std.specs.List.{join_with_byte}
+use Rattle.std.proofs.Common.{◌≡◌, ℕ, List, [], ◌∷◌, ◌++◌, ap, sym, ◌∙◌, append_assoc, append-nil, length, arith}
 use Rattle.fm_topo.specs.Topology.{Topology}
 use Rattle.fm_topo.specs.Property.{Properties}
 use Rattle.fm_topo.specs.Printed.{line_text, rest_text, topology_text}

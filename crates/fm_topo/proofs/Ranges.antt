@@ -1,5 +1,5 @@
 -- The paths under a path stand together.
-use Rattle.std.proofs.Common.{◌≡◌, ◌<◌, ◌≤◌, ◌+◌, ℕ, zero, suc, Bool, true, false, ◌&&◌, List, [], ◌∷◌, ◌++◌, length, take, drop, refl, arith, ap, sym, ◌∙◌, subst, ◌-◌, ◌⊎◌, inl, inr, get_or, nat_lt, ⊎_elim, length-drop}
+use Rattle.std.proofs.Common.{◌≡◌, ◌<◌, ◌≤◌, ◌+◌, ℕ, zero, suc, Bool, true, false, ◌&&◌, List, [], ◌∷◌, length, take, drop, refl, arith, ap, sym, ◌∙◌, subst, ◌-◌, ◌⊎◌, inl, inr, get_or, nat_lt, ⊎_elim, length-drop}
 use mathlib.Core.Bool.{true≢false}
 use Rattle.std.specs.Prelude.{◌==◌}
 use Rattle.std.specs.Str.{bytes_eq}
@@ -8,7 +8,7 @@ use Rattle.std.proofs.Math.Nat.{eq-or-lt_of_le}
 use Rattle.std.specs.declared.cmp.Ordering.{Ordering}
 use Rattle.std.specs.declared.cmp.Ordering.TheVariants.{Less, Equal, Greater}
 use Rattle.std.specs.Ordering.{is_le, is_gt, ordering_then, ordering_reverse}
-use Rattle.std.specs.Cmp.{IsTotalOrder, tied_itself, alike_right, upto}
+use Rattle.std.specs.Cmp.{tied_itself, upto}
 use Rattle.std.specs.List.{AllWithin, filter, count_by}
 use Rattle.std.specs.List.Sorted.{IsStrictlySortedBy}
 use Rattle.std.specs.Map.{keys_of}

@@ -1,29 +1,28 @@
 -- One line further in a text.
-use Rattle.std.proofs.Common.{◌≡◌, ◌<◌, ◌≤◌, ◌+◌, ◌-◌, ℕ, zero, suc, min, Bool, true, false, not, ◌&&◌, ◌||◌, List, [], ◌∷◌, ◌++◌, length, take, drop, refl, arith, ap, sym, ◌∙◌, subst, Option, Some, None, slice_get, add-one, nat_lt, ⊎_elim, length-drop}
+use Rattle.std.proofs.Common.{◌≡◌, ◌<◌, ◌≤◌, ◌+◌, ◌-◌, ℕ, zero, suc, min, Bool, true, false, not, ◌||◌, List, [], ◌∷◌, ◌++◌, length, take, drop, refl, arith, ap, sym, ◌∙◌, subst, Option, Some, None, slice_get, add-one, nat_lt, ⊎_elim, length-drop}
 use Rattle.std.specs.Prelude.{◌==◌, if◌then◌else◌, unwrap_or, sum_by, fold}
-use Rattle.std.specs.List.{list_all, slice_split, position_or_len, before_first, after_first}
+use Rattle.std.specs.List.{list_all, position_or_len}
 use Rattle.std.proofs.lemmas.Grind.{common_steps}
 use Rattle.std.proofs.lemmas.Bool.{cases_lt}
 use Rattle.std.proofs.Math.Seq.{take-length}
 use Rattle.std.proofs.lemmas.List.{length-take-le}
 use Rattle.fm_name.proofs.Cutting.{split_none, cut_some}
-use Rattle.fm_topo.specs.Line.{lines_of, content_of, end_of, is_clean_byte, is_skipped}
+use Rattle.fm_topo.specs.Line.{lines_of, content_of, end_of, is_clean_byte}
 use Rattle.fm_topo.specs.Topology.{Topology, with_line, lines_topology, topology_of}
-use Rattle.fm_topo.specs.Fault.{line_fault, entry_fault, fault_at, IsCleanBefore, IsClean, IsFirstFault}
+use Rattle.fm_topo.specs.Fault.{line_fault, fault_at, IsCleanBefore, IsClean, IsFirstFault}
 use Rattle.fm_topo.specs.Reading.{IsAt}
 use Rattle.fm_topo.specs.declared.faults.TopoKind.{TopoKind}
 use Rattle.fm_topo.specs.declared.faults.TopoKind.TheVariants.{Bytes, Length}
-use Rattle.fm_topo.specs.declared.faults.TopoFault.{TopoFault}
 use Rattle.fm_topo.specs.declared.faults.TopoFault.TheVariants.{At}
 
 -- ---- a list at a place
-get_drop : {X : Type 0} (n : ℕ) (xs ys : List X) (y : X) → drop n xs ≡ y ∷ ys → slice_get xs n ≡ Some y
+pub get_drop : {X : Type 0} (n : ℕ) (xs ys : List X) (y : X) → drop n xs ≡ y ∷ ys → slice_get xs n ≡ Some y
 get_drop zero [] ys y e = cc
 get_drop zero (x ∷ xs) ys y e = let k : x ≡ y = cc in ap Some k
 get_drop (suc n) [] ys y e = cc
 get_drop (suc n) (x ∷ xs) ys y e = get_drop n xs ys y e
 
-take_more : {X : Type 0} (n : ℕ) (xs ys : List X) (y : X) → drop n xs ≡ y ∷ ys → take (suc n) xs ≡ take n xs ++ (y ∷ [])
+pub take_more : {X : Type 0} (n : ℕ) (xs ys : List X) (y : X) → drop n xs ≡ y ∷ ys → take (suc n) xs ≡ take n xs ++ (y ∷ [])
 take_more zero [] ys y e = cc
 take_more zero (x ∷ xs) ys y e = let k : x ≡ y = cc in ap (λ z. z ∷ []) k
 take_more (suc n) [] ys y e = cc
@@ -41,7 +40,7 @@ size_drop zero (x ∷ xs) ys y e = let k : xs ≡ ys = cc in omega (arith, ap le
 size_drop (suc n) [] ys y e = cc
 size_drop (suc n) (x ∷ xs) ys y e = omega (arith, size_drop n xs ys y e)
 
-fold_push : {A B : Type 0} (f : B → A → B) (a : B) (xs : List A) (y : A) → fold f a (xs ++ (y ∷ [])) ≡ f (fold f a xs) y
+pub fold_push : {A B : Type 0} (f : B → A → B) (a : B) (xs : List A) (y : A) → fold f a (xs ++ (y ∷ [])) ≡ f (fold f a xs) y
 fold_push f a [] y = refl
 fold_push f a (x ∷ xs) y = fold_push f (f a x) xs y
 

@@ -1,11 +1,11 @@
 -- The faults of topology texts.
-use Rattle.std.specs.Prelude.{◌≡◌, ℕ, Bool, not, ◌&&◌, ◌||◌, ◌+◌, ◌<◌, nat_lt, nat_le, List, [], ◌∷◌, length, take, slice_get, unwrap_or, Option, Some, None, Result, Ok, Err, if◌then◌else◌}
+use Rattle.std.specs.Prelude.{◌≡◌, ℕ, Bool, not, ◌&&◌, ◌||◌, ◌+◌, ◌<◌, nat_lt, nat_le, List, [], ◌∷◌, length, take, slice_get, unwrap_or, Option, Some, None, if◌then◌else◌}
 use Rattle.std.specs.List.{list_all, list_any}
 use Rattle.std.specs.Prelude.{◌==◌}
 use Rattle.fm_name.specs.Path.{is_path, parts_of}
 use Rattle.fm_topo.specs.Line.{lines_of, content_of, end_of, is_clean_byte, is_skipped, path_of, words_of}
 use Rattle.fm_topo.specs.Property.{is_property, properties_of}
-use Rattle.fm_topo.specs.Topology.{Topology, has_path, lines_topology, topology_of}
+use Rattle.fm_topo.specs.Topology.{Topology, has_path, lines_topology}
 use Rattle.fm_topo.specs.declared.faults.TopoKind.{TopoKind}
 use Rattle.fm_topo.specs.declared.faults.TopoKind.TheVariants.{Path, Property, Twice, Parent, Length, Count, Bytes}
 use Rattle.fm_topo.specs.declared.faults.TopoFault.{TopoFault}

@@ -7,3 +7,5 @@ pub mod Query
 pub mod Word
 pub mod Stop
 pub mod Reading
+pub mod Lawful
+pub mod Code

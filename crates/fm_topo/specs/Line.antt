@@ -1,5 +1,5 @@
 -- The lines of a topology text, and the words of a line.
-use Rattle.std.specs.Prelude.{ℕ, Bool, true, false, not, ◌&&◌, ◌||◌, ◌==◌, ◌-◌, ◌+◌, min, nat_lt, nat_le, List, [], ◌∷◌, length, take, slice_index, sum_by, if◌then◌else◌}
+use Rattle.std.specs.Prelude.{ℕ, Bool, false, not, ◌&&◌, ◌||◌, ◌==◌, ◌-◌, ◌+◌, min, nat_lt, nat_le, List, [], ◌∷◌, length, take, slice_index, sum_by, if◌then◌else◌}
 use Rattle.std.specs.List.{slice_split, onto_first, list_all, list_any, before_first, after_first}
 
 -- the parts of a text between its newlines; behind a last newline stands an empty line, which says nothing

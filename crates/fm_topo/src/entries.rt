@@ -11,11 +11,12 @@ ghost use Rattle.fm_topo.specs.Word.{words_left};
 
 use crate::bytes::{content, cut_line, cut_word, is_clean, parent, skips, text_of};
 use crate::faults::TopoKind;
+use crate::keys::Key;
 use crate::no_memory::NoMemory;
 use crate::properties::Properties;
 use crate::values::{TopoText, TopoValue};
 use crate::words::read_property;
-use fm_name::{Fmri, read_fmri};
+use fm_name::read_fmri;
 use std::alloc::Global;
 use std::collections::BTreeMap;
 
@@ -110,26 +111,28 @@ fn read_words(alloc: Global, text: Option<&[u8]>) -> Result<Option<Pairs>, NoMem
 }
 
 /// The path that a text of a line is, where it is one.
-fn read_path(alloc: Global, text: &[u8]) -> Result<Option<Fmri>, NoMemory>
+fn read_path(alloc: Global, text: &[u8]) -> Result<Option<Key>, NoMemory>
     requires { IsTrue (list_all is_clean_byte text.now) }
     ensures { IfOk result (λ found. found ≡ (if is_path text.now then Some text.now else None)) }
 {
-    let path = read_fmri(alloc, text_of(text))?;
-    Ok(path)
+    match read_fmri(alloc, text_of(text))? {
+        Some(path) => Ok(Some(Key::new(alloc, path)?)),
+        None => Ok(None),
+    }
 }
 
 /// Whether a path wants a parent that is not there; `text` is its text.
 fn lacks(
     alloc: Global,
-    found: &BTreeMap<Fmri, Properties>,
-    path: &Fmri,
+    found: &BTreeMap<Key, Properties>,
+    path: &Key,
     text: &[u8],
 ) -> Result<bool, NoMemory>
     requires same { text.now ≡ path.now }
     requires clean { IsTrue (list_all is_clean_byte text.now) }
     ensures { IfOk result (λ lacks. lacks ≡ lacks_parent found.now.entries path.now) }
 {
-    if path.depth() < 2 {
+    if path.path().depth() < 2 {
         return Ok(false);
     }
     match read_path(alloc, parent(text))? {
@@ -138,12 +141,25 @@ fn lacks(
     }
 }
 
+/// Whether a path is among those found. One comparison tells it of a path behind all of them, as each is where
+/// the lines are in path order.
+fn is_found(found: &BTreeMap<Key, Properties>, path: &Key) -> bool
+    ensures { result ≡ has_path found.now.entries path.now }
+{
+    if let Some((last, _)) = found.last_key_value() {
+        if last.cmp(path).is_lt() {
+            return false;
+        }
+    }
+    found.contains_key(path)
+}
+
 /// The fault of a path with properties among those of earlier lines.
 #[tactic(auto, unfolding(crate::specs::Fault::set_fault))]
 fn fault_of(
     alloc: Global,
-    found: &BTreeMap<Fmri, Properties>,
-    path: &Fmri,
+    found: &BTreeMap<Key, Properties>,
+    path: &Key,
     text: &[u8],
     pairs: &Pairs,
 ) -> Result<Option<TopoKind>, NoMemory>
@@ -151,7 +167,7 @@ fn fault_of(
     requires clean { IsTrue (list_all is_clean_byte text.now) }
     ensures { IfOk result (λ fault. fault ≡ set_fault found.now.entries path.now (length pairs.now.map.entries) pairs.now.count) }
 {
-    if found.contains_key(path) || pairs.map.len() < pairs.count {
+    if is_found(found, path) || pairs.map.len() < pairs.count {
         return Ok(Some(TopoKind::Twice));
     }
     if lacks(alloc, found, path, text)? {
@@ -178,9 +194,9 @@ fn properties_from(
 #[tactic(auto, unfolding(crate::specs::Fault::entry_fault))]
 fn read_entry(
     alloc: Global,
-    found: &BTreeMap<Fmri, Properties>,
+    found: &BTreeMap<Key, Properties>,
     content: &[u8],
-) -> Result<(Fmri, Properties), Stop>
+) -> Result<(Key, Properties), Stop>
     requires { IsTrue (list_all is_clean_byte content.now) }
     ensures ok { IfOk result (λ entry. (entry_fault found.now.entries (path_of content.now) (words_of content.now) ≡ None)
         × (entry.0 ≡ path_of content.now) × (entry.1 ≡ properties_of (words_of content.now))) }
@@ -204,7 +220,7 @@ fn read_entry(
 #[tactic(auto, unfolding(crate::specs::Fault::line_fault, crate::specs::Topology::with_line))]
 pub fn take_line(
     alloc: Global,
-    found: &mut BTreeMap<Fmri, Properties>,
+    found: &mut BTreeMap<Key, Properties>,
     line: &[u8],
     last: usize,
 ) -> Result<(), Stop>

@@ -1,4 +1,5 @@
-ghost use Rattle.std.specs.Prelude.{◌≡◌, ◌∷◌, ◌++◌, [], decimal, OnOk, OnErr};
+ghost use Rattle.std.specs.Prelude.{◌≡◌, ◌≤◌, ◌∷◌, ◌++◌, [], ℕ, List, length, decimal, OnOk, OnErr};
+ghost use Rattle.fm_topo.specs.Lawful.{ReadsAs};
 ghost use Rattle.fm_topo.specs.Printed.{value_text, properties_text, line_text, rest_text, topology_text};
 
 use crate::no_memory::NoMemory;
@@ -93,10 +94,13 @@ fn add_places(places: &[(Fmri, Properties)], out: &mut Vec<u8>) -> Result<(), No
     }
 }
 
-/// Writes a topology behind what `out` holds: a line for each path, with a newline between two lines. After
-/// `NoMemory` it holds what it held.
+/// Writes a topology behind what `out` holds: a line for each path, with a newline between two lines. What it
+/// writes reads as the topology, and no text that does so is shorter. After `NoMemory` `out` holds what it held.
+#[tactic(auto, using(crate::proofs::Round::reads_back, crate::proofs::Kept::shortest))]
 pub fn print_topo(topo: &Topo, out: &mut Vec<u8>) -> Result<(), NoMemory>
     ensures ok { OnOk result (out.new.items ≡ out.old.items ++ topology_text topo.now) }
+    ensures reads { OnOk result (ReadsAs (topology_text topo.now) topo.now) }
+    ensures short { OnOk result ((text : List ℕ) → ReadsAs text topo.now → length (topology_text topo.now) ≤ length text) }
     ensures err { OnErr result (out.new.items ≡ out.old.items) }
 {
     let mut text = Vec::new(*out.allocator());

@@ -1,23 +1,28 @@
 ghost use Rattle.std.specs.Prelude.{◌≡◌, ◌+◌, ◌≤◌, ◌<◌, ⊤, length, IfOk, IfErr, OnOk, MatchOption};
 ghost use Rattle.fm_topo.specs.Fault.{IsClean, IsFirstFault};
+ghost use Rattle.fm_topo.specs.Lawful.{IsTopology};
 ghost use Rattle.fm_topo.specs.Reading.{IsAt};
 ghost use Rattle.fm_topo.specs.Topology.{topology_of};
 
 use crate::bytes::find_byte;
 use crate::entries::{Stop, take_line};
 use crate::faults::TopoFault;
+use crate::keys::Key;
 use crate::no_memory::NoMemory;
 use crate::properties::Properties;
 use crate::topo::Topo;
-use fm_name::Fmri;
 use std::alloc::Global;
 use std::collections::BTreeMap;
 
 /// The places of a map as a topology.
-fn topology_from(alloc: Global, found: BTreeMap<Fmri, Properties>) -> Result<Topo, NoMemory>
+fn topology_from(alloc: Global, found: BTreeMap<Key, Properties>) -> Result<Topo, NoMemory>
+    requires { IsTopology found.entries }
     ensures { IfOk result (λ topo. topo ≡ found.entries) }
 {
-    let places = found.into_iter().collect(alloc)?;
+    let mut places = Vec::new(alloc);
+    for (key, properties) in found {
+        places.push((key.into_path(), properties))?;
+    }
     Ok(Topo::from_vec(places))
 }
 
@@ -26,7 +31,7 @@ fn topology_from(alloc: Global, found: BTreeMap<Fmri, Properties>) -> Result<Top
 fn step<'a>(
     alloc: Global,
     text: &[u8],
-    found: &mut BTreeMap<Fmri, Properties>,
+    found: &mut BTreeMap<Key, Properties>,
     rest: &'a [u8],
     number: u32,
 ) -> Result<Option<&'a [u8]>, TopoFault>
@@ -54,9 +59,11 @@ fn step<'a>(
 }
 
 /// Reads a topology text, or answers its first fault.
+#[tactic(auto, using(crate::proofs::Kept::lawful))]
 pub fn read_topo(alloc: Global, text: &[u8]) -> Result<Topo, TopoFault>
     ensures clean { OnOk result (IsClean text.now) }
     ensures same { IfOk result (λ topo. topo ≡ topology_of text.now) }
+    ensures lawful { IfOk result IsTopology }
     ensures fault { IfErr result (IsFirstFault text.now) }
 {
     let mut found = BTreeMap::new(alloc);

@@ -1,9 +1,9 @@
 ghost use Rattle.std.specs.Prelude.{◌≡◌, ◌+◌, ◌<◌, ◌≤◌, length, take, drop, filter, count_by, IfOk, Some, slice_get, map, option_copied};
 ghost use Rattle.std.specs.Ordering.{is_le};
-ghost use Rattle.std.specs.List.Sorted.{IsStrictlySortedBy};
 ghost use Rattle.std.specs.Map.{keys_of};
-ghost use Rattle.fm_name.specs.Order.{path_cmp, parts_cmp};
+ghost use Rattle.fm_name.specs.Order.{parts_cmp};
 ghost use Rattle.fm_name.specs.Path.{parts_of};
+ghost use Rattle.fm_topo.specs.Lawful.{IsTopology};
 ghost use Rattle.fm_topo.specs.Query.{lies_under, property_at};
 ghost use Rattle.fm_topo.specs.Topology.{properties_at, has_path};
 
@@ -20,22 +20,20 @@ pub struct Topo {
 }
 
 impl Model for Topo {
-    ghost use Rattle.std.specs.List.Sorted.{IsStrictlySortedBy};
-    ghost use Rattle.std.specs.Map.{keys_of};
-    ghost use Rattle.fm_name.specs.Order.{path_cmp};
     ghost use Rattle.fm_topo.specs.Topology.{Topology};
+    ghost use Rattle.fm_topo.specs.Lawful.{IsTopology};
 
     ghost Value = { Topology };
 
     ghost view = { λ t. t.places.items };
 
-    ghost invariant = { λ t. IsStrictlySortedBy path_cmp (keys_of t.places.items) };
+    ghost invariant = { λ t. IsTopology t.places.items };
 }
 
 impl Topo {
     /// The places as a topology.
     pub(crate) fn from_vec(places: Vec<(Fmri, Properties)>) -> Topo
-        requires { IsStrictlySortedBy path_cmp (keys_of places.items) }
+        requires { IsTopology places.items }
         ensures { result ≡ places.items }
     {
         Topo { places }
@@ -43,7 +41,8 @@ impl Topo {
 
     /// The places, in path order.
     pub(crate) fn places(&self) -> &[(Fmri, Properties)]
-        ensures { result.now ≡ self.now }
+        ensures same { result.now ≡ self.now }
+        ensures lawful { IsTopology self.now }
     {
         self.places.as_slice()
     }

@@ -1,6 +1,6 @@
 // A module behind a box is a module too, and hands and cores work over such objects with all that they
 // promise.
-ghost use Rattle.std.specs.Prelude.{◌≡◌, ◌<◌, ◌^◌, length, IfSome, OnOk};
+ghost use Rattle.std.specs.Prelude.{◌≡◌, ◌+◌, ◌<◌, ◌^◌, length, IfSome, OnOk};
 ghost use Rattle.fm_entry.specs.Entries.{IsSpelled};
 ghost use Rattle.fm_core.specs.Hands.{shown, stepped};
 ghost use Rattle.fm_core.specs.Book.{worked};
@@ -76,6 +76,26 @@ pub fn work_loaded(alloc: Global, core: &mut Core<Loaded>, module: u32) -> Resul
     requires lawful { IsCore (seen ⟦<Loaded as Module>⟧.meaning ⟦<Loaded as Module>⟧.state core.old) }
     ensures worked { OnOk result (book_of (seen ⟦<Loaded as Module>⟧.meaning ⟦<Loaded as Module>⟧.state core.new) ≡ worked (book_of (seen ⟦<Loaded as Module>⟧.meaning ⟦<Loaded as Module>⟧.state core.old)) «module») }
     ensures lawful { IsCore (seen ⟦<Loaded as Module>⟧.meaning ⟦<Loaded as Module>⟧.state core.new) }
+    ensures modules { length core.new.hands ≡ length core.old.hands }
 {
     core.work(alloc, module)
+}
+
+/// A core of one boxed object that has taken nothing.
+pub fn core_of_one(alloc: Global, own: Loaded, kept: Loaded) -> Option<Core<Loaded>>
+    requires own { (⟦<Loaded as Module>⟧.meaning own).own ≡ 0 }
+    requires meanings { ⟦<Loaded as Module>⟧.meaning own ≡ ⟦<Loaded as Module>⟧.meaning kept }
+    requires states { ⟦<Loaded as Module>⟧.state own ≡ ⟦<Loaded as Module>⟧.state kept }
+    ensures lawful { IfSome result (λ core. IsCore (seen ⟦<Loaded as Module>⟧.meaning ⟦<Loaded as Module>⟧.state core)) }
+    ensures one { IfSome result (λ core. length core.hands ≡ 1) }
+    ensures empty { IfSome result (λ core. core.base + length core.entries ≡ 0) }
+{
+    let mut hands = Vec::new(alloc);
+    hands.push(Hand::new(0, 0, own)).ok()?;
+    let mut before = Vec::new(alloc);
+    before.push(Hand::new(0, 0, kept)).ok()?;
+    match Core::new(alloc, 0, hands, before) {
+        Ok(core) => Some(core),
+        Err(_) => None,
+    }
 }

@@ -1,6 +1,6 @@
-use Rattle.std.proofs.Common.{◌≡◌, ◌≤◌, ◌∙◌, sym, ap, subst}
+use Rattle.std.proofs.Common.{◌≤◌, ◌∙◌, sym, ap, subst}
 use Rattle.std.specs.List.{slice_get}
-use Rattle.fm_core.specs.Counts.{count_of, total_of}
+use Rattle.fm_core.specs.Counts.{total_of}
 use Rattle.fm_core.specs.Places.{standing_count}
 use Rattle.fm_core.proofs.Tallies.{count_is, count_fits}
 use Rattle.fm_core.proofs.counting.count_at.Goals as goal

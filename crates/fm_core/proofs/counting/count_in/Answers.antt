@@ -1,4 +1,4 @@
-use Rattle.std.proofs.Common.{◌≡◌, ◌+◌, ◌<◌, ◌^◌, rules, ◌≤◌, ℕ, List, length, ◌∙◌, sym, ap, subst}
+use Rattle.std.proofs.Common.{◌+◌, ◌<◌, ◌^◌, rules, ◌≤◌, length, ◌∙◌, sym, ap, subst}
 use Rattle.std.specs.Prelude.{insert}
 use Rattle.std.specs.List.{slice_get}
 use Rattle.fm_core.specs.Places.{is_standing}

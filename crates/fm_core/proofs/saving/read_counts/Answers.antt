@@ -1,6 +1,6 @@
-use Rattle.std.proofs.Common.{◌≡◌, ◌+◌, ◌<◌, ◌≤◌, ◌∙◌, ℕ, List, Some, ap, sym, subst, length, arith}
+use Rattle.std.proofs.Common.{◌≡◌, ◌<◌, ◌≤◌, ◌∙◌, ap, sym, subst, length, arith}
 use Rattle.std.proofs.lemmas.Result.{err_from_is_err_and}
-use Rattle.std.specs.Prelude.{◌&&◌, nat_le, ◌^◌, true, false}
+use Rattle.std.specs.Prelude.{◌&&◌, nat_le, ◌^◌}
 use Rattle.fm_nv.specs.Numbers.{AllBytes}
 use Rattle.fm_nv.specs.Reading.{number_from}
 use Rattle.fm_core.specs.Counts.{is_ordered, total_of}

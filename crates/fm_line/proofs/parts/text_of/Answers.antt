@@ -1,4 +1,3 @@
-use Rattle.std.proofs.Common.{◌≡◌}
 use Rattle.fm_line.proofs.Texts.{text_of_text, text_of_none}
 use Rattle.fm_line.proofs.parts.text_of.Goals as goal
 

@@ -1,4 +1,4 @@
-use Rattle.std.proofs.Common.{◌≡◌, ◌∙◌, ap, Some}
+use Rattle.std.proofs.Common.{◌∙◌, ap, Some}
 use Rattle.fm_nv.specs.Data.{add}
 use Rattle.fm_nv.specs.Refusal.{refusal}
 use Rattle.fm_nv.specs.View.{datum}

@@ -1,5 +1,4 @@
-use Rattle.std.proofs.Common.{◌≡◌, ◌∙◌, ◌+◌, ◌-◌, ◌∷◌, sym, ap, take, drop, length, length-drop}
-use Rattle.std.proofs.Math.Seq.{take-length}
+use Rattle.std.proofs.Common.{◌∙◌, ◌+◌, ◌∷◌, sym, ap, take}
 use Rattle.fm_line.specs.Forms.{words}
 use Rattle.fm_line.proofs.Cuts.{words_none, words_at, drop_whole}
 use Rattle.fm_line.proofs.plain.cut_word.Goals as goal

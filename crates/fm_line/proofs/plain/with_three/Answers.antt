@@ -1,4 +1,4 @@
-use Rattle.std.proofs.Common.{◌≡◌, ◌∷◌, ◌∙◌, ap, option_map}
+use Rattle.std.proofs.Common.{◌∷◌, ◌∙◌, ap, option_map}
 use Rattle.fm_line.specs.Forms.{words_entry, words_after}
 use Rattle.fm_line.proofs.Cuts.{words_past}
 use Rattle.fm_line.proofs.plain.with_three.Goals as goal

@@ -1,4 +1,4 @@
-use Rattle.std.proofs.Common.{◌≡◌, ◌∙◌, ap}
+use Rattle.std.proofs.Common.{◌∙◌, ap}
 use Rattle.serde_json.specs.Written.{compact_text, has_float}
 use Rattle.fm_line.proofs.Floatless.{payload_floatless}
 use Rattle.fm_line.proofs.print.payload_line.Goals as goal

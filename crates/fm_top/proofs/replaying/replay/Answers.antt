@@ -12,15 +12,15 @@ returns-in_err-run-clause-until g c =
     let p = err_from_is_err_and c.from_residual-in_err-run.result c.from_residual-in_err-run.ensures.1 in
     rw (p.1, p.2) (replay_until c.in_ok-core.core c.run.new.taker _ _ _ _ c.in_ok-core.ensures.entries c.in_err-run.ensures.until)
 
-pub put_summary-requires-clause-ready : goal.put_summary-requires-clause-ready
-put_summary-requires-clause-ready g c = c.in_ok-run.ensures.ready
+pub put_summary-done-requires-clause-ready : goal.put_summary-done-requires-clause-ready
+put_summary-done-requires-clause-ready g c = c.in_ok-run.ensures.ready
 
 pub returns-clause-all : goal.returns-clause-all
 returns-clause-all g c =
-    replay_all c.in_ok-core.core c.run.new.taker (g.K.Sink.put_bytes c.args.out.now) (g.K.Sink.put_bytes c.run.new.out) (g.K.Sink.put_bytes c.put_summary.new.out) _ _ c.put_summary.result
-    c.in_ok-core.ensures.book c.in_ok-core.ensures.entries c.in_ok-run.ensures.all c.put_summary.ensures.ok
+    replay_all c.in_ok-core.core c.run.new.taker (g.K.Sink.put_bytes c.args.out.now) (g.K.Sink.put_bytes c.run.new.out) (g.K.Sink.put_bytes c.put_summary-done.new.out) _ _ c.put_summary-done.result
+    c.in_ok-core.ensures.book c.in_ok-core.ensures.entries c.in_ok-run.ensures.all c.put_summary-done.ensures.ok
 
 pub returns-clause-until : goal.returns-clause-until
 returns-clause-until g c =
-    replay_cut c.in_ok-core.core c.run.new.taker (g.K.Sink.put_bytes c.args.out.now) (g.K.Sink.put_bytes c.run.new.out) (g.K.Sink.put_bytes c.put_summary.new.out) _ _ c.put_summary.result
-    c.in_ok-core.ensures.book c.in_ok-core.ensures.entries c.in_ok-run.ensures.all c.put_summary.ensures.err c.put_summary.ensures.written
+    replay_cut c.in_ok-core.core c.run.new.taker (g.K.Sink.put_bytes c.args.out.now) (g.K.Sink.put_bytes c.run.new.out) (g.K.Sink.put_bytes c.put_summary-done.new.out) _ _ c.put_summary-done.result
+    c.in_ok-core.ensures.book c.in_ok-core.ensures.entries c.in_ok-run.ensures.all c.put_summary-done.ensures.err c.put_summary-done.ensures.written

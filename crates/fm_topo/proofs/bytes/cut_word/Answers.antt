@@ -1,4 +1,4 @@
-use Rattle.std.proofs.Common.{◌≡◌, ◌<◌, ◌+◌, ◌∷◌, false, length, take, drop, sym, ap, subst, ◌∙◌}
+use Rattle.std.proofs.Common.{◌<◌, ◌+◌, ◌∷◌, false, length, take, drop, sym, ap, subst, ◌∙◌}
 use Rattle.fm_topo.specs.Line.{words_from}
 use Rattle.fm_topo.specs.Word.{word_end}
 use Rattle.fm_topo.proofs.Pieces.{word_cut}

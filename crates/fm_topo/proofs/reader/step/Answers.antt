@@ -1,4 +1,4 @@
-use Rattle.std.proofs.Common.{◌≡◌, ◌<◌, ◌≤◌, ◌+◌, ℕ, List, length, sym, subst}
+use Rattle.std.proofs.Common.{◌<◌, ◌≤◌, ◌+◌, ℕ, List, length, sym, subst}
 use Rattle.fm_topo.specs.Reading.{IsAt}
 use Rattle.fm_topo.proofs.Stepping.{at_next, at_end}
 use Rattle.fm_topo.proofs.Ranges.{rest_all}

@@ -1,4 +1,4 @@
-use Rattle.std.proofs.Common.{◌∙◌, ◌≡◌, sym, ap, subst}
+use Rattle.std.proofs.Common.{◌∙◌, subst}
 use Rattle.std.specs.Str.Parse.{ParsesUnsigned}
 use Rattle.fm_topo.proofs.Meanings.{parsed, not_digits}
 use Rattle.fm_topo.proofs.words.read_number.Goals as goal

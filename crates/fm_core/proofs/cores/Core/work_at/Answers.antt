@@ -1,4 +1,5 @@
-use Rattle.std.proofs.Common.{◌∙◌}
+use Rattle.std.proofs.Common.{◌∙◌, ◌++◌, ap}
+use Rattle.fm_core.specs.Outcome.{kept_record}
 use Rattle.fm_core.specs.Seen.{CoreOf}
 use Rattle.fm_core.proofs.Calls.{Works, work_idle, work_number, work_done}
 use Rattle.fm_core.proofs.cores.Core.work_at.Goals as goal
@@ -57,17 +58,17 @@ done : (g : Over) → (c : goal.After-settle g)
     → Works g.M.Module.meaning g.M.Module.state (done_before g c) (record (done_before g c) { hands = c.advance_at.new.hands.items; records = c.settle.new.records.items }) c.args.at c.settle.result
 done g c =
     work_done g.M.Module.meaning g.M.Module.state (done_before g c) c.args.at c.next_place-place.result c.len.result
-    c.index.result.now c.advance_at.new.hands.items c.settle.new.records.items c.in-Ok.spoken c.settle.result
+    c.index.result.now c.advance_at.new.hands.items c.settle.new.records.items c.in_ok-spoken.spoken c.settle.result
     (rw (← c.self.view_is) at c.requires.lawful) (rw (← c.self.view_is) at c.requires.inside)
     (rw (← c.self.view_is) at c.next_place-place.ensures.hand) (c.len.ensures ∙ c.self.inside.entries.ok.0) c.if-place-len.false c.index.ensures
-    c.in-Ok.ensures.hand c.in-Ok.ensures.words
-    (c.settle.ensures.records c.self.inside.records.items _ c.in_ok-push.ensures.items) c.settle.ensures.answer
+    c.in_ok-spoken.ensures.hand c.in_ok-spoken.ensures.words
+    (c.settle.ensures.records ∙ ap (λ rs. rs ++ kept_record c.in_ok-spoken.spoken) c.reserve.ensures.items) c.settle.ensures.answer
 
-pub returns-in-Ok-clause-answer : goal.returns-in-Ok-clause-answer
-returns-in-Ok-clause-answer g c = rw (← c.self.view_is) ((done g c).told)
+pub returns-clause-answer : goal.returns-clause-answer
+returns-clause-answer g c = rw (← c.self.view_is) ((done g c).told)
 
-pub returns-in-Ok-clause-worked : goal.returns-in-Ok-clause-worked
-returns-in-Ok-clause-worked g c = rw (← c.self.view_is) ((done g c).worked)
+pub returns-clause-worked : goal.returns-clause-worked
+returns-clause-worked g c = rw (← c.self.view_is) ((done g c).worked)
 
-pub returns-in-Ok-clause-lawful : goal.returns-in-Ok-clause-lawful
-returns-in-Ok-clause-lawful g c = (done g c).lawful
+pub returns-clause-lawful : goal.returns-clause-lawful
+returns-clause-lawful g c = (done g c).lawful

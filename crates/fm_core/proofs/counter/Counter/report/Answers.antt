@@ -1,5 +1,5 @@
-use Rattle.std.proofs.Common.{◌≡◌, ℕ, ◌+◌, ◌-◌, ◌/◌, ◌<◌, ◌≤◌, ◌^◌, List, ◌∙◌, sym, ap, subst, rules, arith}
-use Rattle.std.specs.Prelude.{All, ◌==◌}
+use Rattle.std.proofs.Common.{◌≡◌, ◌+◌, ◌-◌, ◌/◌, ◌<◌, ◌≤◌, ◌^◌, ◌∙◌, sym, ap, subst, rules, arith}
+use Rattle.std.specs.Prelude.{All}
 use Rattle.fm_entry.specs.Words.{IsWordOf}
 use Rattle.fm_core.specs.Counts.{count_of, total_of, cases_of}
 use Rattle.fm_core.specs.CountsOnce.{counts_are}

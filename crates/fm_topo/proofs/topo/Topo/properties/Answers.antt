@@ -1,4 +1,4 @@
-use Rattle.std.proofs.Common.{rules, ◌∙◌, sym, subst}
+use Rattle.std.proofs.Common.{rules, sym}
 use Rattle.fm_name.specs.Order.{path_cmp}
 use Rattle.fm_name.specs.OrderLaws.{path_cmp_total}
 use Rattle.std.proofs.lemmas.Fn.{always_returns_same}
@@ -8,13 +8,13 @@ use Rattle.fm_topo.proofs.topo.Topo.properties.Goals as goal
 pub returns-in-Ok : goal.returns-in-Ok
 returns-in-Ok c =
     rw (← c.self.view_is)
-    (found path_cmp_total path_tie c.self.inside.places.items c.args.path.now c.in-Ok.at c.index.result.now c.self.invariant
+    (found path_cmp_total path_tie c.self.inside.places.items c.args.path.now c.in-Ok.at c.index.result.now c.self.invariant.order
     (rw (← c.deref.ensures.value) c.in-Ok.ensures.bound)
     (rw (← c.deref.ensures.value) (c.in-Ok.ensures.position (λ e. path_cmp e.0 c.args.path.now) (always_returns_same _ _ _ (λ a r q k. search rules)))) c.index.ensures)
 
 pub returns-in-Err : goal.returns-in-Err
 returns-in-Err c =
     let p = c.in-Err.ensures.position (λ e. path_cmp e.0 c.args.path.now) (always_returns_same _ _ _ (λ a r q k. search rules))
-    (rw c.deref.ensures.value (rising path_cmp_total c.self.inside.places.items c.args.path.now c.self.invariant)) in
+    (rw c.deref.ensures.value (rising path_cmp_total c.self.inside.places.items c.args.path.now c.self.invariant.order)) in
     let t = rw c.deref.ensures.value at p in
-    rw (← c.self.view_is) (sym (missing path_cmp_total c.self.inside.places.items c.args.path.now c.in-Err.field-0 c.self.invariant t.0 t.1))
+    rw (← c.self.view_is) (sym (missing path_cmp_total c.self.inside.places.items c.args.path.now c.in-Err.field-0 c.self.invariant.order t.0 t.1))

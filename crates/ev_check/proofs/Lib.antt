@@ -1,0 +1,9 @@
+pub mod Finding
+pub mod Drawings
+pub mod Gathering
+pub mod Tripping
+pub mod Answering
+pub mod Naming
+pub mod Pairing
+pub mod Bounds
+pub mod Excluding

@@ -1,0 +1,93 @@
+-- What a rule file declares, in order of statements, and what is declared twice or not at all.
+use Rattle.std.specs.Prelude.{ℕ, Bool, false, not, ◌&&◌, ◌||◌, List, ◌∷◌, map, Option, Some, None, if◌then◌else◌, position, filter_map}
+use Rattle.std.specs.List.{list_any}
+use Rattle.std.specs.Cmp.Lexicographic.{pointwise}
+use Rattle.ev_check.specs.Iterators.{same}
+use Rattle.ev_tree.specs.declared.tree.Declared.{Declared}
+use Rattle.ev_tree.specs.declared.tree.EventAttr.{EventAttr}
+use Rattle.ev_tree.specs.declared.tree.EventAttr.TheVariants as event_attrs
+use Rattle.ev_tree.specs.declared.tree.EngineAttr.{EngineAttr}
+use Rattle.ev_tree.specs.declared.tree.EngineAttr.TheVariants as engine_attrs
+use Rattle.ev_tree.specs.declared.tree.Part.{Part}
+use Rattle.ev_tree.specs.declared.tree.SidePattern.{SidePattern}
+use Rattle.ev_tree.specs.declared.tree.Statement.{Statement}
+use Rattle.ev_tree.specs.declared.tree.Statement.TheVariants as statements
+use Rattle.ev_check.specs.declared.kinds.CheckKind.{CheckKind}
+use Rattle.ev_check.specs.declared.kinds.CheckKind.TheVariants.{Twice, Undeclared}
+
+-- the event that a statement declares, and the engine
+abbrev pub event_in : Statement → Option Declared
+event_in (statements.Event place d attrs) = Some d
+event_in (statements.Engine place d attrs) = None
+event_in (statements.Prop place left n k right) = None
+
+abbrev pub engine_in : Statement → Option Declared
+engine_in (statements.Event place d attrs) = None
+engine_in (statements.Engine place d attrs) = Some d
+engine_in (statements.Prop place left n k right) = None
+
+-- the events and the engines of statements, in order: the place in the list is the number
+abbrev pub events_in : List Statement → List Declared
+events_in ss = filter_map event_in ss
+
+abbrev pub engines_in : List Statement → List Declared
+engines_in ss = filter_map engine_in ss
+
+-- both have the same class, and as many names, each pair the same
+abbrev pub is_alike : Declared → Declared → Bool
+is_alike d e = same d.class e.class && pointwise same d.names e.names
+
+-- the class, and then the names
+abbrev pub words_of : Declared → List (List ℕ)
+words_of d = d.class ∷ d.names
+
+-- the number of the first in a list that is alike
+abbrev pub number_of : List Declared → Declared → Option ℕ
+number_of ds d = position (is_alike d) ds
+
+-- one of them is alike
+abbrev pub is_declared : List Declared → Declared → Bool
+is_declared ds d = list_any (is_alike d) ds
+
+-- what the pattern is of: its class at the names of its parts
+abbrev pub name_of : Part → List ℕ
+name_of p = p.name
+
+abbrev pub subject_of : SidePattern → Declared
+subject_of p = record { class = p.class; names = map name_of p.parts }
+
+-- a statement declares what one of these events or engines is
+abbrev pub is_again : List Declared → List Declared → Statement → Bool
+is_again events engines (statements.Event place d attrs) = is_declared events d
+is_again events engines (statements.Engine place d attrs) = is_declared engines d
+is_again events engines (statements.Prop place left n k right) = false
+
+-- the engine of an upset, at its names, or the trip of an engine, at its names, is not declared
+abbrev pub is_lost_engine : List Declared → List (List ℕ) → EventAttr → Bool
+is_lost_engine engines names (event_attrs.Fit n) = false
+is_lost_engine engines names (event_attrs.Retire n) = false
+is_lost_engine engines names (event_attrs.Engine c) = not (is_declared engines (record { class = c; names = names }))
+is_lost_engine engines names (event_attrs.Within t) = false
+
+abbrev pub is_lost_trip : List Declared → List (List ℕ) → EngineAttr → Bool
+is_lost_trip events names (engine_attrs.N n) = false
+is_lost_trip events names (engine_attrs.T t) = false
+is_lost_trip events names (engine_attrs.Trip c) = not (is_declared events (record { class = c; names = names }))
+
+-- no event is what the pattern is of
+abbrev pub is_lost : List Declared → SidePattern → Bool
+is_lost events p = not (is_declared events (subject_of p))
+
+-- a statement names an event or an engine that is not one of these
+abbrev pub has_lost : List Declared → List Declared → Statement → Bool
+has_lost events engines (statements.Event place d attrs) = list_any (is_lost_engine engines d.names) attrs
+has_lost events engines (statements.Engine place d attrs) = list_any (is_lost_trip events d.names) attrs
+has_lost events engines (statements.Prop place left n k right) = list_any (is_lost events) left || list_any (is_lost events) right
+
+-- what the second phase finds at a statement, after these
+abbrev pub twice_after : List Statement → Statement → Option CheckKind
+twice_after before s = if is_again (events_in before) (engines_in before) s then Some Twice else None
+
+-- what the third phase finds at a statement, in a file of these events and engines
+abbrev pub lost_among : List Declared → List Declared → Statement → Option CheckKind
+lost_among events engines s = if has_lost events engines s then Some Undeclared else None

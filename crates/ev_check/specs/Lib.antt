@@ -1,0 +1,10 @@
+pub mod Operands
+pub mod Categories
+pub mod Attributes
+pub mod Iterators
+pub mod Words
+pub mod Declarations
+pub mod Firsts
+pub mod Drawn
+pub mod Faults
+pub mod Book

@@ -1,0 +1,77 @@
+ghost use Rattle.std.specs.Prelude.{◌≡◌};
+ghost use Rattle.ev_check.specs.declared.kinds.CheckFault.TheVariants.{NoMemory as WantsMemory};
+
+use crate::no_memory;
+use ev_tree::Declared;
+use std::marker::Model;
+
+/// The members of a cycle, in order: each leads to the next, and the last to the first. Contracts see the list.
+#[derive(Debug, Drop)]
+pub struct Members {
+    items: Vec<Declared>,
+}
+
+impl Model for Members {
+    ghost use Rattle.std.specs.Prelude.{List};
+    ghost use Rattle.ev_tree.specs.declared.tree.Declared.{Declared};
+
+    ghost Value = { List Declared };
+
+    ghost view = { λ m. m.items.items };
+}
+
+impl Members {
+    /// The list of these members.
+    pub fn new(items: Vec<Declared>) -> Self
+        ensures { result ≡ items.items }
+    {
+        Members { items }
+    }
+
+    /// The members, to look at.
+    pub fn as_slice(&self) -> &[Declared]
+        ensures { result.now ≡ self.now }
+    {
+        self.items.as_slice()
+    }
+}
+
+/// What is wrong with a rule file.
+#[derive(Debug, Drop)]
+pub enum CheckKind {
+    /// A class or an attribute of a category that may not stand there, or a property of the payload.
+    BadKind,
+    /// An attribute that stands twice in its statement, or a statement that declares what an earlier one did.
+    Twice,
+    /// An engine that lacks `N`, `T` or `trip`.
+    Missing,
+    /// A number out of range.
+    BadCount,
+    /// A time out of range.
+    BadTime,
+    /// A name that is no iterator where it stands, or is too long.
+    FreeIterator,
+    /// An event or an engine that no statement declares.
+    Undeclared,
+    /// An engine whose trip is reached from an upset.
+    UpsetTrips,
+    /// Events that lead to one another in a ring.
+    Cycle(Members),
+}
+
+/// Why a rule file isn't taken.
+#[derive(Debug, Drop)]
+pub enum CheckFault {
+    /// The first fault of the file, with the place of its statement's first byte.
+    At { place: u32, kind: CheckKind },
+    /// Memory ran out.
+    NoMemory,
+}
+
+impl From<no_memory::NoMemory> for CheckFault {
+    ghost from_gives = { λ _ e. e ≡ WantsMemory };
+
+    fn from(_error: no_memory::NoMemory) -> CheckFault {
+        CheckFault::NoMemory
+    }
+}
