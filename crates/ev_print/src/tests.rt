@@ -15,7 +15,8 @@ fn text_of(alloc: Global, tree: &Tree) -> Result<Vec<u8>, Fail> {
     Ok(text)
 }
 
-/// The text has a tree that is printed as `want`, and what is printed has a tree that is printed so too.
+/// The text has a tree that is printed as `want`, and what is printed has a tree that is printed so too, as has
+/// a copy of the tree.
 fn prints(rt: &impl Abort, alloc: Global, text: &[u8], want: &[u8]) -> Result<(), Fail> {
     if text.len() > 1048576 {
         return Err(Fail::new("the text has no tree"));
@@ -33,6 +34,11 @@ fn prints(rt: &impl Abort, alloc: Global, text: &[u8], want: &[u8]) -> Result<()
     };
     let second = text_of(alloc, &again)?;
     assert_eq!(rt; second.as_slice(), want, "again of {text:?}");
+    let Ok(copy) = tree.copy(alloc) else {
+        return Err(Fail::new("the tree has no copy"));
+    };
+    let third = text_of(alloc, &copy)?;
+    assert_eq!(rt; third.as_slice(), want, "of a copy of {text:?}");
     Ok(())
 }
 

@@ -6,6 +6,8 @@
 #[cfg(test)]
 mod answers;
 #[cfg(test)]
+mod made;
+#[cfg(test)]
 mod named;
 #[cfg(test)]
 mod rings;

@@ -66,7 +66,7 @@ fn add_word(
 }
 
 /// Puts the words of a text into a map, and counts them; None where one is no property. It calls itself for
-/// the words behind the first, of which a line has few.
+/// the words behind the first, of which a line has at most about a thousand.
 #[tactic(auto, using(crate::proofs::Meanings::words_bad, crate::proofs::Meanings::words_good, crate::proofs::Meanings::words_folded, crate::proofs::Meanings::words_counted))]
 fn add_words(
     alloc: Global,
