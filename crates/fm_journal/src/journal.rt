@@ -11,12 +11,11 @@ ghost use Rattle.fm_journal.specs.OnlyRead.{OnlyRead};
 ghost use Rattle.fm_journal.specs.declared.fault.JournalFault.{JournalFault};
 ghost use Rattle.fm_journal.specs.declared.fault.JournalFault.TheVariants.{Disk as DiskFault};
 
-use crate::grow::grow;
 use crate::refuse::refused;
 use crate::scan::scan;
 use crate::start::start;
 use crate::{Frame, JournalFault, Refused};
-use fm_outer::{Disk, Failed};
+use fm_outer::{Disk, Failed, add};
 use std::marker::Model;
 
 /// One list of payloads on one disk. Contracts see the disk, the first number, the number of payloads, the place of
@@ -133,7 +132,7 @@ impl<D: Disk> Journal<D> {
         ) {
             return Err(fault);
         }
-        match grow(&mut self.disk, self.end, body) {
+        match add(&mut self.disk, self.end, body) {
             Ok(()) => {
                 let number = self.first + self.count;
                 self.count += 1;

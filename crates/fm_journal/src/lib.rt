@@ -29,7 +29,6 @@
 mod fault;
 mod fetch;
 mod frame;
-mod grow;
 mod header;
 mod journal;
 mod look;

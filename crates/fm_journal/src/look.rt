@@ -8,9 +8,11 @@ ghost use Rattle.fm_journal.specs.OnlyRead.{OnlyRead};
 
 use crate::fetch::{byte_at, size_at};
 use crate::frame::MAX_LENGTH;
-use crate::grow::OPEN;
 use crate::refuse::MAX_BYTES;
 use fm_outer::{Disk, Failed};
+
+/// An open gate, behind which a record stands.
+const OPEN: u8 = 1;
 
 /// What is found at a gate.
 #[derive(Clone, Copy, Drop)]

@@ -17,12 +17,12 @@ returns-in-Ok-clause-list g c =
 pub returns-in-Ok-clause-any_moment : goal.returns-in-Ok-clause-any_moment
 returns-in-Ok-clause-any_moment g c =
     rw (← c.self.view_is) (λ payloads keeps. append_leaves g.D.Disk.seen g.D.Disk.images _ payloads c.args.frame.now keeps c.self.invariant c.body-body.ensures.short c.body-body.result.now c.body-body.ensures.bytes (sym c.refused.ensures ∙ c.in_default.is)
-    g.D.Disk.moment g.D.Disk.left_since c.grow.new.disk c.grow.ensures.any_moment)
+    g.D.Disk.moment g.D.Disk.left_since c.add.new.disk c.add.ensures.any_moment)
 
 pub returns-in-Ok-clause-left : goal.returns-in-Ok-clause-left
 returns-in-Ok-clause-left g c =
     rw (← c.self.view_is) (λ payloads keeps. append_left g.D.Disk.seen g.D.Disk.images _ payloads c.args.frame.now keeps c.self.invariant c.body-body.ensures.short c.body-body.result.now c.body-body.ensures.bytes (sym c.refused.ensures ∙ c.in_default.is)
-    g.D.Disk.moment g.D.Disk.left_since c.grow.new.disk g.met.D.Disk.counts_now c.grow.ensures.any_moment)
+    g.D.Disk.moment g.D.Disk.left_since c.add.new.disk g.met.D.Disk.counts_now c.add.ensures.any_moment)
 
 pub returns-in-Ok-clause-refused : goal.returns-in-Ok-clause-refused
 returns-in-Ok-clause-refused g c =
@@ -35,12 +35,12 @@ returns-in-Ok-clause-unchanged g c =
 pub returns-in-Err-clause-any_moment : goal.returns-in-Err-clause-any_moment
 returns-in-Err-clause-any_moment g c =
     rw (← c.self.view_is) (λ payloads keeps. append_leaves g.D.Disk.seen g.D.Disk.images _ payloads c.args.frame.now keeps c.self.invariant c.body-body.ensures.short c.body-body.result.now c.body-body.ensures.bytes (sym c.refused.ensures ∙ c.in_default.is)
-    g.D.Disk.moment g.D.Disk.left_since c.grow.new.disk c.grow.ensures.any_moment)
+    g.D.Disk.moment g.D.Disk.left_since c.add.new.disk c.add.ensures.any_moment)
 
 pub returns-in-Err-clause-left : goal.returns-in-Err-clause-left
 returns-in-Err-clause-left g c =
     rw (← c.self.view_is) (λ payloads keeps. append_left g.D.Disk.seen g.D.Disk.images _ payloads c.args.frame.now keeps c.self.invariant c.body-body.ensures.short c.body-body.result.now c.body-body.ensures.bytes (sym c.refused.ensures ∙ c.in_default.is)
-    g.D.Disk.moment g.D.Disk.left_since c.grow.new.disk g.met.D.Disk.counts_now c.grow.ensures.any_moment)
+    g.D.Disk.moment g.D.Disk.left_since c.add.new.disk g.met.D.Disk.counts_now c.add.ensures.any_moment)
 
 pub returns-in-Err-clause-refused : goal.returns-in-Err-clause-refused
 returns-in-Err-clause-refused g c =
