@@ -1,7 +1,7 @@
 use crate::cores::Core;
 use crate::counter::Counter;
 use crate::hand::Hand;
-use crate::laws::any_order;
+use crate::laws::{any_order, words_are_spelled};
 use crate::module::{LoadFault, Module};
 use crate::trials::loaded::{Loaded, core_of_one, step_loaded, work_loaded};
 use crate::worked::Worked;
@@ -281,6 +281,7 @@ fn subscribes_to_every_class(rt: HostRuntime) -> Result<(), Fail> {
     let class = read_class(alloc, "ereport.io.scsi")?.ok_or("class")?;
     assert!(rt; counter.subscribes(&class));
     any_order();
+    words_are_spelled();
     Ok(())
 }
 

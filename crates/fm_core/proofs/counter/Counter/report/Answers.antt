@@ -3,7 +3,8 @@ use Rattle.std.specs.Prelude.{All}
 use Rattle.fm_entry.specs.Words.{IsWordOf}
 use Rattle.fm_core.specs.Counts.{count_of, total_of, cases_of}
 use Rattle.fm_core.specs.CountsOnce.{counts_are}
-use Rattle.fm_core.proofs.Tallies.{says_is, events_are, cases_fit, cases_after_fit, holds_after}
+use Rattle.fm_core.specs.CountsKept.{cases_fit, events_are}
+use Rattle.fm_core.proofs.Tallies.{says_is, cases_after_fit, holds_after}
 use Rattle.fm_core.proofs.counter.Counter.report.Goals as goal
 
 pub overflow_add-before : goal.overflow_add-before
