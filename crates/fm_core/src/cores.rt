@@ -3,7 +3,7 @@ ghost use Rattle.std.specs.Option.{ForSome};
 ghost use Rattle.fm_entry.specs.Entries.{IsSpelled};
 ghost use Rattle.fm_core.specs.Hands.{shown, stepped, spoken_at};
 ghost use Rattle.fm_core.specs.Book.{accepted, worked, fallen, floor_of, end_of, is_done};
-ghost use Rattle.fm_core.specs.Seen.{seen, book_of, FollowsAs, IsCore, AreFresh, OnlyWorked, HasComeTo, SameBeside};
+ghost use Rattle.fm_core.specs.Seen.{AreFew, seen, book_of, FollowsAs, IsCore, AreFresh, OnlyWorked, HasComeTo, SameBeside};
 ghost use Rattle.fm_core.specs.Outcome.{outcome, after_step, kept_record};
 
 use crate::hand::Hand;
@@ -91,6 +91,15 @@ impl<M: Module> Core<M> {
         ensures { result.now ≡ self.now.records }
     {
         self.records.as_slice()
+    }
+
+    /// The entries that it accepted.
+    #[cfg(test)]
+    pub(crate) fn entries(&self) -> &[Entry]
+        ensures entries { result.now ≡ self.now.entries }
+        ensures few { AreFew self.now.base result.now }
+    {
+        self.entries.as_slice()
     }
 
     /// The hand of a module.
