@@ -1,5 +1,5 @@
 -- Counting one report more: where its class stands, and what is kept.
-use Rattle.std.proofs.Common.{◌≡◌, ℕ, zero, suc, ◌+◌, ◌-◌, ◌/◌, ◌%◌, ◌^◌, ◌<◌, ◌≤◌, Bool, true, false, cond, ◌&&◌, nat_lt, IsTrue, List, [], ◌∷◌, length, drop, set, get_or, Option, Some, None, refl, sym, ◌∙◌, ap, subst, arith}
+use Rattle.std.proofs.Common.{◌≡◌, ℕ, zero, suc, ◌+◌, ◌-◌, ◌/◌, ◌%◌, ◌^◌, ◌<◌, ◌≤◌, Bool, true, false, cond, ◌&&◌, nat_lt, IsTrue, List, [], ◌∷◌, length, drop, set, get_or, Option, Some, None, Result, Ok, Err, IfOk, refl, sym, ◌∙◌, ap, subst, arith}
 use Rattle.std.specs.Prelude.{insert}
 use Rattle.std.specs.List.{slice_get, AllWithin}
 use Rattle.std.specs.List.Sorted.{IsPartitionedBy}
@@ -16,7 +16,7 @@ use Rattle.fm_core.specs.declared.class_count.ClassCount.{ClassCount}
 use Rattle.fm_core.specs.Counts.{order, one_more, counted, count_or, count_of, total_of, cases_of, is_ereport, is_past, is_ordered, are_counts, third, report_words}
 use Rattle.fm_core.specs.CountsOnce.{both_true, Counts, counts_are}
 use Rattle.fm_core.specs.CountsKept.{cmp, less_is, is_less, turned, before_before, both, one, past_greater, total_counted, counts_counted, cases_fit}
-use Rattle.fm_core.specs.Places.{place_step, place_of, is_of, is_standing, standing_count, counted_at}
+use Rattle.fm_core.specs.Places.{place_step, place_of, is_of, is_standing, standing_count, place_in, count_or_none, count_found, counted_at}
 
 -- what is past a class is past what stands before that
 is_past_before : (a b : List ℕ) (xs : List ClassCount) → cmp a b ≡ Less → IsTrue (is_past b xs) → IsTrue (is_past a xs)
@@ -177,6 +177,60 @@ within_by class xs i (Some x) e h = slice_get_within xs i x e
 -- a class that stands at a place stands within the list
 pub standing_within : (class : List ℕ) (xs : List ClassCount) (i : ℕ) (r : Bool) → r ≡ is_standing class (slice_get xs i) → r ≡ true → i < length xs
 standing_within class xs i r told holds = within_by class xs i (slice_get xs i) refl (sym told ∙ holds)
+
+-- what was found where the class stands, and where it would stand
+pub found_there : (class : List ℕ) (xs : List ClassCount) (i : ℕ) (r : Bool) → i ≡ place_of class xs → r ≡ is_standing class (slice_get xs i) → r ≡ true → Ok i ≡ place_in class xs
+found_there class xs i r at told holds =
+    let is : is_standing class (slice_get xs (place_of class xs)) ≡ true = ap (λ p. is_standing class (slice_get xs p)) (sym at) ∙ sym told ∙ holds in
+    let found : Result ℕ ℕ = Ok i in
+    subst (λ b. found ≡ cond b (Ok (place_of class xs)) (Err (place_of class xs))) (sym is) (ap Ok at)
+
+pub found_none : (class : List ℕ) (xs : List ClassCount) (i : ℕ) (r : Bool) → i ≡ place_of class xs → r ≡ is_standing class (slice_get xs i) → r ≡ false → Err i ≡ place_in class xs
+found_none class xs i r at told fails =
+    let is : is_standing class (slice_get xs (place_of class xs)) ≡ false = ap (λ p. is_standing class (slice_get xs p)) (sym at) ∙ sym told ∙ fails in
+    let found : Result ℕ ℕ = Err i in
+    subst (λ b. found ≡ cond b (Ok (place_of class xs)) (Err (place_of class xs))) (sym is) (ap Err at)
+
+ok_from : (i p : ℕ) (b : Bool) → Ok i ≡ cond b (Ok p) (Err p) → (i ≡ p) × (b ≡ true)
+ok_from i p true e = (cc, refl)
+ok_from i p false e = absurd (let no : ⊥ = cc in no)
+
+err_from : (i p : ℕ) (b : Bool) → Err i ≡ cond b (Ok p) (Err p) → (i ≡ p) × (b ≡ false)
+err_from i p true e = absurd (let no : ⊥ = cc in no)
+err_from i p false e = (cc, refl)
+
+-- and what a place says of its class
+pub there_from : (class : List ℕ) (xs : List ClassCount) (i : ℕ) → Ok i ≡ place_in class xs → (i ≡ place_of class xs) × (true ≡ is_standing class (slice_get xs i))
+there_from class xs i e =
+    let both : (i ≡ place_of class xs) × (is_standing class (slice_get xs (place_of class xs)) ≡ true) =
+    ok_from i (place_of class xs) (is_standing class (slice_get xs (place_of class xs))) e in
+    (both.0, sym (ap (λ p. is_standing class (slice_get xs p)) both.0 ∙ both.1))
+
+pub none_from : (class : List ℕ) (xs : List ClassCount) (i : ℕ) → Err i ≡ place_in class xs → (i ≡ place_of class xs) × (false ≡ is_standing class (slice_get xs i))
+none_from class xs i e =
+    let both : (i ≡ place_of class xs) × (is_standing class (slice_get xs (place_of class xs)) ≡ false) =
+    err_from i (place_of class xs) (is_standing class (slice_get xs (place_of class xs))) e in
+    (both.0, sym (ap (λ p. is_standing class (slice_get xs p)) both.0 ∙ both.1))
+
+-- a class that was found stands within the list
+pub found_within : (class : List ℕ) (xs : List ClassCount) (r : Result ℕ ℕ) → r ≡ place_in class xs → IfOk r (λ i. i < length xs)
+found_within class xs (Ok i) e = standing_within class xs i true (there_from class xs i e).1 refl
+found_within class xs (Err i) e = tt
+
+count_found_by : (class : List ℕ) (xs : List ClassCount) (i : ℕ) (x : ClassCount) → slice_get xs i ≡ Some x → (b : Bool) → count_found (cond b (Ok i) (Err i)) xs ≡ cond b x.count 0
+count_found_by class xs i x e true = ap count_or_none e
+count_found_by class xs i x e false = refl
+
+count_found_at : (class : List ℕ) (xs : List ClassCount) (i : ℕ) (o : Option ClassCount) → slice_get xs i ≡ o → count_found (cond (is_standing class o) (Ok i) (Err i)) xs ≡ standing_count class o
+count_found_at class xs i None e = refl
+count_found_at class xs i (Some x) e = count_found_by class xs i x e (is_of class x)
+
+-- the count at the place of a class is that of the class
+pub count_found_is : (class : List ℕ) (xs ys zs : List ClassCount) (r : Result ℕ ℕ) (n : ℕ) → IsTrue (are_counts xs) → ys ≡ xs → zs ≡ xs → r ≡ place_in class ys → n ≡ count_found r zs → n ≡ count_of class xs
+count_found_is class xs ys zs r n h same same' at told =
+    let place : ℕ = place_of class xs in
+    told ∙ ap (count_found r) same' ∙ ap (λ p. count_found p xs) (at ∙ ap (place_in class) same)
+    ∙ count_found_at class xs place (slice_get xs place) refl ∙ sym (count_is class xs (counts_are xs h).ordered)
 
 count_fits_by : (x : ClassCount) (more rest : ℕ) (r : Ordering) → more ≤ rest → count_or r x more ≤ x.count + rest
 count_fits_by x more rest Less h = omega arith
