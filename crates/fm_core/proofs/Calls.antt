@@ -15,7 +15,7 @@ use Rattle.fm_core.specs.Outcome.{outcome, after_step, kept_of, kept_record}
 use Rattle.fm_core.specs.declared.worked.Worked.{Worked}
 use Rattle.fm_core.specs.declared.worked.Worked.TheVariants.{Idle}
 use Rattle.fm_core.proofs.Lists.{map_get}
-use Rattle.fm_core.proofs.Keeping.{core_fresh, core_accepted, core_fallen, core_worked, core_idle, core_outcome, hand_low, hand_high, kept_said}
+use Rattle.fm_core.proofs.Keeping.{core_fresh, core_accepted, core_fallen, core_worked, core_idle, core_outcome, hand_low, kept_said}
 
 -- the element that was read at a place
 pub read_at : {X : Type 0} (xs : List X) (i : ℕ) (x y : X) → i < length xs → x ≡ get_or xs i x → y ≡ x → slice_get xs i ≡ Some y
@@ -193,10 +193,3 @@ module _ {M : Type 0} (meaning : M → Meaning) (state : M → State) where
       map_get (λ s. s.cursor) (seen meaning state c).hands i (shown meaning state hand) (map_get (shown meaning state) c.hands i hand got) in
       let same : hand.cursor ≡ c.base + (cursor - c.base) = omega arith in
       at ∙ ap Some same
-
-  pub place_within : (c : CoreOf M) (i : ℕ) (hand : HandOf M) (cursor : ℕ) → i < length c.hands → hand ≡ get_or c.hands i hand → cursor ≡ hand.cursor → IsCore (seen meaning state c)
-      → cursor - c.base ≤ length c.entries
-  place_within c i hand cursor inside read is h =
-      let got : slice_get c.hands i ≡ Some hand = read_at c.hands i hand hand inside read refl in
-      let down : hand.cursor ≤ c.base + length c.entries = hand_high (seen meaning state c) i (shown meaning state hand) h (map_get (shown meaning state) c.hands i hand got) in
-      omega arith

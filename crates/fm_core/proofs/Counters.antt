@@ -1,17 +1,23 @@
 -- A core of two counters, as the tests make it.
-use Rattle.std.proofs.Common.{◌≡◌, ℕ, ◌-◌, ◌≤◌, List, [], ◌∷◌, length, map, take, Some, refl, sym, ◌∙◌, ap, subst, arith}
-use Rattle.std.proofs.lemmas.List.{length-map, length-set, nil_from_length}
-use Rattle.std.proofs.lemmas.Option.{same_Some}
+use Rattle.std.proofs.Common.{◌≡◌, ℕ, ◌+◌, ◌-◌, ◌<◌, ◌≤◌, nat_le, ◌==◌, List, [], ◌∷◌, ◌++◌, length, map, take, get_or, Some, refl, sym, ◌∙◌, ap, subst, length-append, arith}
+use Rattle.std.specs.Prelude.{All}
+use Rattle.std.proofs.lemmas.List.Elements.{recursion_from_All, All-from_recursion, All-append}
+use Rattle.std.proofs.lemmas.List.{length-map, length-set, length-take-le}
+use Rattle.std.proofs.lemmas.Option.{same_Some, slice_get_read}
 use Rattle.std.specs.List.{slice_get, slice_set}
+use Rattle.fm_entry.specs.declared.entry.Entry.{Entry}
 use Rattle.fm_entry.specs.declared.spoken.Spoken.{Spoken}
-use Rattle.fm_core.specs.Hands.{HandOf, shown}
+use Rattle.fm_core.specs.Hands.{HandOf, Shown, shown, stepped}
 use Rattle.fm_core.specs.Counter.{CounterOf, counter_meaning}
-use Rattle.fm_core.specs.Meaning.{Counting}
+use Rattle.fm_core.specs.Meaning.{Meaning, State, Counting, after_of}
 use Rattle.fm_core.specs.Folds.{state_along}
-use Rattle.fm_core.specs.Records.{of_module, numbered_from, past_all}
+use Rattle.fm_core.specs.Records.{of_module, numbered_from}
 use Rattle.fm_core.specs.Book.{floor_of}
 use Rattle.fm_core.specs.Seen.{CoreOf, book_of, part_of, Follows, FollowsAs, IsCore, OnlyWorked}
-use Rattle.fm_core.specs.Trials.{fresh_hand, counter_state, own_meaning, seen_counters, fresh_part, IsFilled}
+use Rattle.fm_core.specs.Trials.{fresh_hand, counter_state, own_meaning, seen_counters, fresh_part, shown_after, IsFilled}
+use Rattle.fm_core.proofs.Lists.{all_filter, take_push}
+use Rattle.fm_core.proofs.Along.{state_push}
+use Rattle.fm_core.proofs.Ordered.{AllBelow, past_all_least}
 
 -- a core that was just made
 pub filled_new : (c : CoreOf CounterOf) (hands kept : List (HandOf CounterOf)) → IsCore (seen_counters c) → c ≡ record { base = 0; kept = kept; entries = []; hands = hands; records = [] }
@@ -36,30 +42,54 @@ filled_on old new w f =
           ∙ length-map old.hands (shown own_meaning counter_state) ∙ f.two;
     }
 
--- a counter that has counted nothing follows the book from its start
-pub fresh_follows : (c : CoreOf CounterOf) (hand : HandOf CounterOf) → IsFilled c → hand ≡ fresh_hand 0 → FollowsAs (book_of (seen_counters c)) 0 (shown own_meaning counter_state hand)
-fresh_follows c hand f same =
-    subst (λ h. FollowsAs (book_of (seen_counters c)) 0 (shown own_meaning counter_state h)) (sym same)
+-- a hand that takes one entry more
+pub rebuilt_on : (es : List Entry) (i : ℕ) (e : Entry) → slice_get es i ≡ Some e → stepped (shown_after (take i es)) e ≡ shown_after (take (i + 1) es)
+rebuilt_on es i e found =
+    let xs : List Entry = take i es in
+    let m : Meaning = counter_meaning 0 in
+    let made : ℕ → State → Shown = λ c s. record { number = 0; cursor = c; meaning = m; state = s } in
+    let size : length xs + 1 ≡ length (xs ++ e ∷ []) = omega (arith, length-append xs (e ∷ [])) in
+    let from : 0 + length xs ≡ length xs = omega arith in
+    let state : state_along m (Counting []) 0 (xs ++ e ∷ []) ≡ after_of m (state_along m (Counting []) 0 xs) (length xs) e =
+    state_push m (Counting []) 0 xs e ∙ ap (λ k. after_of m (state_along m (Counting []) 0 xs) k e) from in
+    ap (λ c. made c (after_of m (state_along m (Counting []) 0 xs) (length xs) e)) size
+    ∙ ap (made (length (xs ++ e ∷ []))) (sym state)
+    ∙ ap shown_after (sym (take_push es i e found))
+
+-- a hand that took the first entries follows the book
+pub rebuilt_follows : (c : CoreOf CounterOf) (hand : HandOf CounterOf) (n : ℕ) → IsFilled c → n ≤ length c.entries → shown own_meaning counter_state hand ≡ shown_after (take n c.entries) → FollowsAs (book_of (seen_counters c)) 0 (shown own_meaning counter_state hand)
+rebuilt_follows c hand n f fits same =
+    subst (FollowsAs (book_of (seen_counters c)) 0) (sym same)
     (λ p a.
     let first : slice_get (book_of (seen_counters c)).parts 0 ≡ Some (fresh_part 0) = ap (λ ps. slice_get ps 0) f.parts_are in
     let is : fresh_part 0 ≡ p = same_Some (fresh_part 0) p (sym first ∙ a) in
     let base : c.base ≡ 0 = f.base_is in
-    let none : 0 ≡ 0 - c.base = omega arith in
-    subst (λ q. Follows (book_of (seen_counters c)) 0 q (shown own_meaning counter_state (fresh_hand 0))) is
+    let size : length (take n c.entries) ≡ n = length-take-le n c.entries fits in
+    let count : n ≡ length (take n c.entries) - c.base = omega arith in
+    subst (λ q. Follows (book_of (seen_counters c)) 0 q (shown_after (take n c.entries))) is
     (record {
       number_is = refl;
       meaning_is = refl;
       from_base = omega arith;
       to_end = omega arith;
-      folds = ap (λ n. state_along (counter_meaning 0) (Counting []) c.base (take n c.entries)) none;
+      folds = ap (λ b. state_along (counter_meaning 0) (Counting []) b (take n c.entries)) (sym base)
+          ∙ ap (λ k. state_along (counter_meaning 0) (Counting []) c.base (take k c.entries)) count;
     }))
 
--- where nothing was spoken the floor is the start
-pub silent_floor : (c : CoreOf CounterOf) (spoken : List Spoken) (hand : HandOf CounterOf) (size : ℕ) → IsFilled c → spoken ≡ c.records → size ≡ length spoken → size ≤ 0 → floor_of (book_of (seen_counters c)) 0 ≤ hand.cursor
-silent_floor c spoken hand size f told is none =
-    let empty : c.records ≡ [] = sym told ∙ nil_from_length spoken (omega arith) in
+-- one element more
+pub all_more : {X : Type 0} (P : X → Type 0) (xs : List X) (i : ℕ) (x : X) → i < length xs → x ≡ get_or xs i x → All P (take i xs) → P x → All P (take (i + 1) xs)
+all_more P xs i x room read all here =
+    subst (All P) (sym (take_push xs i x (slice_get_read xs (length xs) i x refl room read)))
+    (All-append P (take i xs) (x ∷ []) all (All-from_recursion P (x ∷ []) (here, tt)))
+
+-- where every record is numbered below a number, so is the floor
+pub floor_below : (c : CoreOf CounterOf) (spoken : List Spoken) (n : ℕ) → IsFilled c → spoken ≡ c.records → All (λ r. r.number < n) spoken → floor_of (book_of (seen_counters c)) 0 ≤ n
+floor_below c spoken n f told all =
     let base : c.base ≡ 0 = f.base_is in
-    subst (λ rs. past_all c.base (numbered_from c.base (of_module 0 rs)) ≤ hand.cursor) (sym empty) (omega arith)
+    let below : AllBelow n c.records = subst (AllBelow n) told (recursion_from_All (λ r. r.number < n) spoken all) in
+    past_all_least c.base n (numbered_from c.base (of_module 0 c.records)) (omega arith)
+    (all_filter (λ r. r.number < n) (λ r. nat_le c.base r.number) (of_module 0 c.records)
+    (all_filter (λ r. r.number < n) (λ r. r.«module» == 0) c.records below))
 
 -- and after a fall
 pub filled_fallen : (old new : CoreOf CounterOf) (hand : HandOf CounterOf) → new ≡ record old { hands = slice_set old.hands 0 hand } → IsCore (seen_counters new) → IsFilled old → IsFilled new

@@ -1,18 +1,19 @@
 -- Work alone: what it keeps of a core, and how far the modules come.
-use Rattle.std.proofs.Common.{◌≡◌, ◌≢◌, ℕ, suc, ◌+◌, ◌-◌, ◌<◌, ◌≤◌, Bool, true, ◌&&◌, ◌==◌, IsTrue, List, [], ◌∷◌, length, map, get_or, Option, Some, None, Result, Ok, Err, OnOk, OnErr, refl, sym, ◌∙◌, ap, subst, arith}
+use Rattle.std.proofs.Common.{◌≡◌, ◌≢◌, ℕ, suc, ◌+◌, ◌-◌, ◌<◌, ◌≤◌, Bool, true, ◌&&◌, ◌==◌, IsTrue, List, [], ◌∷◌, length, map, get_or, Option, Some, None, Result, Ok, Err, OnOk, OnErr, ◌⊎◌, inl, inr, refl, sym, ◌∙◌, ap, subst, arith}
 use Rattle.std.specs.List.{slice_get, list_all}
+use Rattle.std.proofs.lemmas.Bool.{cases_eq, cases_lt}
 use Rattle.std.proofs.lemmas.List.{length-map}
 use Rattle.std.proofs.lemmas.Option.{slice_get_within, slice_get-get_or, same_Some}
 use Rattle.fm_entry.specs.declared.entry.Entry.{Entry}
 use Rattle.fm_core.specs.Hands.{Shown}
 use Rattle.fm_core.specs.Book.{Part, Book, end_of, worked, worked_at, worked_on, is_done}
 use Rattle.fm_core.specs.Drained.{drained}
-use Rattle.fm_core.specs.Seen.{Seen, book_of, IsCore, OnlyWorked, HasComeTo, SameBeside}
+use Rattle.fm_core.specs.Seen.{Seen, book_of, IsCore, OnlyWorked, HasComeTo, FirstPassed, HavePassed, ComeOn}
 use Rattle.fm_core.proofs.Lists.{get_set_same, get_set_other, map_got}
 use Rattle.fm_core.proofs.Tests.{eq_true}
 use Rattle.fm_core.proofs.Drains.{drained_worked}
 use Rattle.fm_core.proofs.Runs.{with_none}
-use Rattle.fm_core.proofs.Keeping.{part_for, worked_is}
+use Rattle.fm_core.proofs.Keeping.{part_for, worked_is, hand_low, hand_high, core_idle}
 
 -- what work leaves of a book
 record Still (k w : Book) (i : ℕ) : Type 0 where
@@ -68,7 +69,8 @@ only_worked a b i h g many e =
       drains_same = ap drained e ∙ sym (with_none (worked (book_of a) i)) ∙ drained_worked (book_of a) i [] h.lawful ∙ with_none (book_of a);
     }
 
-pub beside_worked : (a b : Seen) (i : ℕ) → book_of b ≡ worked (book_of a) i → SameBeside i a b
+-- the cursors of the other modules stay
+beside_worked : (a b : Seen) (i : ℕ) → book_of b ≡ worked (book_of a) i → (j : ℕ) → j ≢ i → slice_get (book_of b).cursors j ≡ slice_get (book_of a).cursors j
 beside_worked a b i e j ne = ap (λ k. slice_get k.cursors j) e ∙ (worked_still (book_of a) i).others j ne
 
 some_entry : (es : List Entry) → 0 < length es → Entry
@@ -92,37 +94,95 @@ pub all_pass : {X : Type 0} (p : X → Bool) (xs : List X) → ((i : ℕ) (x : X
 all_pass p [] h = refl
 all_pass p (x ∷ xs) h = ap (λ b. b && list_all p xs) (h 0 x refl) ∙ all_pass p xs (λ i y e. h (suc i) y e)
 
--- where each module has come to the end all is done
-pub all_done : (c : Seen) (n : ℕ) → n ≡ length c.hands → ((j : ℕ) → j < n → HasComeTo c j (end_of (book_of c))) → IsTrue (is_done (book_of c))
-all_done c n size h =
-    all_pass (λ d. d == end_of (book_of c)) (book_of c).cursors
-    (λ i d at.
-    let inside : i < length (map (λ s. s.cursor) c.hands) = slice_get_within (map (λ s. s.cursor) c.hands) i d at in
-    let many : length (map (λ s. s.cursor) c.hands) ≡ length c.hands = length-map c.hands (λ s. s.cursor) in
-    let same : d ≡ end_of (book_of c) = same_Some d (end_of (book_of c)) (sym at ∙ h i (omega arith)) in
-    eq_true d (end_of (book_of c)) same)
+-- a module that was worked is one further, or was at the end and is there still
+cursor_after : (a b : Seen) (k c : ℕ) → IsCore a → book_of b ≡ worked (book_of a) k → HasComeTo a k c → HasComeTo b k (c + 1) ⊎ ((end_of (book_of a) ≤ c) × HasComeTo b k c)
+cursor_after a b k c h e at =
+    let got : (s : Shown) × (slice_get a.hands k ≡ Some s) × (s.cursor ≡ c) = map_got (λ s. s.cursor) a.hands k c at in
+    let low : a.base ≤ got.0.cursor = hand_low a k got.0 h got.1 in
+    let same : got.0.cursor ≡ c = got.2 in
+    elim (cases_lt c (end_of (book_of a))) [
+      | inl room ↦ inl (comes_on a b k c h e at (omega arith) room)
+      | inr past ↦
+          inr (past, ap (λ w. slice_get w.cursors k) (e ∙ sym (core_idle a k got.0 h got.1 (omega arith)).1) ∙ at)
+    ]
 
--- one turn of draining a module
-pub drain_turn : (old now new : Seen) (i turn size : ℕ) → OnlyWorked old now → HasComeTo now i (old.base + turn) → SameBeside i old now → turn < size → size ≡ length old.entries → IsCore now → IsCore new → length new.hands ≡ length now.hands → book_of new ≡ worked (book_of now) i
-    → OnlyWorked old new × HasComeTo new i (old.base + (turn + 1)) × SameBeside i old new
-drain_turn old now new i turn size w at beside room is h g many moved =
-    let base : now.base ≡ old.base = w.base_same in
+-- what has been passed after a move of work
+passed_one : (a b : Seen) (k n : ℕ) → IsCore a → length b.hands ≡ length a.hands → book_of b ≡ worked (book_of a) k → n < length a.entries → HavePassed a n → FirstPassed a k (n + 1)
+    → (j d : ℕ) → slice_get (book_of b).cursors j ≡ Some d → (a.base + n ≤ d) × (j < k + 1 → a.base + (n + 1) ≤ d)
+passed_one a b k n h many e room p q j d at =
+    elim (cases_eq j k) [
+      | inl same ↦
+          let now : HasComeTo b k d = subst (λ x. slice_get (book_of b).cursors x ≡ Some d) same at in
+          let inside : k < length (map (λ s. s.cursor) b.hands) = slice_get_within (map (λ s. s.cursor) b.hands) k d now in
+          let size : length (map (λ s. s.cursor) b.hands) ≡ length b.hands = length-map b.hands (λ s. s.cursor) in
+          let size' : length (map (λ s. s.cursor) a.hands) ≡ length a.hands = length-map a.hands (λ s. s.cursor) in
+          let inside' : k < length (map (λ s. s.cursor) a.hands) = omega arith in
+          let c : ℕ = get_or (map (λ s. s.cursor) a.hands) k 0 in
+          let was : HasComeTo a k c = slice_get-get_or (map (λ s. s.cursor) a.hands) k 0 inside' in
+          let low : a.base + n ≤ c = p k c was in
+          elim (cursor_after a b k c h e was) [
+            | inl on ↦ let is : d ≡ c + 1 = same_Some d (c + 1) (sym now ∙ on) in (omega arith, λ l. omega arith)
+            | inr end ↦
+                let is : d ≡ c = same_Some d c (sym now ∙ end.1) in
+                let past : end_of (book_of a) ≤ c = end.0 in
+                (omega arith, λ l. omega arith)
+          ]
+      | inr other ↦
+          let was : slice_get (book_of a).cursors j ≡ Some d = sym (beside_worked a b k e j other) ∙ at in
+          (p j d was, λ l. q j d (omega arith) was)
+    ]
+
+-- as far as the first k modules were worked: all have taken n entries, and those one more
+abbrev pub ComeOnTo : Seen → Seen → ℕ → Type 0
+ComeOnTo old now k = (n : ℕ) → n < length old.entries → HavePassed old n → HavePassed now n × FirstPassed now k (n + 1)
+
+pub comes_to_none : (c : Seen) → ComeOnTo c c 0
+comes_to_none c n room p = (p, λ j d l at. absurd (let no : ⊥ = omega arith in no))
+
+-- one module more
+pub comes_to_next : (old now new : Seen) (k : ℕ) → OnlyWorked old now → ComeOnTo old now k → IsCore new → length new.hands ≡ length now.hands → book_of new ≡ worked (book_of now) k
+    → OnlyWorked old new × ComeOnTo old new (k + 1)
+comes_to_next old now new k w on g many e =
+    let one : OnlyWorked now new = only_worked now new k w.lawful g many e in
     let entries : length now.entries ≡ length old.entries = ap length w.entries_same in
-    let next : HasComeTo new i (old.base + turn + 1) = comes_on now new i (old.base + turn) h moved at (omega arith) (omega arith) in
-    let same : old.base + turn + 1 ≡ old.base + (turn + 1) = omega arith in (
-      only_both old now new w (only_worked now new i h g many moved),
-      next ∙ ap Some same,
-      λ j ne. beside_worked now new i moved j ne ∙ beside j ne,
+    let base : new.base ≡ now.base = one.base_same in (
+      only_both old now new w one,
+      λ n room p.
+          let both : HavePassed now n × FirstPassed now k (n + 1) = on n room p in
+          let each : (j d : ℕ) → slice_get (book_of new).cursors j ≡ Some d → (now.base + n ≤ d) × (j < k + 1 → now.base + (n + 1) ≤ d) =
+          passed_one now new k n w.lawful many e (omega arith) both.0 both.1 in (
+            λ j d at. (let low : now.base + n ≤ d = (each j d at).0 in omega arith),
+            λ j d l at. (let low : now.base + (n + 1) ≤ d = (each j d at).1 l in omega arith),
+          ),
     )
 
--- where every module has come to the end of before, all is done
-pub drained_all : (old now : Seen) (n size : ℕ) → OnlyWorked old now → size ≤ n → size ≡ length old.hands → n ≤ size → ((j : ℕ) → j < n → HasComeTo now j (end_of (book_of old))) → IsTrue (is_done (book_of now))
-drained_all old now n size w past is most all =
-    let many : length now.hands ≡ length old.hands = w.modules_same in
-    let base : now.base ≡ old.base = w.base_same in
+-- all of them
+pub comes_to_all : (old now : Seen) (k size : ℕ) → OnlyWorked old now → ComeOnTo old now k → size ≤ k → size ≡ length old.hands → ComeOn old now
+comes_to_all old now k size w on past is n room p j d at =
+    let inside : j < length (map (λ s. s.cursor) now.hands) = slice_get_within (map (λ s. s.cursor) now.hands) j d at in
+    let many : length (map (λ s. s.cursor) now.hands) ≡ length now.hands = length-map now.hands (λ s. s.cursor) in
+    let same : length now.hands ≡ length old.hands = w.modules_same in
+    (on n room p).1 j d (omega arith) at
+
+-- one turn of draining
+pub drain_turn : (old now new : Seen) (turn size : ℕ) → OnlyWorked old now → HavePassed now turn → turn < size → size ≡ length old.entries → OnlyWorked now new → ComeOn now new
+    → OnlyWorked old new × HavePassed new (turn + 1)
+drain_turn old now new turn size w p room is one on =
     let entries : length now.entries ≡ length old.entries = ap length w.entries_same in
-    let same : end_of (book_of old) ≡ end_of (book_of now) = omega arith in
-    all_done now n (omega arith) (λ j l. all j l ∙ ap Some same)
+    (only_both old now new w one, on turn (omega arith) p)
+
+-- where each module has taken every entry all is done
+pub drained_all : (old now : Seen) (turn size : ℕ) → OnlyWorked old now → HavePassed now turn → size ≤ turn → size ≡ length old.entries → IsTrue (is_done (book_of now))
+drained_all old now turn size w p past is =
+    let entries : length now.entries ≡ length old.entries = ap length w.entries_same in
+    all_pass (λ d. d == end_of (book_of now)) (book_of now).cursors
+    (λ i d at.
+    let got : (s : Shown) × (slice_get now.hands i ≡ Some s) × (s.cursor ≡ d) = map_got (λ s. s.cursor) now.hands i d at in
+    let high : got.0.cursor ≤ now.base + length now.entries = hand_high now i got.0 w.lawful got.1 in
+    let same : got.0.cursor ≡ d = got.2 in
+    let low : now.base + turn ≤ d = p i d at in
+    let is_end : d ≡ end_of (book_of now) = omega arith in
+    eq_true d (end_of (book_of now)) is_end)
 
 -- a call of work, whatever it answers
 pub only_after : {T E : Type 0} (r : Result T E) (a b : Seen) (i : ℕ) → IsCore a → IsCore b → length b.hands ≡ length a.hands → OnOk r (book_of b ≡ worked (book_of a) i) → OnErr r (b ≡ a) → OnlyWorked a b

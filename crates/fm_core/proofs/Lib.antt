@@ -1,6 +1,7 @@
 pub mod Lists
 pub mod Tests
 pub mod Along
+pub mod Spoken
 pub mod Ordered
 pub mod Places
 pub mod Drains

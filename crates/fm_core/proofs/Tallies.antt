@@ -1,47 +1,22 @@
 -- Counting one report more: where its class stands, and what is kept.
-use Rattle.std.proofs.Common.{◌≡◌, ℕ, zero, suc, ◌+◌, ◌-◌, ◌/◌, ◌%◌, ◌^◌, ◌<◌, ◌≤◌, Bool, true, false, cond, ◌&&◌, nat_lt, nat_le, IsTrue, List, [], ◌∷◌, length, drop, set, get_or, Option, Some, None, refl, sym, ◌∙◌, ap, subst, arith}
+use Rattle.std.proofs.Common.{◌≡◌, ℕ, zero, suc, ◌+◌, ◌-◌, ◌/◌, ◌%◌, ◌^◌, ◌<◌, ◌≤◌, Bool, true, false, cond, ◌&&◌, nat_lt, IsTrue, List, [], ◌∷◌, length, drop, set, get_or, Option, Some, None, Result, Ok, Err, IfOk, refl, sym, ◌∙◌, ap, subst, arith}
 use Rattle.std.specs.Prelude.{insert}
-use Rattle.std.specs.List.{slice_get, list_all, AllWithin}
+use Rattle.std.specs.List.{slice_get, AllWithin}
 use Rattle.std.specs.List.Sorted.{IsPartitionedBy}
 use Rattle.std.specs.declared.cmp.Ordering.{Ordering}
 use Rattle.std.specs.declared.cmp.Ordering.TheVariants.{Less, Equal, Greater}
-use Rattle.std.specs.Ordering.{nat_cmp, is_lt, is_eq, ordering_reverse}
-use Rattle.std.specs.Cmp.Lexicographic.{slice_cmp, nat_list_cmp_total, texts_ties}
+use Rattle.std.specs.Ordering.{is_lt, is_eq}
+use Rattle.std.specs.Cmp.Lexicographic.{texts_ties}
 use Rattle.std.proofs.lemmas.Bool.Decides.{nat_tests}
 use Rattle.std.proofs.lemmas.Option.{slice_get_read, slice_get_within}
-use Rattle.std.specs.Prelude.{All, ◌==◌}
+use Rattle.std.specs.Prelude.{◌==◌}
 use Rattle.std.proofs.lemmas.List.{at_drop_more}
-use Rattle.std.proofs.lemmas.List.Elements.{All-from_recursion}
-use Rattle.fm_name.specs.Class.{is_class}
-use Rattle.fm_name.specs.Path.{is_path}
 use Rattle.fm_entry.specs.declared.list_event.ListEvent.{ListEvent}
-use Rattle.fm_entry.specs.Words.{IsEvent, IsSuspect, IsWordOf}
 use Rattle.fm_core.specs.declared.class_count.ClassCount.{ClassCount}
-use Rattle.fm_core.specs.Counts.{order, one_more, counted, count_or, count_of, total_of, cases_of, is_ereport, is_count, is_past, is_ordered, are_counts, third, report_words}
+use Rattle.fm_core.specs.Counts.{order, one_more, counted, count_or, count_of, total_of, cases_of, is_ereport, is_past, is_ordered, are_counts, third, report_words}
 use Rattle.fm_core.specs.CountsOnce.{both_true, Counts, counts_are}
-use Rattle.fm_core.specs.Places.{place_step, place_of, is_of, is_standing, standing_count, counted_at}
-
--- the order of texts
-abbrev cmp : List ℕ → List ℕ → Ordering
-cmp = slice_cmp nat_cmp
-
-less_is : (r : Ordering) → IsTrue (is_lt r) → r ≡ Less
-less_is Less h = refl
-less_is Equal h = absurd (let no : ⊥ = cc in no)
-less_is Greater h = absurd (let no : ⊥ = cc in no)
-
-is_less : (r : Ordering) → r ≡ Less → IsTrue (is_lt r)
-is_less r e = ap is_lt e
-
-turned : (a b : List ℕ) (r : Ordering) → cmp a b ≡ r → cmp b a ≡ ordering_reverse r
-turned a b r e = nat_list_cmp_total.antisymm b a ∙ ap ordering_reverse e
-
-before_before : (a b c : List ℕ) → cmp a b ≡ Less → cmp b c ≡ Less → cmp a c ≡ Less
-before_before a b c p q = nat_list_cmp_total.trans a b c p q
-
-both : (a b : Bool) → IsTrue a → IsTrue b → IsTrue (a && b)
-both true b h k = k
-both false b h k = h
+use Rattle.fm_core.specs.CountsKept.{cmp, less_is, is_less, turned, before_before, both, one, past_greater, total_counted, counts_counted, cases_fit}
+use Rattle.fm_core.specs.Places.{place_step, place_of, is_of, is_standing, standing_count, place_in, count_or_none, count_found, counted_at}
 
 -- what is past a class is past what stands before that
 is_past_before : (a b : List ℕ) (xs : List ClassCount) → cmp a b ≡ Less → IsTrue (is_past b xs) → IsTrue (is_past a xs)
@@ -99,9 +74,6 @@ place_le class (x ∷ xs) = place_le_step (is_lt (order x class)) (place_of clas
 of_class : (x : ClassCount) (class : List ℕ) (r : Ordering) → order x class ≡ r → is_of class x ≡ is_eq r
 of_class x class r e = texts_ties x.class class ∙ ap is_eq e
 
-abbrev one : List ℕ → ClassCount
-one class = record { class = class; count = 1 }
-
 deeper_by : (class : List ℕ) (x y : ClassCount) (xs : List ClassCount) (i : ℕ) (b : Bool)
     → cond b (set (x ∷ xs) (suc i) (record y { count = y.count + 1 })) (insert (x ∷ xs) (suc i) (one class))
     ≡ x ∷ cond b (set xs i (record y { count = y.count + 1 })) (insert xs i (one class))
@@ -132,9 +104,6 @@ none_past class (x ∷ xs) h =
     let back : order x class ≡ Greater = turned class x.class Less up in
     rw back (none_past class xs (is_past_before class x.class xs up parts.1))
 
-past_greater : (class : List ℕ) (x : ClassCount) (xs : List ClassCount) → order x class ≡ Greater → IsTrue (is_ordered (x ∷ xs)) → IsTrue (is_past class (x ∷ xs))
-past_greater class x xs e h = both (is_lt (cmp class x.class)) (is_past x.class xs) (is_less (cmp class x.class) (turned x.class class Greater e)) h
-
 count_step : (class : List ℕ) (x : ClassCount) (xs : List ClassCount) (r : Ordering) → order x class ≡ r → IsTrue (is_ordered (x ∷ xs)) → count_of class xs ≡ standing_count class (slice_get xs (place_of class xs))
     → count_or r x (count_of class xs) ≡ standing_count class (slice_get (x ∷ xs) (place_step (is_lt r) (place_of class xs)))
 count_step class x xs Less e o h = h
@@ -150,16 +119,6 @@ pub count_is : (class : List ℕ) (xs : List ClassCount) → IsTrue (is_ordered 
 count_is class [] h = refl
 count_is class (x ∷ xs) h = count_step class x xs (order x class) refl h (count_is class xs (ordered_past x.class xs h))
 
-total_step : (class : List ℕ) (x : ClassCount) (xs : List ClassCount) (r : Ordering) → total_of (counted class xs) ≡ total_of xs + 1 → total_of (one_more r class x xs (counted class xs)) ≡ x.count + total_of xs + 1
-total_step class x xs Less h = omega arith
-total_step class x xs Equal h = omega arith
-total_step class x xs Greater h = omega arith
-
--- one more is counted
-pub total_counted : (class : List ℕ) (xs : List ClassCount) → total_of (counted class xs) ≡ total_of xs + 1
-total_counted class [] = refl
-total_counted class (x ∷ xs) = total_step class x xs (order x class) (total_counted class xs)
-
 cases_step : (class : List ℕ) (x : ClassCount) (xs : List ClassCount) (r : Ordering) → order x class ≡ r → IsTrue (is_ordered (x ∷ xs))
     → cases_of (counted class xs) + count_of class xs / 3 ≡ cases_of xs + (count_of class xs + 1) / 3
     → cases_of (one_more r class x xs (counted class xs)) + count_or r x (count_of class xs) / 3 ≡ x.count / 3 + cases_of xs + (count_or r x (count_of class xs) + 1) / 3
@@ -174,61 +133,6 @@ cases_step class x xs Greater e o h =
 pub cases_counted : (class : List ℕ) (xs : List ClassCount) → IsTrue (is_ordered xs) → cases_of (counted class xs) + count_of class xs / 3 ≡ cases_of xs + (count_of class xs + 1) / 3
 cases_counted class [] h = refl
 cases_counted class (x ∷ xs) h = cases_step class x xs (order x class) refl h (cases_counted class xs (ordered_past x.class xs h))
-
-past_step : (a class : List ℕ) (x : ClassCount) (xs : List ClassCount) (r : Ordering) → order x class ≡ r → cmp a class ≡ Less → IsTrue (is_past a (x ∷ xs)) → (IsTrue (is_past x.class xs) → cmp x.class class ≡ Less → IsTrue (is_past x.class (counted class xs)))
-    → IsTrue (is_past a (one_more r class x xs (counted class xs)))
-past_step a class x xs Less e p h more =
-    let parts : IsTrue (is_lt (cmp a x.class)) × IsTrue (is_past x.class xs) = both_true (is_lt (cmp a x.class)) (is_past x.class xs) h in
-    both (is_lt (cmp a x.class)) (is_past x.class (counted class xs)) parts.0 (more parts.1 e)
-past_step a class x xs Equal e p h more = h
-past_step a class x xs Greater e p h more =
-    let parts : IsTrue (is_lt (cmp a x.class)) × IsTrue (is_past x.class xs) = both_true (is_lt (cmp a x.class)) (is_past x.class xs) h in
-    both (is_lt (cmp a class)) (is_past class (x ∷ xs)) (is_less (cmp a class) p) (past_greater class x xs e parts.1)
-
-past_counted : (a class : List ℕ) (xs : List ClassCount) → cmp a class ≡ Less → IsTrue (is_past a xs) → IsTrue (is_past a (counted class xs))
-past_counted a class [] p h = both (is_lt (cmp a class)) true (is_less (cmp a class) p) refl
-past_counted a class (x ∷ xs) p h = past_step a class x xs (order x class) refl p h (λ k q. past_counted x.class class xs q k)
-
-ordered_step : (class : List ℕ) (x : ClassCount) (xs : List ClassCount) (r : Ordering) → order x class ≡ r → IsTrue (is_ordered (x ∷ xs)) → IsTrue (is_ordered (one_more r class x xs (counted class xs)))
-ordered_step class x xs Less e h = past_counted x.class class xs e h
-ordered_step class x xs Equal e h = h
-ordered_step class x xs Greater e h = past_greater class x xs e h
-
-pub ordered_counted : (class : List ℕ) (xs : List ClassCount) → IsTrue (is_ordered xs) → IsTrue (is_ordered (counted class xs))
-ordered_counted class [] h = refl
-ordered_counted class (x ∷ xs) h = ordered_step class x xs (order x class) refl h
-
-more_is_count : (x : ClassCount) → IsTrue (is_count x) → IsTrue (is_count (record x { count = x.count + 1 }))
-more_is_count x h =
-    let class : IsTrue (is_ereport x.class) = (both_true (is_ereport x.class) (nat_lt 0 x.count) h).0 in
-    let some : IsTrue (nat_lt 0 (x.count + 1)) = (let l : 0 < x.count + 1 = omega arith in grind (arith, nat_tests)) in
-    both (is_ereport x.class) (nat_lt 0 (x.count + 1)) class some
-
-each_step : (class : List ℕ) (x : ClassCount) (xs : List ClassCount) (r : Ordering) → IsTrue (is_ereport class) → IsTrue (list_all is_count (x ∷ xs)) → IsTrue (list_all is_count (counted class xs)) → IsTrue (list_all is_count (one_more r class x xs (counted class xs)))
-each_step class x xs Less e h more = both (is_count x) (list_all is_count (counted class xs)) (both_true (is_count x) (list_all is_count xs) h).0 more
-each_step class x xs Equal e h more =
-    let parts : IsTrue (is_count x) × IsTrue (list_all is_count xs) = both_true (is_count x) (list_all is_count xs) h in
-    both (is_count (record x { count = x.count + 1 })) (list_all is_count xs) (more_is_count x parts.0) parts.1
-each_step class x xs Greater e h more = both (is_count (one class)) (list_all is_count (x ∷ xs)) (both (is_ereport class) true e refl) h
-
-pub each_counted : (class : List ℕ) (xs : List ClassCount) → IsTrue (is_ereport class) → IsTrue (list_all is_count xs) → IsTrue (list_all is_count (counted class xs))
-each_counted class [] e h = both (is_count (one class)) true (both (is_ereport class) true e refl) refl
-each_counted class (x ∷ xs) e h = each_step class x xs (order x class) e h (each_counted class xs e (both_true (is_count x) (list_all is_count xs) h).1)
-
--- counts stay lawful as long as no more than 2^46 were counted
-pub counts_counted : (class : List ℕ) (xs : List ClassCount) → IsTrue (is_ereport class) → IsTrue (are_counts xs) → total_of xs < 2 ^ 46 → IsTrue (are_counts (counted class xs))
-counts_counted class xs e h room =
-    let was : Counts xs = counts_are xs h in
-    let total : total_of (counted class xs) ≡ total_of xs + 1 = total_counted class xs in
-    let fits : IsTrue (nat_le (total_of (counted class xs)) (2 ^ 46)) = (let l : total_of (counted class xs) ≤ 2 ^ 46 = omega arith in grind (arith, nat_tests)) in
-    both (is_ordered (counted class xs)) (list_all is_count (counted class xs) && nat_le (total_of (counted class xs)) (2 ^ 46))
-    (ordered_counted class xs was.ordered)
-    (both (list_all is_count (counted class xs)) (nat_le (total_of (counted class xs)) (2 ^ 46)) (each_counted class xs e was.counted) fits)
-
--- the number of the next case is below 2^63
-pub cases_fit : (xs : List ClassCount) → cases_of xs ≤ total_of xs
-cases_fit [] = omega arith
-cases_fit (x ∷ xs) = omega (arith, cases_fit xs)
 
 -- what stands at a place is no more than the total
 pub one_fits : (xs : List ClassCount) (i : ℕ) (d : ClassCount) → i < length xs → (get_or xs i d).count ≤ total_of xs
@@ -274,6 +178,60 @@ within_by class xs i (Some x) e h = slice_get_within xs i x e
 pub standing_within : (class : List ℕ) (xs : List ClassCount) (i : ℕ) (r : Bool) → r ≡ is_standing class (slice_get xs i) → r ≡ true → i < length xs
 standing_within class xs i r told holds = within_by class xs i (slice_get xs i) refl (sym told ∙ holds)
 
+-- what was found where the class stands, and where it would stand
+pub found_there : (class : List ℕ) (xs : List ClassCount) (i : ℕ) (r : Bool) → i ≡ place_of class xs → r ≡ is_standing class (slice_get xs i) → r ≡ true → Ok i ≡ place_in class xs
+found_there class xs i r at told holds =
+    let is : is_standing class (slice_get xs (place_of class xs)) ≡ true = ap (λ p. is_standing class (slice_get xs p)) (sym at) ∙ sym told ∙ holds in
+    let found : Result ℕ ℕ = Ok i in
+    subst (λ b. found ≡ cond b (Ok (place_of class xs)) (Err (place_of class xs))) (sym is) (ap Ok at)
+
+pub found_none : (class : List ℕ) (xs : List ClassCount) (i : ℕ) (r : Bool) → i ≡ place_of class xs → r ≡ is_standing class (slice_get xs i) → r ≡ false → Err i ≡ place_in class xs
+found_none class xs i r at told fails =
+    let is : is_standing class (slice_get xs (place_of class xs)) ≡ false = ap (λ p. is_standing class (slice_get xs p)) (sym at) ∙ sym told ∙ fails in
+    let found : Result ℕ ℕ = Err i in
+    subst (λ b. found ≡ cond b (Ok (place_of class xs)) (Err (place_of class xs))) (sym is) (ap Err at)
+
+ok_from : (i p : ℕ) (b : Bool) → Ok i ≡ cond b (Ok p) (Err p) → (i ≡ p) × (b ≡ true)
+ok_from i p true e = (cc, refl)
+ok_from i p false e = absurd (let no : ⊥ = cc in no)
+
+err_from : (i p : ℕ) (b : Bool) → Err i ≡ cond b (Ok p) (Err p) → (i ≡ p) × (b ≡ false)
+err_from i p true e = absurd (let no : ⊥ = cc in no)
+err_from i p false e = (cc, refl)
+
+-- and what a place says of its class
+pub there_from : (class : List ℕ) (xs : List ClassCount) (i : ℕ) → Ok i ≡ place_in class xs → (i ≡ place_of class xs) × (true ≡ is_standing class (slice_get xs i))
+there_from class xs i e =
+    let both : (i ≡ place_of class xs) × (is_standing class (slice_get xs (place_of class xs)) ≡ true) =
+    ok_from i (place_of class xs) (is_standing class (slice_get xs (place_of class xs))) e in
+    (both.0, sym (ap (λ p. is_standing class (slice_get xs p)) both.0 ∙ both.1))
+
+pub none_from : (class : List ℕ) (xs : List ClassCount) (i : ℕ) → Err i ≡ place_in class xs → (i ≡ place_of class xs) × (false ≡ is_standing class (slice_get xs i))
+none_from class xs i e =
+    let both : (i ≡ place_of class xs) × (is_standing class (slice_get xs (place_of class xs)) ≡ false) =
+    err_from i (place_of class xs) (is_standing class (slice_get xs (place_of class xs))) e in
+    (both.0, sym (ap (λ p. is_standing class (slice_get xs p)) both.0 ∙ both.1))
+
+-- a class that was found stands within the list
+pub found_within : (class : List ℕ) (xs : List ClassCount) (r : Result ℕ ℕ) → r ≡ place_in class xs → IfOk r (λ i. i < length xs)
+found_within class xs (Ok i) e = standing_within class xs i true (there_from class xs i e).1 refl
+found_within class xs (Err i) e = tt
+
+count_found_by : (class : List ℕ) (xs : List ClassCount) (i : ℕ) (x : ClassCount) → slice_get xs i ≡ Some x → (b : Bool) → count_found (cond b (Ok i) (Err i)) xs ≡ cond b x.count 0
+count_found_by class xs i x e true = ap count_or_none e
+count_found_by class xs i x e false = refl
+
+count_found_at : (class : List ℕ) (xs : List ClassCount) (i : ℕ) (o : Option ClassCount) → slice_get xs i ≡ o → count_found (cond (is_standing class o) (Ok i) (Err i)) xs ≡ standing_count class o
+count_found_at class xs i None e = refl
+count_found_at class xs i (Some x) e = count_found_by class xs i x e (is_of class x)
+
+-- the count at the place of a class is that of the class
+pub count_found_is : (class : List ℕ) (xs ys zs : List ClassCount) (r : Result ℕ ℕ) (n : ℕ) → IsTrue (are_counts xs) → ys ≡ xs → zs ≡ xs → r ≡ place_in class ys → n ≡ count_found r zs → n ≡ count_of class xs
+count_found_is class xs ys zs r n h same same' at told =
+    let place : ℕ = place_of class xs in
+    told ∙ ap (count_found r) same' ∙ ap (λ p. count_found p xs) (at ∙ ap (place_in class) same)
+    ∙ count_found_at class xs place (slice_get xs place) refl ∙ sym (count_is class xs (counts_are xs h).ordered)
+
 count_fits_by : (x : ClassCount) (more rest : ℕ) (r : Ordering) → more ≤ rest → count_or r x more ≤ x.count + rest
 count_fits_by x more rest Less h = omega arith
 count_fits_by x more rest Equal h = omega arith
@@ -293,26 +251,6 @@ says_is own total cases n xs class path t ws a few b e h =
     let words : ℕ → ℕ → List ListEvent = λ k m. cond ((m + 1) % 3 == 0) (third own k class path t ∷ []) [] in
     h ∙ ap (λ k. words k n) b ∙ ap (words (cases_of xs)) e
     ∙ ap (λ v. cond (v && ((count_of class xs + 1) % 3 == 0)) (third own (cases_of xs) class path t ∷ []) []) (sym counts)
-
-third_is : (own case : ℕ) (class path : List ℕ) (t : ℕ) → IsTrue (is_ereport class) → IsTrue (is_path path) → t < 2 ^ 62 → case < 2 ^ 63 → IsWordOf own (third own case class path t)
-third_is own case class path t a b h k =
-    record {
-      module_is = refl;
-      case_fits = k;
-      moment_fits = h;
-      conf_fits = omega arith;
-      observed_fit = omega arith;
-      observed_are = All-from_recursion IsEvent (record { class = class; path = path } ∷ [])
-          (record { class_is = (both_true (is_class class) _ a).0; path_is = b }, tt);
-      suspects_fit = omega arith;
-      suspects_are = All-from_recursion IsSuspect [] tt;
-    }
-
--- each of them has a spelling
-pub events_are : (own cases : ℕ) (class path : List ℕ) (t : ℕ) (third_one : Bool) → IsTrue (is_ereport class) → IsTrue (is_path path) → t < 2 ^ 62 → cases < 2 ^ 63
-    → All (IsWordOf own) (cond third_one (third own cases class path t ∷ []) [])
-events_are own cases class path t true a b h k = All-from_recursion (IsWordOf own) (third own cases class path t ∷ []) (third_is own cases class path t a b h k, tt)
-events_are own cases class path t false a b h k = All-from_recursion (IsWordOf own) [] tt
 
 -- the number of cases after one report more
 pub cases_after : (class : List ℕ) (xs : List ClassCount) (n : ℕ) → IsTrue (is_ordered xs) → n ≡ count_of class xs → cases_of xs + ((n + 1) / 3 - n / 3) ≡ cases_of (counted class xs)

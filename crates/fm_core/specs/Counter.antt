@@ -1,14 +1,17 @@
 -- What a counter is as a module.
-use Rattle.std.specs.Prelude.{◌≡◌, ℕ, Bool, true, false, IsTrue, List, []}
+use Rattle.std.specs.Prelude.{◌≡◌, ℕ, ◌<◌, ◌^◌, Bool, true, false, IsTrue, All, List, []}
 use Rattle.std.proofs.Common.{ap}
 use Rattle.fm_nv.specs.Data.{Pairs}
 use Rattle.fm_entry.specs.declared.entry.Entry.{Entry}
 use Rattle.fm_entry.specs.declared.entry.Entry.TheVariants.{Report, Tick}
 use Rattle.fm_entry.specs.declared.list_event.ListEvent.{ListEvent}
+use Rattle.fm_entry.specs.Entries.{IsSpelled}
+use Rattle.fm_entry.specs.Words.{IsWordOf}
 use Rattle.fm_core.specs.declared.class_count.ClassCount.{ClassCount}
 use Rattle.fm_core.specs.Meaning.{State, Counting, Foreign, Meaning}
 use Rattle.fm_core.specs.Counts.{counts_after, counter_words, are_counts, counts_bytes}
 use Rattle.fm_core.specs.CountsOnce.{counts_once}
+use Rattle.fm_core.specs.CountsKept.{counts_kept, words_kept}
 
 -- a counter: the number of its module, and its counts
 pub record CounterOf : Type 0 where
@@ -47,6 +50,14 @@ counter_after_ticks s n class path moment payload e = absurd (let no : ⊥ = cc 
 pub counter_says_ticks : (own : ℕ) (s : State) (n : ℕ) (class path : List ℕ) (moment : ℕ) (payload : Pairs) → counter_takes s class ≡ false → counter_says own s n (Report class path moment payload) ≡ counter_says own s n (Tick moment)
 counter_says_ticks own s n class path moment payload e = absurd (let no : ⊥ = cc in no)
 
+pub counter_after_holds : (s : State) (n : ℕ) (e : Entry) → IsTrue (counter_holds s) → n < 2 ^ 46 → IsSpelled e → IsTrue (counter_holds (counter_after s n e))
+counter_after_holds (Counting xs) n e h few s = counts_kept xs e h s
+counter_after_holds (Foreign bytes) n e h few s = h
+
+pub counter_says_words : (own : ℕ) (s : State) (n : ℕ) (e : Entry) → IsTrue (counter_holds s) → n < 2 ^ 46 → IsSpelled e → All (IsWordOf own) (counter_says own s n e)
+counter_says_words own (Counting xs) n e h few s = words_kept own xs e h s
+counter_says_words own (Foreign bytes) n e h few s = absurd (let no : ⊥ = cc in no)
+
 -- the meaning of the counter with this module number
 abbrev pub counter_meaning : ℕ → Meaning
 counter_meaning own =
@@ -59,5 +70,7 @@ counter_meaning own =
       saved = counter_saved;
       after_ticks = counter_after_ticks;
       says_ticks = counter_says_ticks own;
+      after_holds = counter_after_holds;
+      says_words = counter_says_words own;
       saved_once = counter_once;
     }

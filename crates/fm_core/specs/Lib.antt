@@ -11,5 +11,6 @@ pub mod Places
 pub mod Loading
 pub mod Faults
 pub mod CountsOnce
+pub mod CountsKept
 pub mod Counter
 pub mod Trials

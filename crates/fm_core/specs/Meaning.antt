@@ -1,9 +1,11 @@
 -- What a module is to contracts: its states, and its meaning.
-use Rattle.std.specs.Prelude.{◌≡◌, ℕ, Bool, false, List, IsTrue}
+use Rattle.std.specs.Prelude.{◌≡◌, ℕ, ◌<◌, ◌^◌, Bool, false, List, All, IsTrue}
 use Rattle.fm_nv.specs.Data.{Pairs}
 use Rattle.fm_entry.specs.declared.entry.Entry.{Entry}
 use Rattle.fm_entry.specs.declared.entry.Entry.TheVariants.{Report, Tick}
 use Rattle.fm_entry.specs.declared.list_event.ListEvent.{ListEvent}
+use Rattle.fm_entry.specs.Entries.{IsSpelled}
+use Rattle.fm_entry.specs.Words.{IsWordOf}
 use Rattle.fm_core.specs.declared.class_count.ClassCount.{ClassCount}
 
 -- a state of some module, one constructor for each kind: the counts of a counter by class, or the bytes
@@ -27,6 +29,9 @@ pub record Meaning : Type 0 where
       → takes s class ≡ false → after s n (Report class path moment payload) ≡ after s n (Tick moment)
   pub says_ticks : (s : State) (n : ℕ) (class path : List ℕ) (moment : ℕ) (payload : Pairs)
       → takes s class ≡ false → says s n (Report class path moment payload) ≡ says s n (Tick moment)
+  -- a lawful state is followed by lawful ones, and what is said at it is words of the module
+  pub after_holds : (s : State) (n : ℕ) (e : Entry) → IsTrue (holds s) → n < 2 ^ 46 → IsSpelled e → IsTrue (holds (after s n e))
+  pub says_words : (s : State) (n : ℕ) (e : Entry) → IsTrue (holds s) → n < 2 ^ 46 → IsSpelled e → All (IsWordOf own) (says s n e)
   -- equal saves of lawful states are of equal states
   pub saved_once : (s t : State) → IsTrue (holds s) → IsTrue (holds t) → saved s ≡ saved t → s ≡ t
 

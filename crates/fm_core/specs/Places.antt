@@ -1,5 +1,5 @@
 -- Where a class stands among counts, or would stand.
-use Rattle.std.specs.Prelude.{ℕ, suc, ◌+◌, Bool, true, false, cond, nat_eq, List, [], ◌∷◌, insert, slice_set, Option, Some, None}
+use Rattle.std.specs.Prelude.{ℕ, suc, ◌+◌, Bool, true, false, cond, nat_eq, List, [], ◌∷◌, insert, slice_get, slice_set, Option, Some, None, Result, Ok, Err}
 use Rattle.std.specs.Ordering.{is_lt}
 use lib.Pointwise.{pointwise}
 use Rattle.fm_core.specs.declared.class_count.ClassCount.{ClassCount}
@@ -26,6 +26,19 @@ is_standing class (Some x) = is_of class x
 abbrev pub standing_count : List ℕ → Option ClassCount → ℕ
 standing_count class None = 0
 standing_count class (Some x) = cond (is_of class x) x.count 0
+
+-- where a class stands, or else would stand
+abbrev pub place_in : List ℕ → List ClassCount → Result ℕ ℕ
+place_in class xs = cond (is_standing class (slice_get xs (place_of class xs))) (Ok (place_of class xs)) (Err (place_of class xs))
+
+abbrev pub count_or_none : Option ClassCount → ℕ
+count_or_none None = 0
+count_or_none (Some x) = x.count
+
+-- the count that stands at a place, or none
+abbrev pub count_found : Result ℕ ℕ → List ClassCount → ℕ
+count_found (Ok i) xs = count_or_none (slice_get xs i)
+count_found (Err i) xs = 0
 
 -- the counts with one report more, by what stands at the place of its class
 abbrev pub counted_at : List ℕ → List ClassCount → ℕ → Option ClassCount → List ClassCount

@@ -1,5 +1,5 @@
 -- The core as contracts see it: what shows of its hands, and the book that it stands for.
-use Rattle.std.specs.Prelude.{◌≡◌, ◌≢◌, ℕ, ◌-◌, ◌≤◌, ◌^◌, List, ◌++◌, map, length, All, slice_get, slice_set, Some}
+use Rattle.std.specs.Prelude.{◌≡◌, ℕ, ◌+◌, ◌-◌, ◌<◌, ◌≤◌, ◌^◌, List, ◌++◌, map, length, All, slice_get, slice_set, Some}
 use Rattle.fm_entry.specs.declared.entry.Entry.{Entry}
 use Rattle.fm_entry.specs.declared.spoken.Spoken.{Spoken}
 use Rattle.fm_entry.specs.Entries.{IsSpelled}
@@ -108,6 +108,14 @@ pub record OnlyWorked (old new : Seen) : Type 0 where
 abbrev pub HasComeTo : Seen → ℕ → ℕ → Type 0
 HasComeTo c i n = slice_get (book_of c).cursors i ≡ Some n
 
--- the cursors of the other modules are as they were
-abbrev pub SameBeside : ℕ → Seen → Seen → Type 0
-SameBeside i old new = (j : ℕ) → j ≢ i → slice_get (book_of new).cursors j ≡ slice_get (book_of old).cursors j
+-- each of the first k modules has taken the first n entries
+abbrev pub FirstPassed : Seen → ℕ → ℕ → Type 0
+FirstPassed c k n = (j d : ℕ) → j < k → slice_get (book_of c).cursors j ≡ Some d → c.base + n ≤ d
+
+-- each module has taken the first n entries
+abbrev pub HavePassed : Seen → ℕ → Type 0
+HavePassed c n = (j d : ℕ) → slice_get (book_of c).cursors j ≡ Some d → c.base + n ≤ d
+
+-- where each module had taken the first n entries, and there is one more, each has taken that too
+abbrev pub ComeOn : Seen → Seen → Type 0
+ComeOn old new = (n : ℕ) → n < length old.entries → HavePassed old n → HavePassed new (n + 1)

@@ -1,8 +1,10 @@
 -- A core of two counters, as the tests make it.
-use Rattle.std.specs.Prelude.{◌≡◌, ℕ, [], ◌∷◌, length}
-use Rattle.fm_core.specs.Hands.{HandOf}
+use Rattle.std.specs.Prelude.{◌≡◌, ℕ, List, [], ◌∷◌, length}
+use Rattle.fm_entry.specs.declared.entry.Entry.{Entry}
+use Rattle.fm_core.specs.Hands.{HandOf, Shown}
 use Rattle.fm_core.specs.Meaning.{State, Counting, Meaning}
 use Rattle.fm_core.specs.Counter.{CounterOf, counter_meaning}
+use Rattle.fm_core.specs.Folds.{state_along}
 use Rattle.fm_core.specs.Book.{Part}
 use Rattle.fm_core.specs.Seen.{CoreOf, Seen, seen, book_of, IsCore}
 
@@ -18,6 +20,16 @@ own_meaning c = counter_meaning c.number
 
 abbrev pub seen_counters : CoreOf CounterOf → Seen
 seen_counters c = seen own_meaning counter_state c
+
+-- a hand of module 0 that took these entries, from the start on
+abbrev pub shown_after : List Entry → Shown
+shown_after es =
+    record {
+      number = 0;
+      cursor = length es;
+      meaning = counter_meaning 0;
+      state = state_along (counter_meaning 0) (Counting []) 0 es;
+    }
 
 abbrev pub fresh_part : ℕ → Part
 fresh_part i = record { meaning = counter_meaning i; state = Counting [] }

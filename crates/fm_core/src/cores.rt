@@ -2,8 +2,8 @@ ghost use Rattle.std.specs.Prelude.{◌≡◌, ◌+◌, ◌-◌, ◌<◌, ◌≤
 ghost use Rattle.std.specs.Option.{ForSome};
 ghost use Rattle.fm_entry.specs.Entries.{IsSpelled};
 ghost use Rattle.fm_core.specs.Hands.{shown, stepped, spoken_at};
-ghost use Rattle.fm_core.specs.Book.{accepted, worked, fallen, floor_of, end_of, is_done};
-ghost use Rattle.fm_core.specs.Seen.{seen, book_of, FollowsAs, IsCore, AreFresh, OnlyWorked, HasComeTo, SameBeside};
+ghost use Rattle.fm_core.specs.Book.{accepted, worked, fallen, floor_of, is_done};
+ghost use Rattle.fm_core.specs.Seen.{AreFew, seen, book_of, FollowsAs, IsCore, AreFresh, OnlyWorked, HasComeTo, HavePassed, ComeOn};
 ghost use Rattle.fm_core.specs.Outcome.{outcome, after_step, kept_record};
 
 use crate::hand::Hand;
@@ -93,6 +93,15 @@ impl<M: Module> Core<M> {
         self.records.as_slice()
     }
 
+    /// The entries that it accepted.
+    #[cfg(test)]
+    pub(crate) fn entries(&self) -> &[Entry]
+        ensures entries { result.now ≡ self.now.entries }
+        ensures few { AreFew self.now.base result.now }
+    {
+        self.entries.as_slice()
+    }
+
     /// The hand of a module.
     pub fn hand(&self, module: u32) -> &Hand<M>
         requires { «module» < length self.now.hands }
@@ -132,32 +141,42 @@ impl<M: Module> Core<M> {
         self.work_at(alloc, module as usize)
     }
 
-    /// Lets each module in turn take every entry that it has not taken. After want of memory some of
-    /// them may have taken only some.
+    /// Lets every module take every entry that it has not taken. After want of memory some of them may
+    /// have taken only some.
     pub fn drain(&mut self, alloc: Global) -> Result<(), NoMemory>
         requires { IsCore (seen M.meaning M.state self.old) }
         ensures worked { OnlyWorked (seen M.meaning M.state self.old) (seen M.meaning M.state self.new) }
         ensures done { OnOk result (IsTrue (is_done (book_of (seen M.meaning M.state self.new)))) }
     {
-        'modules: for at in 0..self.hands.len() {
-            self.drain_at(alloc, at)?;
+        let first = self.least_place();
+        'turns: for _turn in first..self.entries.len() {
+            self.work_each(alloc)?;
         }
         Ok(())
     }
 
-    // lets the module at a place take every entry that it has not taken
-    fn drain_at(&mut self, alloc: Global, at: usize) -> Result<(), NoMemory>
-        requires inside { at < length self.old.hands }
-        requires lawful { IsCore (seen M.meaning M.state self.old) }
+    // lets each module take its next entry, so that an entry is in the processor's cache for them all
+    fn work_each(&mut self, alloc: Global) -> Result<(), NoMemory>
+        requires { IsCore (seen M.meaning M.state self.old) }
         ensures worked { OnlyWorked (seen M.meaning M.state self.old) (seen M.meaning M.state self.new) }
-        ensures done { OnOk result (HasComeTo (seen M.meaning M.state self.new) at (end_of (book_of (seen M.meaning M.state self.old)))) }
-        ensures others { OnOk result (SameBeside at (seen M.meaning M.state self.old) (seen M.meaning M.state self.new)) }
+        ensures on { OnOk result (ComeOn (seen M.meaning M.state self.old) (seen M.meaning M.state self.new)) }
     {
-        let place = self.next_place(at);
-        'turns: for _turn in place..self.entries.len() {
+        'modules: for at in 0..self.hands.len() {
             self.work_at(alloc, at)?;
         }
         Ok(())
+    }
+
+    // the place, among the entries, before which each module has taken all
+    fn least_place(&self) -> usize
+        requires { IsCore (seen M.meaning M.state self.now) }
+        ensures { HavePassed (seen M.meaning M.state self.now) result }
+    {
+        let mut least = self.entries.len();
+        'modules: for at in 0..self.hands.len() {
+            least = least.min(self.next_place(at));
+        }
+        least
     }
 
     // lets the module at a place take its next entry
@@ -185,7 +204,6 @@ impl<M: Module> Core<M> {
         requires lawful { IsCore (seen M.meaning M.state self.now) }
         ensures hand { ForSome (slice_get self.now.hands at) (λ hand. (self.now.base ≤ hand.cursor) × (result ≡ hand.cursor - self.now.base)) }
         ensures cursor { HasComeTo (seen M.meaning M.state self.now) at (self.now.base + result) }
-        ensures within { result ≤ length self.now.entries }
     {
         let hand = &self.hands[at];
         (hand.cursor() - self.base) as usize

@@ -4,7 +4,7 @@ ghost use Rattle.fm_entry.specs.Words.{IsWordOf};
 ghost use Rattle.fm_core.specs.Counts.{is_ereport, are_counts, report_words, report_counts};
 
 use crate::class_count::ClassCount;
-use crate::counting::{count_at, count_in, find_place, third_word};
+use crate::counting::{count_at, count_in, find_class, third_word};
 use crate::module::{LoadFault, Module};
 use crate::no_memory::NoMemory;
 use crate::saving::{MOST, cases, counted_total, put_counts, read_counts};
@@ -88,14 +88,14 @@ impl Counter {
         if self.total >= MOST {
             return Ok(Vec::new(alloc));
         }
-        let at = find_place(&self.counts, class);
-        let before = count_at(&self.counts, at, class);
+        let place = find_class(&self.counts, class);
+        let before = count_at(&self.counts, place);
         let case = CaseName {
             module: self.number,
             case: self.cases,
         };
         let words = third_word(alloc, case, before + 1, class, path, moment)?;
-        count_in(&mut self.counts, at, class)?;
+        count_in(&mut self.counts, place, class)?;
         self.total += 1;
         self.cases += (before + 1) / 3 - before / 3;
         Ok(words)

@@ -1,6 +1,6 @@
 ghost use Rattle.std.specs.Prelude.{◌≡◌, ◌<◌, ◌≤◌, ◌+◌, ◌%◌, ◌^◌, ◌==◌, [], ◌∷◌, length, slice_get, IsTrue, IfOk, OnOk, OnErr, if◌then◌else◌};
-ghost use Rattle.fm_core.specs.Counts.{is_ordered, count_of, total_of, counted, third};
-ghost use Rattle.fm_core.specs.Places.{place_of, is_standing, standing_count};
+ghost use Rattle.fm_core.specs.Counts.{is_ordered, total_of, counted, third};
+ghost use Rattle.fm_core.specs.Places.{place_of, is_standing, place_in, count_found};
 
 use crate::class_count::ClassCount;
 use crate::no_memory::NoMemory;
@@ -8,8 +8,21 @@ use fm_entry::{CaseName, EventNames, ListEvent, ListKind, Suspects};
 use fm_name::{Class, EventName, Fmri};
 use std::alloc::Global;
 
-// where the class stands, or would stand
-pub(crate) fn find_place(counts: &[ClassCount], class: &Class) -> usize
+// where the class stands, or else would stand
+pub(crate) fn find_class(counts: &[ClassCount], class: &Class) -> Result<usize, usize>
+    requires { IsTrue (is_ordered counts.now) }
+    ensures { result ≡ place_in class.now counts.now }
+{
+    let at = find_place(counts, class);
+    if stands(counts, at, class) {
+        Ok(at)
+    } else {
+        Err(at)
+    }
+}
+
+// how many counts are of classes before the class
+fn find_place(counts: &[ClassCount], class: &Class) -> usize
     requires { IsTrue (is_ordered counts.now) }
     ensures { result ≡ place_of class.now counts.now }
 {
@@ -26,45 +39,39 @@ fn stands(counts: &[ClassCount], at: usize, class: &Class) -> bool
     }
 }
 
-// the count of the class, which stands at the place or nowhere
-pub(crate) fn count_at(counts: &[ClassCount], at: usize, class: &Class) -> u64
-    requires ordered { IsTrue (is_ordered counts.now) }
-    requires place { at ≡ place_of class.now counts.now }
-    ensures count { result ≡ count_of class.now counts.now }
-    ensures few { result ≤ total_of counts.now }
+// the count that stands at the place, or none
+pub(crate) fn count_at(counts: &[ClassCount], place: Result<usize, usize>) -> u64
+    requires { IfOk place (λ at. at < length counts.now) }
+    ensures { result ≡ count_found place counts.now }
 {
-    standing(counts, at, class)
-}
-
-// the count of the class, if it stands at the place
-fn standing(counts: &[ClassCount], at: usize, class: &Class) -> u64
-    ensures { result ≡ standing_count class.now (slice_get counts.now at) }
-{
-    match counts.get(at) {
-        Some(x) => { if x.class == *class { x.count } else { 0 } }
-        None => 0,
+    match place {
+        Ok(at) => counts[at].count,
+        Err(_) => 0,
     }
 }
 
 // counts one report more of the class
 pub(crate) fn count_in(
     counts: &mut Vec<ClassCount>,
-    at: usize,
+    place: Result<usize, usize>,
     class: &Class,
 ) -> Result<(), NoMemory>
-    requires place { at ≡ place_of class.now counts.old.items }
+    requires place { place ≡ place_in class.now counts.old.items }
     requires fits { total_of counts.old.items < 2 ^ 46 }
     ensures ok { OnOk result (counts.new.items ≡ counted class.now counts.old.items) }
     ensures err { OnErr result (counts.new.items ≡ counts.old.items) }
 {
-    if stands(counts, at, class) {
-        let own = &mut counts[at];
-        own.count += 1;
-        Ok(())
-    } else {
-        let class = class.copy()?;
-        counts.insert(at, ClassCount { class, count: 1 })?;
-        Ok(())
+    match place {
+        Ok(at) => {
+            let own = &mut counts[at];
+            own.count += 1;
+            Ok(())
+        }
+        Err(at) => {
+            let class = class.copy()?;
+            counts.insert(at, ClassCount { class, count: 1 })?;
+            Ok(())
+        }
     }
 }
 

@@ -18,6 +18,9 @@
 //! Nothing of a core is lost where memory is wanted: `accept` and `work` leave it as it was, and
 //! `Hand::step` gives the hand back.
 //!
+//! What a module says from a lawful state on, along entries that have spellings, are words that a log can
+//! hold (`words_are_spelled`).
+//!
 //! `Counter` is a small module, which counts reports by class and says an upset at every third report of
 //! one class. What its `save` writes, `load` takes back, and `load` refuses all other bytes.
 #![tactic(auto)]
@@ -39,7 +42,7 @@ pub use class_count::ClassCount;
 pub use cores::Core;
 pub use counter::Counter;
 pub use hand::Hand;
-pub use laws::any_order;
+pub use laws::{any_order, words_are_spelled};
 pub use module::{LoadFault, Module};
 pub use no_memory::NoMemory;
 pub use worked::Worked;

@@ -1,21 +1,23 @@
 use crate::cores::Core;
 use crate::counter::Counter;
 use crate::hand::Hand;
-use crate::laws::any_order;
+use crate::laws::{any_order, words_are_spelled};
 use crate::module::{LoadFault, Module};
 use crate::trials::loaded::{Loaded, core_of_one, step_loaded, work_loaded};
 use crate::worked::Worked;
-use fm_entry::Entry;
+use fm_entry::{Entry, ListEvent, Spoken};
 use fm_name::{Category, read_class, read_fmri};
 use fm_nv::Nv;
 use std::alloc::Global;
+use std::process::Abort;
 use std::test::Fail;
 
 mod loaded;
 
-ghost use Rattle.std.specs.Prelude.{◌≡◌, ◌<◌, ◌^◌, [], ◌∷◌, IfSome, OnSome};
+ghost use Rattle.std.specs.Prelude.{◌≡◌, ◌<◌, ◌≤◌, ◌^◌, true, [], ◌∷◌, length, All, IfSome, OnSome};
 ghost use Rattle.fm_entry.specs.Entries.{IsSpelled};
-ghost use Rattle.fm_core.specs.Trials.{IsFilled, fresh_hand};
+ghost use Rattle.fm_core.specs.Hands.{shown};
+ghost use Rattle.fm_core.specs.Trials.{IsFilled, fresh_hand, own_meaning, counter_state, shown_after};
 
 // a report without a payload
 fn report(alloc: Global, class: &str, moment: u64) -> Option<Entry>
@@ -75,71 +77,27 @@ fn fill(alloc: Global, core: &mut Core<Counter>, moment: u64) -> Option<()>
     Some(())
 }
 
-// a core of two counters that has accepted three reports of one class
+// a core of two counters that has accepted six reports of one class, at the moments 7 to 12
 fn filled(alloc: Global) -> Option<Core<Counter>>
     ensures { IfSome result IsFilled }
 {
     let mut core = two(alloc)?;
-    fill(alloc, &mut core, 7)?;
-    fill(alloc, &mut core, 8)?;
-    fill(alloc, &mut core, 9)?;
+    'reports: for moment in 7..13 {
+        fill(alloc, &mut core, moment)?;
+    }
     Some(core)
 }
 
-// the number, the case and the moment of the first record of a module
-fn told(core: &Core<Counter>, module: u32) -> Option<(u64, u64, u64)> {
-    for spoken in core.spoken() {
-        if spoken.module == module {
-            let word = spoken.events.as_slice().first()?;
-            return Some((spoken.number, word.case.case, word.moment));
-        }
-    }
-    None
-}
-
-// lets module 1 take every entry
-fn work_second(alloc: Global, core: &mut Core<Counter>) -> Option<()>
-    requires { IsFilled core.old }
+// lets a module take so many entries
+fn work_on(alloc: Global, core: &mut Core<Counter>, module: u32, times: u64) -> Option<()>
+    requires filled { IsFilled core.old }
+    requires known { «module» < 2 }
     ensures { OnSome result (IsFilled core.new) }
 {
-    work_one(alloc, core)?;
-    work_one(alloc, core)?;
-    work_one(alloc, core)
-}
-
-// lets module 1 take an entry
-fn work_one(alloc: Global, core: &mut Core<Counter>) -> Option<()>
-    requires { IsFilled core.old }
-    ensures { OnSome result (IsFilled core.new) }
-{
-    match core.work(alloc, 1) {
-        Ok(_) => Some(()),
-        Err(_) => None,
+    'turns: for _turn in 0..times {
+        core.work(alloc, module).ok()?;
     }
-}
-
-// puts module 0, which has spoken nothing yet, back to the start, and tells how far it had come
-fn fall_to_start(alloc: Global, core: &mut Core<Counter>) -> Option<u64>
-    requires { IsFilled core.old }
-    ensures { OnSome result (IsFilled core.new) }
-{
-    if core.spoken().len() > 0 {
-        return None;
-    }
-    let fresh = Hand::new(0, 0, Counter::new(alloc, 0));
-    let own = core.fall(0, fresh);
-    Some(own.cursor())
-}
-
-// lets module 0 take an entry
-fn work_first(alloc: Global, core: &mut Core<Counter>) -> Option<()>
-    requires { IsFilled core.old }
-    ensures { OnSome result (IsFilled core.new) }
-{
-    match core.work(alloc, 0) {
-        Ok(_) => Some(()),
-        Err(_) => None,
-    }
+    Some(())
 }
 
 // lets both modules take every entry
@@ -153,41 +111,141 @@ fn finish(alloc: Global, core: &mut Core<Counter>) -> Option<()>
     }
 }
 
-// how many reports of its first class a module has counted
-fn counted_by(core: &Core<Counter>, module: u32) -> Option<u64>
+// a hand of module 0 that took these entries, from the start on
+fn rebuilt(alloc: Global, entries: &[Entry]) -> Option<Hand<Counter>>
+    requires spelled { All IsSpelled entries.now }
+    requires few { length entries.now ≤ 2 ^ 46 }
+    ensures { IfSome result (λ hand. shown own_meaning counter_state hand ≡ shown_after entries.now) }
+{
+    let mut hand = Hand::new(0, 0, Counter::new(alloc, 0));
+    'steps: for entry in entries {
+        hand = match hand.step(alloc, entry) {
+            Ok((next, _spoken)) => next,
+            Err(_) => return None,
+        };
+    }
+    Some(hand)
+}
+
+// whether the records are all numbered below a number
+fn are_below(records: &[Spoken], number: u64) -> bool
+    ensures { result ≡ true → All (λ r. r.number < number) records.now }
+{
+    'records: for spoken in records {
+        if spoken.number >= number {
+            return false;
+        }
+    }
+    true
+}
+
+// puts module 0 back to where it had taken so many entries, if that is not below its floor, and tells
+// how far it had come
+fn fall_to(alloc: Global, core: &mut Core<Counter>, place: usize) -> Option<u64>
+    requires { IsFilled core.old }
+    ensures { OnSome result (IsFilled core.new) }
+{
+    let entries = core.entries();
+    if place > entries.len() {
+        return None;
+    }
+    let hand = rebuilt(alloc, &entries[..place])?;
+    if core.hand(0).cursor() < hand.cursor() {
+        return None;
+    }
+    if !are_below(core.spoken(), hand.cursor()) {
+        return None;
+    }
+    let own = core.fall(0, hand);
+    Some(own.cursor())
+}
+
+// a word, with all that it says
+fn tell_word(alloc: Global, text: &mut String, word: &ListEvent) -> Result<(), Fail> {
+    let head = format!(in alloc;
+        " {:?} {}/{} at {} conf {} of",
+        word.kind, word.case.module, word.case.case, word.moment, word.conf
+    )?;
+    text.push_str(head.as_str())?;
+    for event in word.observed.as_slice() {
+        let observed = format!(in alloc; " {}={}", event.class.text(), event.path.text())?;
+        text.push_str(observed.as_str())?;
+    }
+    let tail = format!(in alloc; " by {};", word.suspects.as_slice().len())?;
+    text.push_str(tail.as_str())?;
+    Ok(())
+}
+
+// a record, with all its words
+fn tell_record(alloc: Global, text: &mut String, spoken: &Spoken) -> Result<(), Fail> {
+    let head = format!(in alloc; "{}@{}:", spoken.module, spoken.number)?;
+    text.push_str(head.as_str())?;
+    for word in spoken.events.as_slice() {
+        tell_word(alloc, text, word)?;
+    }
+    text.push_str("\n")?;
+    Ok(())
+}
+
+// the save of a counter, in hexadecimal digits
+fn tell_save(alloc: Global, text: &mut String, counter: &Counter) -> Result<(), Fail> {
+    let mut bytes = Vec::new(alloc);
+    counter.save(&mut bytes)?;
+    for byte in bytes.as_slice() {
+        let digits = format!(in alloc; "{byte:02x}")?;
+        text.push_str(digits.as_str())?;
+    }
+    Ok(())
+}
+
+// what a module has come to: each of its records, and the save of its state
+fn told(alloc: Global, core: &Core<Counter>, module: u32) -> Result<String, Fail>
     requires filled { IsFilled core.now }
     requires known { «module» < 2 }
 {
-    Some(core.hand(module).state().counts().first()?.count)
+    let mut text = String::new(alloc);
+    for spoken in core.spoken() {
+        if spoken.module == module {
+            tell_record(alloc, &mut text, spoken)?;
+        }
+    }
+    tell_save(alloc, &mut text, core.hand(module).state())?;
+    Ok(text)
 }
 
-#[test]
-fn takes_each_entry_once_after_a_fall(rt: HostRuntime) -> Result<(), Fail> {
-    let alloc = rt.alloc();
-    let mut core = filled(alloc).ok_or("core")?;
-    work_first(alloc, &mut core).ok_or("work")?;
-    let fallen_from = fall_to_start(alloc, &mut core).ok_or("fall")?;
-    assert_eq!(rt; fallen_from, 1);
-    finish(alloc, &mut core).ok_or("drain")?;
-    assert_eq!(rt; core.spoken().len(), 2);
-    assert_eq!(rt; told(&core, 0), Some((2, 0, 9)));
-    assert_eq!(rt; told(&core, 1), Some((2, 0, 9)));
-    assert_eq!(rt; counted_by(&core, 0), Some(3));
-    assert_eq!(rt; counted_by(&core, 1), Some(3));
+// drains the core, and compares what its modules come to with a core that was only drained
+fn ends_alike(rt: &impl Abort, alloc: Global, core: &mut Core<Counter>) -> Result<(), Fail>
+    requires { IsFilled core.old }
+{
+    let mut straight = filled(alloc).ok_or("straight")?;
+    finish(alloc, &mut straight).ok_or("drain")?;
+    finish(alloc, core).ok_or("drain too")?;
+    assert_eq!(rt; core.spoken().len(), straight.spoken().len());
+    let first = told(alloc, core, 0)?;
+    assert_eq!(rt; first.as_str(), told(alloc, &straight, 0)?.as_str());
+    let second = told(alloc, core, 1)?;
+    assert_eq!(rt; second.as_str(), told(alloc, &straight, 1)?.as_str());
     Ok(())
 }
+
+// what module 0 comes to in the straight order: an upset at the third and at the sixth report
+const FIRST: &str =
+    "0@2: Upset 0/0 at 9 conf 0 of ereport.cpu.ue=hc:///chassis=0/cpu=1 by 0;\n0@5: Upset 0/1 at 12 conf 0 of ereport.cpu.ue=hc:///chassis=0/cpu=1 by 0;\n0000000000000001000e657265706f72742e6370752e75650000000000000006";
+
+// and module 1
+const SECOND: &str =
+    "1@2: Upset 1/0 at 9 conf 0 of ereport.cpu.ue=hc:///chassis=0/cpu=1 by 0;\n1@5: Upset 1/1 at 12 conf 0 of ereport.cpu.ue=hc:///chassis=0/cpu=1 by 0;\n0000000000000001000e657265706f72742e6370752e75650000000000000006";
 
 #[test]
 fn takes_each_entry_once(rt: HostRuntime) -> Result<(), Fail> {
     let alloc = rt.alloc();
     let mut core = filled(alloc).ok_or("core")?;
+    assert_eq!(rt; core.len(), 6);
     finish(alloc, &mut core).ok_or("drain")?;
-    assert_eq!(rt; core.len(), 3);
-    assert_eq!(rt; core.spoken().len(), 2);
-    assert_eq!(rt; told(&core, 0), Some((2, 0, 9)));
-    assert_eq!(rt; told(&core, 1), Some((2, 0, 9)));
-    assert_eq!(rt; counted_by(&core, 0), Some(3));
-    assert_eq!(rt; counted_by(&core, 1), Some(3));
+    assert_eq!(rt; core.len(), 6);
+    assert_eq!(rt; core.spoken().len(), 4);
+    assert_eq!(rt; told(alloc, &core, 0)?.as_str(), FIRST);
+    assert_eq!(rt; told(alloc, &core, 1)?.as_str(), SECOND);
     Ok(())
 }
 
@@ -195,15 +253,35 @@ fn takes_each_entry_once(rt: HostRuntime) -> Result<(), Fail> {
 fn takes_each_entry_once_with_module_one_first(rt: HostRuntime) -> Result<(), Fail> {
     let alloc = rt.alloc();
     let mut core = filled(alloc).ok_or("core")?;
-    work_second(alloc, &mut core).ok_or("work")?;
-    assert_eq!(rt; core.spoken().len(), 1);
-    finish(alloc, &mut core).ok_or("drain")?;
+    work_on(alloc, &mut core, 1, 6).ok_or("work")?;
+    assert_eq!(rt; core.hand(1).cursor(), 6);
+    assert_eq!(rt; core.hand(0).cursor(), 0);
     assert_eq!(rt; core.spoken().len(), 2);
-    assert_eq!(rt; told(&core, 0), Some((2, 0, 9)));
-    assert_eq!(rt; told(&core, 1), Some((2, 0, 9)));
-    assert_eq!(rt; counted_by(&core, 0), Some(3));
-    assert_eq!(rt; counted_by(&core, 1), Some(3));
-    Ok(())
+    ends_alike(&rt, alloc, &mut core)
+}
+
+#[test]
+fn takes_each_entry_once_after_a_fall_to_the_start(rt: HostRuntime) -> Result<(), Fail> {
+    let alloc = rt.alloc();
+    let mut core = filled(alloc).ok_or("core")?;
+    work_on(alloc, &mut core, 0, 2).ok_or("work")?;
+    let fallen_from = fall_to(alloc, &mut core, 0).ok_or("fall")?;
+    assert_eq!(rt; fallen_from, 2);
+    assert_eq!(rt; core.hand(0).cursor(), 0);
+    ends_alike(&rt, alloc, &mut core)
+}
+
+#[test]
+fn takes_each_entry_once_after_a_fall_behind_a_word(rt: HostRuntime) -> Result<(), Fail> {
+    let alloc = rt.alloc();
+    let mut core = filled(alloc).ok_or("core")?;
+    work_on(alloc, &mut core, 0, 5).ok_or("work")?;
+    assert_eq!(rt; core.spoken().len(), 1);
+    let fallen_from = fall_to(alloc, &mut core, 3).ok_or("fall")?;
+    assert_eq!(rt; fallen_from, 5);
+    assert_eq!(rt; core.hand(0).cursor(), 3);
+    assert_eq!(rt; core.spoken().len(), 1);
+    ends_alike(&rt, alloc, &mut core)
 }
 
 // whether a fresh counter takes the bytes, and keeps itself as just these again
@@ -281,6 +359,7 @@ fn subscribes_to_every_class(rt: HostRuntime) -> Result<(), Fail> {
     let class = read_class(alloc, "ereport.io.scsi")?.ok_or("class")?;
     assert!(rt; counter.subscribes(&class));
     any_order();
+    words_are_spelled();
     Ok(())
 }
 

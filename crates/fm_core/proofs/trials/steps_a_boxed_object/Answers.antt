@@ -1,4 +1,4 @@
-use Rattle.std.proofs.Common.{◌≡◌, ◌∙◌, ap, refl, inl}
+use Rattle.std.proofs.Common.{◌∙◌, ap, refl, inl}
 use denote.Param.Object.{read_made}
 use Rattle.fm_core.specs.Meaning.{Meaning}
 use Rattle.fm_core.specs.Counter.{CounterOf, counter_meaning}

@@ -1,4 +1,4 @@
-use Rattle.std.proofs.Common.{◌≡◌, ◌∙◌, ap, refl, sym, inl}
+use Rattle.std.proofs.Common.{◌∙◌, ap, refl, sym, inl}
 use denote.Param.Object.{read_made}
 use Rattle.fm_core.specs.Meaning.{Meaning, State, Counting}
 use Rattle.fm_core.specs.Counter.{CounterOf, counter_meaning}

@@ -1,14 +1,17 @@
-use Rattle.std.proofs.Common.{◌≡◌, ◌∙◌, length, sym}
-use Rattle.std.proofs.lemmas.List.{length-map}
-use Rattle.fm_core.specs.Hands.{shown}
+use Rattle.std.proofs.Common.{◌≡◌, ◌∙◌, length}
 use Rattle.fm_core.specs.Seen.{seen}
-use Rattle.fm_core.proofs.Draining.{drained_all}
+use Rattle.fm_core.proofs.Draining.{drain_turn, drained_all}
 use Rattle.fm_core.proofs.cores.Core.drain.Goals as goal
+
+pub turns-preserved : goal.turns-preserved
+turns-preserved g c =
+    let size : c.len-turn-end.result ≡ length c.args.self.now.entries = rw (← c.self.view_is) (c.len-turn-end.ensures ∙ c.self.inside.entries.ok.0) in
+    drain_turn (seen g.M.Module.meaning g.M.Module.state c.args.self.now) (seen g.M.Module.meaning g.M.Module.state c.turns.self)
+    (seen g.M.Module.meaning g.M.Module.state c.work_each.new.self) c.turns._turn c.len-turn-end.result c.turns.invariant.0
+    c.turns.invariant.1 c.turns-test.true size c.work_each.ensures.worked c.in_ok-work_each.ensures.on
 
 pub returns-clause-done : goal.returns-clause-done
 returns-clause-done g c =
-    let size : c.len-at-end.result ≡ length c.args.self.now.hands = rw (← c.self.view_is) (c.len-at-end.ensures ∙ c.self.inside.hands.ok.0) in
-    drained_all (seen g.M.Module.meaning g.M.Module.state c.args.self.now) (seen g.M.Module.meaning g.M.Module.state c.modules.self) c.modules.at
-    c.len-at-end.result c.modules.invariant.0 c.modules-test.false
-    (size ∙ sym (length-map c.args.self.now.hands (shown g.M.Module.meaning g.M.Module.state))) c.modules.auto.at-end
-    c.modules.invariant.1
+    let size : c.len-turn-end.result ≡ length c.args.self.now.entries = rw (← c.self.view_is) (c.len-turn-end.ensures ∙ c.self.inside.entries.ok.0) in
+    drained_all (seen g.M.Module.meaning g.M.Module.state c.args.self.now) (seen g.M.Module.meaning g.M.Module.state c.turns.self)
+    c.turns._turn c.len-turn-end.result c.turns.invariant.0 c.turns.invariant.1 c.turns-test.false size

@@ -1,5 +1,5 @@
 use Rattle.fm_core.specs.Seen.{CoreOf}
-use Rattle.fm_core.proofs.Calls.{place_low, place_is, place_cursor, place_within}
+use Rattle.fm_core.proofs.Calls.{place_low, place_is, place_cursor}
 use Rattle.fm_core.proofs.cores.Core.next_place.Goals as goal
 use Rattle.fm_core.proofs.cores.Core.next_place.Given.{Over}
 
@@ -31,12 +31,5 @@ pub returns-clause-cursor : goal.returns-clause-cursor
 returns-clause-cursor g c =
     rw (← c.self.view_is)
     (place_cursor g.M.Module.meaning g.M.Module.state (before g c) c.args.at c.index-hand.result.now c.cursor.result
-    (rw (← c.self.view_is) at c.requires.inside) c.index-hand.ensures c.cursor.ensures
-    (rw (← c.self.view_is) at c.requires.lawful))
-
-pub returns-clause-within : goal.returns-clause-within
-returns-clause-within g c =
-    rw (← c.self.view_is)
-    (place_within g.M.Module.meaning g.M.Module.state (before g c) c.args.at c.index-hand.result.now c.cursor.result
     (rw (← c.self.view_is) at c.requires.inside) c.index-hand.ensures c.cursor.ensures
     (rw (← c.self.view_is) at c.requires.lawful))
