@@ -1,12 +1,10 @@
 -- A list with one more pair at its end.
-use Rattle.std.proofs.Common.{◌≡◌, ℕ, suc, ◌+◌, ◌≤◌, max, Bool, true, false, not, nat_le, bytes_eq, IsTrue, List, [], ◌∷◌, ◌++◌, Some, None, if◌then◌else◌, refl, ap, arith, string_bytes}
+use Rattle.std.proofs.Common.{◌≡◌, ℕ, suc, ◌+◌, ◌<◌, ◌≤◌, max, Bool, true, false, not, nat_le, bytes_eq, IsTrue, List, Some, None, if◌then◌else◌, refl, arith}
 use Rattle.std.specs.Str.{is_utf8}
 use Rattle.std.proofs.lemmas.Bool.{false≢true, le-leb, leb-false, ltb-false}
 use Rattle.fm_nv.specs.Data.{Pairs, Data, no_pairs, pair, count, depth, data_depth, add, has}
 use Rattle.fm_nv.specs.Spelled.{is_name, value_fits, pairs_fit, distinct, is_counted, IsSpelledList}
 use Rattle.fm_nv.specs.Refusal.{refusal, is_within}
-use Rattle.fm_nv.specs.View.{datum, pairs_of}
-use Rattle.fm_nv.specs.declared.nv.Pair.{Pair}
 use Rattle.fm_nv.specs.declared.fault.NvFault.TheVariants.{BadName, Twice, TooDeep, TooMany}
 use Rattle.fm_nv.proofs.Booleans.{and_parts, and_true, or_parts, or_false, not_false, not_true, differ_back}
 
@@ -19,11 +17,6 @@ depth_add k d (pair j e ps) = omega (arith, depth_add k d ps)
 pub count_add : (k : List ℕ) (d : Data) (ps : Pairs) → count (add k d ps) ≡ count ps + 1
 count_add k d no_pairs = refl
 count_add k d (pair j e ps) = omega (arith, count_add k d ps)
-
--- an item more is a pair more
-pub pairs_of_push : (xs : List Pair) (p : Pair) → pairs_of (xs ++ p ∷ []) ≡ add (string_bytes p.name) (datum p.value) (pairs_of xs)
-pairs_of_push [] p = refl
-pairs_of_push (x ∷ xs) p = ap (pair (string_bytes x.name) (datum x.value)) (pairs_of_push xs p)
 
 -- a pair more has a spelling where the others and it have one
 pub pairs_fit_add : (k : List ℕ) (d : Data) (ps : Pairs) → IsTrue (is_name k) → IsTrue (value_fits d) → IsTrue (pairs_fit ps) → IsTrue (pairs_fit (add k d ps))
@@ -60,6 +53,15 @@ none_found false true c d h = cc
 none_found false false true d h = cc
 none_found false false false true h = cc
 none_found false false false false h = (refl, refl, refl, refl)
+
+-- a pair that nothing refuses has a name, and there is room for it
+pub name_allowed : (k : List ℕ) (d : Data) (ps : Pairs) → IsTrue (is_utf8 k) → refusal k d ps ≡ None → IsTrue (is_name k) × (count ps < 65535)
+unfolding refusal
+name_allowed k d ps text none =
+    let tests = none_found _ _ _ _ none in
+    let sized = not_false _ tests.0 in
+    let room = or_parts (nat_le 65535 (count ps)) (not (is_within d)) tests.3 in
+    (and_true (is_utf8 k) _ text sized, leb-false _ _ room.0)
 
 -- a list with a pair that nothing refuses has a spelling
 pub spelled_add : (k : List ℕ) (d : Data) (ps : Pairs) → IsSpelledList ps → IsTrue (is_utf8 k) → IsTrue (value_fits d) → refusal k d ps ≡ None

@@ -2,6 +2,7 @@ pub mod Booleans
 pub mod Places
 pub mod Steps
 pub mod Adding
+pub mod Cells
 pub mod ReadLoops
 pub mod Numbering
 pub mod Apart

@@ -1,19 +1,19 @@
 -- Lists, read and spelled.
-use Rattle.std.proofs.Common.{◌≡◌, ℕ, zero, suc, ◌+◌, ◌-◌, ◌<◌, ◌≤◌, Bool, true, false, nat_le, IsTrue, List, [], ◌∷◌, ◌++◌, length, length-append, take, drop, map, flat_map, Some, None, if◌then◌else◌, refl, sym, ap, ◌∙◌, arith, subst}
+use Rattle.std.proofs.Common.{◌≡◌, ℕ, zero, suc, ◌+◌, ◌-◌, ◌<◌, ◌≤◌, Bool, true, false, nat_le, IsTrue, List, [], ◌∷◌, ◌++◌, length, length-append, take, drop, flat_map, Some, None, if◌then◌else◌, refl, sym, ap, ◌∙◌, arith, subst}
 use Rattle.std.specs.List.{list_all}
 use Rattle.std.proofs.lemmas.Bool.{false≢true, leb-true, le-leb}
 use Rattle.std.proofs.lemmas.List.{take-append-le, take_all}
 use Rattle.std.proofs.Math.Seq.{drop-append_seam}
-use Rattle.fm_nv.specs.Data.{Pairs, Data, no_pairs, pair, count, depth, data_depth}
+use Rattle.fm_nv.specs.Data.{Pairs, Data, no_pairs, pair, add, count, depth, data_depth}
 use Rattle.fm_nv.specs.Numbers.{AllBytes, u16_bytes}
 use Rattle.fm_nv.specs.Spelled.{is_name, value_fits, pairs_fit, list_fits, is_counted, distinct, body_bytes, pairs_bytes, IsSpelledList}
-use Rattle.fm_nv.specs.Reading.{Read, after, array_from, pair_from, listed, kept, list_from}
+use Rattle.fm_nv.specs.Reading.{Read, after, made, items_from, array_from, pair_from, listed, to_pairs, kept, list_from}
 use Rattle.fm_nv.proofs.Booleans.{and_parts, and_true}
-use Rattle.fm_nv.specs.View.{named, pairs_of}
-use Rattle.fm_nv.specs.declared.nv.Pair.{Pair}
-use Rattle.fm_nv.proofs.Places.{depth_positive, pairs_of-listed}
+use Rattle.fm_nv.proofs.Places.{depth_positive}
+use Rattle.fm_nv.proofs.Adding.{count_add}
+use Rattle.fm_nv.proofs.ReadLoops.{behind, items_more}
 use Rattle.fm_nv.proofs.Readers.{IsReader, after_some, some_same, choice_read, choice_true, array_reader, array_bytes}
-use Rattle.fm_nv.proofs.ValueKinds.{fits_within, pair_within, pair_bytes, pair_reader}
+use Rattle.fm_nv.proofs.ValueKinds.{made_some, fits_within, pair_within, pair_bytes, pair_reader}
 
 -- there are as many pairs as items
 pub count-listed : (xs : List (List ℕ × Data)) → count (listed xs) ≡ length xs
@@ -47,12 +47,8 @@ pairs_back d (x ∷ xs) h k =
     let value = and_true (value_fits x.1) _ two.0 (le-leb (data_depth x.1) d (omega arith)) in
     and_true (pair_within d x) _ (and_true (is_name x.0) _ one.0 value) (pairs_back d xs two.1 (omega arith))
 
-to_pairs : Pairs → List (List ℕ × Data)
-to_pairs no_pairs = []
-to_pairs (pair k d ps) = (k, d) ∷ to_pairs ps
-
-to_pairs_back : (ps : Pairs) → listed (to_pairs ps) ≡ ps
-unfolding to_pairs
+-- a list is that of its names and values
+pub to_pairs_back : (ps : Pairs) → listed (to_pairs ps) ≡ ps
 to_pairs_back no_pairs = refl
 to_pairs_back (pair k d ps) = ap (pair k d) (to_pairs_back ps)
 
@@ -137,24 +133,22 @@ list_none zero bytes e = refl
 list_none (suc d) bytes e = absurd (omega arith)
 
 -- the pairs that were read fit, but for their names
-pub pairs_ready : (d : ℕ) (bytes : List ℕ) (xs : List Pair) (rest : List ℕ) → 0 < d → AllBytes bytes
-    → array_from (pair_from (list_from (d - 1))) bytes ≡ Some (map named xs, rest)
-    → IsTrue (pairs_fit (pairs_of xs)) × (count (pairs_of xs) ≤ 65535) × (depth (pairs_of xs) ≤ d)
-pairs_ready d bytes xs rest above all h =
-    let known = (array_reader _ _ (pair_from (list_from (d - 1))) (pair_reader (d - 1) (list_from (d - 1)) (list_reader (d - 1)))).sound bytes (map named xs, rest) all h in
-    let parts = and_parts (nat_le (length (map named xs)) 65535) _ known.0 in
-    let few = leb-true (length (map named xs)) 65535 parts.0 in
-    let within = pairs_within (d - 1) (map named xs) parts.1 in
-    let same = pairs_of-listed xs in
-    let size = count-listed (map named xs) in
-    let deep : depth (listed (map named xs)) ≤ suc (d - 1) = within.1 in
-    (ap pairs_fit same ∙ within.0, omega (arith, ap count same, size, few), omega (arith, ap depth same, deep))
+pub pairs_ready : (d : ℕ) (bytes : List ℕ) (ps : Pairs) (rest : List ℕ) → 0 < d → AllBytes bytes
+    → array_from (pair_from (list_from (d - 1))) bytes ≡ Some (to_pairs ps, rest)
+    → IsTrue (pairs_fit ps) × (depth ps ≤ d)
+pairs_ready d bytes ps rest above all h =
+    let known = (array_reader _ _ (pair_from (list_from (d - 1))) (pair_reader (d - 1) (list_from (d - 1)) (list_reader (d - 1)))).sound bytes (to_pairs ps, rest) all h in
+    let parts = and_parts (nat_le (length (to_pairs ps)) 65535) _ known.0 in
+    let within = pairs_within (d - 1) (to_pairs ps) parts.1 in
+    let same = to_pairs_back ps in
+    let deep : depth (listed (to_pairs ps)) ≤ suc (d - 1) = within.1 in
+    (sym (ap pairs_fit same) ∙ within.0, omega (arith, ap depth same, deep))
 
 -- the list was read, or its pairs were not, or a name stands twice
-pub list_read : (d : ℕ) (bytes : List ℕ) (xs : List Pair) (ps : Pairs) (rest : List ℕ) → 0 < d
-    → array_from (pair_from (list_from (d - 1))) bytes ≡ Some (map named xs, rest) → ps ≡ pairs_of xs → IsTrue (distinct ps) → list_from d bytes ≡ Some (ps, rest)
-list_read d bytes xs ps rest above h same apart =
-    let e : listed (map named xs) ≡ ps = sym (same ∙ pairs_of-listed xs) in
+pub list_read : (d : ℕ) (bytes : List ℕ) (found ps : Pairs) (rest : List ℕ) → 0 < d
+    → array_from (pair_from (list_from (d - 1))) bytes ≡ Some (to_pairs found, rest) → ps ≡ found → IsTrue (distinct ps) → list_from d bytes ≡ Some (ps, rest)
+list_read d bytes found ps rest above h same apart =
+    let e : listed (to_pairs found) ≡ ps = to_pairs_back found ∙ sym same in
     list_step d bytes above ∙ ap (λ (q : Read (List (List ℕ × Data))). after q (λ found left. kept (listed found) left)) h
     ∙ ap (λ (qs : Pairs). kept qs rest) e ∙ choice_true (distinct ps) _ _ apart
 
@@ -166,11 +160,27 @@ choice_false : {B : Type 0} (b : Bool) (x y : B) → b ≡ false → (if b then 
 choice_false true x y h = absurd (false≢true (sym h))
 choice_false false x y h = refl
 
-pub list_twice : (d : ℕ) (bytes : List ℕ) (xs : List Pair) (rest : List ℕ) → 0 < d
-    → array_from (pair_from (list_from (d - 1))) bytes ≡ Some (map named xs, rest) → distinct (pairs_of xs) ≡ false → list_from d bytes ≡ None
-list_twice d bytes xs rest above h twice =
+pub list_twice : (d : ℕ) (bytes : List ℕ) (ps : Pairs) (rest : List ℕ) → 0 < d
+    → array_from (pair_from (list_from (d - 1))) bytes ≡ Some (to_pairs ps, rest) → distinct ps ≡ false → list_from d bytes ≡ None
+list_twice d bytes ps rest above h twice =
     list_step d bytes above ∙ ap (λ (q : Read (List (List ℕ × Data))). after q (λ found left. kept (listed found) left)) h
-    ∙ ap (λ (qs : Pairs). kept qs rest) (sym (pairs_of-listed xs)) ∙ choice_false (distinct (pairs_of xs)) _ _ twice
+    ∙ ap (λ (qs : Pairs). kept qs rest) (to_pairs_back ps) ∙ choice_false (distinct ps) _ _ twice
+
+-- one pair more is one name and value more
+pub to_pairs_add : (k : List ℕ) (d : Data) (ps : Pairs) → to_pairs (add k d ps) ≡ to_pairs ps ++ (k, d) ∷ []
+to_pairs_add k d no_pairs = refl
+to_pairs_add k d (pair j e ps) = ap (λ (xs : List (List ℕ × Data)). (j, e) ∷ xs) (to_pairs_add k d ps)
+
+-- one pair more was read, and stands behind those before
+pub pairs_more : (f : List ℕ → Read (List ℕ × Data)) (total : Read (List (List ℕ × Data))) (found new : Pairs) (size at : ℕ) (bytes rest : List ℕ)
+    → at < size → total ≡ behind (to_pairs found) (items_from f (size - at) bytes) → made (λ p. add p.0 p.1 found) (f bytes) ≡ Some (new, rest)
+    → (total ≡ behind (to_pairs new) (items_from f (size - (at + 1)) rest)) × (count new ≡ count found + 1)
+pairs_more f total found new size at bytes rest h before read =
+    let some = made_some (λ p. add p.0 p.1 found) (f bytes) (new, rest) read in
+    let same : new ≡ add some.0.0.0 some.0.0.1 found = ap (λ (t : Pairs × List ℕ). t.0) some.2 in
+    let left : rest ≡ some.0.1 = ap (λ (t : Pairs × List ℕ). t.1) some.2 in
+    let one : f bytes ≡ Some (some.0.0, rest) = some.1 ∙ ap (λ (xs : List ℕ). Some (some.0.0, xs)) (sym left) in
+    (items_more f total _ _ size at bytes some.0.0 rest h before one (ap to_pairs same ∙ to_pairs_add _ _ found), ap count same ∙ count_add _ _ found)
 
 -- what begins with a spelling is read
 pub spelled_read : (bytes : List ℕ) (ps : Pairs) (rest : List ℕ) → IsSpelledList ps → bytes ≡ pairs_bytes ps ++ rest → list_from 8 bytes ≡ Some (ps, rest)

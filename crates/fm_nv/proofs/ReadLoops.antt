@@ -1,5 +1,5 @@
 -- Loops that read the items of an array, one after the other.
-use Rattle.std.proofs.Common.{◌≡◌, ℕ, suc, ◌+◌, ◌-◌, ◌<◌, ◌≤◌, List, [], ◌∷◌, ◌++◌, map, Some, None, refl, sym, ap, ◌∙◌, arith, append_assoc}
+use Rattle.std.proofs.Common.{◌≡◌, ℕ, suc, ◌+◌, ◌-◌, ◌<◌, ◌≤◌, List, [], ◌∷◌, ◌++◌, Some, None, refl, sym, ap, ◌∙◌, arith, append_assoc}
 use Rattle.std.proofs.lemmas.List.{append-nil}
 use Rattle.fm_nv.specs.Reading.{Read, after, items_from}
 
@@ -28,11 +28,6 @@ pub items_more : {A : Type 0} (f : List ℕ → Read A) (total : Read (List A)) 
     → total ≡ behind new (items_from f (count - (at + 1)) rest)
 items_more f total found new count at bytes x rest h before e push =
     before ∙ items_step f found count at bytes x rest h e ∙ ap (λ (xs : List _). behind xs (items_from f (count - (at + 1)) rest)) (sym push)
-
--- one item more, seen otherwise
-pub map_push : {A B : Type 0} (f : A → B) (xs : List A) (x : A) → map f (xs ++ x ∷ []) ≡ map f xs ++ f x ∷ []
-map_push f [] x = refl
-map_push f (y ∷ ys) x = ap (λ (zs : List _). f y ∷ zs) (map_push f ys x)
 
 -- one item more could not be read
 pub items_none : {A : Type 0} (f : List ℕ → Read A) (found : List A) (count at : ℕ) (bytes : List ℕ) → at < count → f bytes ≡ None

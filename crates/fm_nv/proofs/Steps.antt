@@ -1,12 +1,11 @@
 -- One step of a loop over the pairs of a list, or over the items of an array.
-use Rattle.std.proofs.Common.{◌≡◌, ℕ, suc, ◌+◌, ◌<◌, ◌≤◌, IsTrue, List, ◌∷◌, ◌++◌, length, get_or, drop, nat_le, sym, ap, ◌∙◌, arith, append_assoc, subst, string_bytes, drop-cons}
+use Rattle.std.proofs.Common.{◌≡◌, ℕ, suc, ◌+◌, ◌<◌, ◌≤◌, IsTrue, List, ◌∷◌, ◌++◌, length, get_or, drop, nat_le, sym, ap, ◌∙◌, arith, append_assoc, subst, drop-cons}
 use Rattle.std.proofs.lemmas.List.{append-nil, drop_all}
-use Rattle.fm_nv.specs.Data.{Pairs, pair, lists_of, count}
+use Rattle.fm_nv.specs.Data.{Pairs, Data, pair, lists_of, count, from, name_at, value_at}
 use Rattle.std.proofs.lemmas.Bool.{leb-true}
 use Rattle.fm_nv.proofs.Booleans.{and_parts}
 use Rattle.fm_nv.specs.Spelled.{is_counted, list_fits, is_name, value_fits, pairs_fit, name_bytes, value_bytes, body_bytes, lists_bytes, pairs_bytes}
-use Rattle.fm_nv.specs.View.{datum, pairs_of}
-use Rattle.fm_nv.specs.declared.nv.Pair.{Pair}
+use Rattle.fm_nv.proofs.Places.{from_step, from_past}
 
 -- the items from a place on
 pub drop_item : {A : Type 0} (xs : List A) (i : ℕ) (x : A) → i < length xs → x ≡ get_or xs i x → drop i xs ≡ x ∷ drop (i + 1) xs
@@ -15,19 +14,13 @@ drop_item xs i x h e =
     let front : get_or xs i x ∷ drop (suc i) xs ≡ x ∷ drop (i + 1) xs = λ j. sym e j ∷ drop (next j) xs in
     drop-cons xs i x h ∙ front
 
--- the pairs from a place on
-pub drop_pair : (xs : List Pair) (i : ℕ) (p : Pair) → i < length xs → p ≡ get_or xs i p
-    → pairs_of (drop i xs) ≡ pair (string_bytes p.name) (datum p.value) (pairs_of (drop (i + 1) xs))
-drop_pair xs i p h e = ap pairs_of (drop_item xs i p h e)
-
 -- the pair at a place has a spelling, and so have those behind it
-pub fit_at : (xs : List Pair) (i : ℕ) (p : Pair) → i < length xs → p ≡ get_or xs i p → IsTrue (pairs_fit (pairs_of (drop i xs)))
-    → IsTrue (is_name (string_bytes p.name)) × IsTrue (value_fits (datum p.value)) × IsTrue (pairs_fit (pairs_of (drop (i + 1) xs)))
-fit_at xs i p h e fits =
-    let all : IsTrue (pairs_fit (pair (string_bytes p.name) (datum p.value) (pairs_of (drop (i + 1) xs)))) =
-    subst (λ (ps : Pairs). IsTrue (pairs_fit ps)) (drop_pair xs i p h e) fits in
-    let one = and_parts (is_name (string_bytes p.name)) _ all in
-    let two = and_parts (value_fits (datum p.value)) _ one.1 in
+pub fit_at : (ps : Pairs) (i : ℕ) → i < count ps → IsTrue (pairs_fit (from i ps))
+    → IsTrue (is_name (name_at i ps)) × IsTrue (value_fits (value_at i ps)) × IsTrue (pairs_fit (from (i + 1) ps))
+fit_at ps i h fits =
+    let all : IsTrue (pairs_fit (pair (name_at i ps) (value_at i ps) (from (i + 1) ps))) = subst (λ (qs : Pairs). IsTrue (pairs_fit qs)) (from_step ps i h) fits in
+    let one = and_parts (is_name (name_at i ps)) _ all in
+    let two = and_parts (value_fits (value_at i ps)) _ one.1 in
     (one.0, two.0, two.1)
 
 -- what is written and what is left is the whole, after one item more
@@ -35,17 +28,17 @@ pub push_item : (out new item rest all : List ℕ) → out ++ (item ++ rest) ≡
 push_item out new item rest all h e = ap (λ (xs : List ℕ). xs ++ rest) e ∙ append_assoc out item rest ∙ h
 
 -- the pair at a place is written
-pub push_pair : (xs : List Pair) (i : ℕ) (p : Pair) (out new all : List ℕ) → i < length xs → p ≡ get_or xs i p
-    → out ++ body_bytes (pairs_of (drop i xs)) ≡ all
-    → new ≡ out ++ (name_bytes (string_bytes p.name) ++ value_bytes (datum p.value))
-    → new ++ body_bytes (pairs_of (drop (i + 1) xs)) ≡ all
-push_pair xs i p out new all h e before step =
-    push_item out new _ _ all (ap (λ (ps : Pairs). out ++ body_bytes ps) (sym (drop_pair xs i p h e)) ∙ before) step
+pub push_pair : (ps : Pairs) (i : ℕ) (k : List ℕ) (d : Data) (out new all : List ℕ) → i < count ps → k ≡ name_at i ps → d ≡ value_at i ps
+    → out ++ body_bytes (from i ps) ≡ all → new ≡ out ++ (name_bytes k ++ value_bytes d)
+    → new ++ body_bytes (from (i + 1) ps) ≡ all
+push_pair ps i k d out new all h name value before step =
+    push_item out new _ _ all (ap (λ (qs : Pairs). out ++ body_bytes qs) (sym (from_step ps i h)) ∙ before)
+    (step ∙ (λ j. out ++ (name_bytes (name j) ++ value_bytes (value j))))
 
 -- nothing is left past the end
-pub pushed_all : (xs : List Pair) (i : ℕ) (out all : List ℕ) → length xs ≤ i → out ++ body_bytes (pairs_of (drop i xs)) ≡ all → out ≡ all
-pushed_all xs i out all h before =
-    sym (append-nil out) ∙ ap (λ (ys : List Pair). out ++ body_bytes (pairs_of ys)) (sym (drop_all i xs h)) ∙ before
+pub pushed_all : (ps : Pairs) (i : ℕ) (out all : List ℕ) → count ps ≤ i → out ++ body_bytes (from i ps) ≡ all → out ≡ all
+pushed_all ps i out all h before =
+    sym (append-nil out) ∙ ap (λ (qs : Pairs). out ++ body_bytes qs) (sym (from_past ps i h)) ∙ before
 
 -- the list at a place is written
 pub push_list : (xs : List Pairs) (i : ℕ) (p : Pairs) (out new all : List ℕ) → i < length xs → p ≡ get_or xs i p

@@ -96,10 +96,14 @@ abbrev mutual
   lists_depth no_lists = 0
   lists_depth (list_then ps ls) = max (depth ps) (lists_depth ls)
 
--- how far down a list reaches: two steps for each list in a list
+-- how far down the content of a list reaches: three steps for each list in a list
+abbrev pub content_reach : Pairs → ℕ
+content_reach ps = 3 * depth ps
+
+-- how far down a list reaches
 abbrev pub reach : Pairs → ℕ
-reach ps = 2 * depth ps
+reach ps = content_reach ps + 1
 
 -- how far down an array of lists reaches
 abbrev pub lists_reach : List Pairs → ℕ
-lists_reach ls = 2 * lists_depth (lists_of ls) + 1
+lists_reach ls = 3 * lists_depth (lists_of ls) + 2

@@ -1,6 +1,7 @@
 pub mod Data
 pub mod Stored
 pub mod View
+pub mod Kept
 pub mod Falls
 pub mod Numbers
 pub mod Spelled

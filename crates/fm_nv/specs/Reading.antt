@@ -90,6 +90,11 @@ abbrev pub listed : List (List ℕ × Data) → Pairs
 listed [] = no_pairs
 listed (p ∷ ps) = pair p.0 p.1 (listed ps)
 
+-- the names and values of a list
+abbrev pub to_pairs : Pairs → List (List ℕ × Data)
+to_pairs no_pairs = []
+to_pairs (pair k d ps) = (k, d) ∷ to_pairs ps
+
 -- a list whose names are distinct
 abbrev pub kept : Pairs → List ℕ → Read Pairs
 kept ps rest = if distinct ps then Some (ps, rest) else None

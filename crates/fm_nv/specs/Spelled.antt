@@ -14,6 +14,11 @@ is_name k = is_utf8 k && (nat_lt 0 (length k) && nat_le (length k) 255)
 abbrev pub is_text : List ℕ → Bool
 is_text t = is_utf8 t && nat_le (length t) 65536
 
+-- each name is one
+abbrev pub names_fit : Pairs → Bool
+names_fit no_pairs = true
+names_fit (pair k d ps) = is_name k && names_fit ps
+
 -- a signed number of 64 bits
 abbrev pub is_signed : ℤ → Bool
 is_signed (pos n) = nat_lt n (2 ^ 63)

@@ -1,11 +1,10 @@
 //! Lists and values once more.
 
 ghost use Rattle.std.specs.Prelude.{◌≡◌, IfOk};
-ghost use Rattle.fm_nv.specs.View.{named};
 
 use crate::no_memory::NoMemory;
 use crate::numbers::{Numbers, NvTexts};
-use crate::nv::{Nv, NvLists, Pair, Value};
+use crate::nv::{Cell, Content, Nv, NvLists, Value};
 use std::alloc::Global;
 
 impl Nv {
@@ -14,26 +13,49 @@ impl Nv {
     pub fn copy(&self, alloc: Global) -> Result<Nv, NoMemory>
         ensures { IfOk result (λ list. list ≡ self.now) }
     {
-        let mut pairs = Vec::new(alloc);
-        'pairs: for pair in &self.pairs {
-            pairs.push(pair.copy(alloc)?)?;
+        match &self.content {
+            None => Ok(Nv::new(alloc)),
+            Some(content) => {
+                let content = Box::new(alloc, content.copy(alloc)?)?;
+                Ok(Nv {
+                    alloc,
+                    content: Some(content),
+                })
+            }
         }
-        Ok(Nv {
+    }
+}
+
+impl Content {
+    /// The same pairs once more.
+    #[cycle(copying)]
+    fn copy(&self, alloc: Global) -> Result<Content, NoMemory>
+        ensures { IfOk result (λ content. content ≡ self.now) }
+    {
+        let names = Vec::from_slice(alloc, &self.names)?;
+        let mut cells = Vec::with_capacity(alloc, self.cells.len())?;
+        'cells: for cell in &self.cells {
+            cells.push(cell.copy(alloc)?)?;
+        }
+        Ok(Content {
             deep: self.deep,
-            pairs,
+            names,
+            cells,
         })
     }
 }
 
-impl Pair {
-    /// The same pair once more.
+impl Cell {
+    /// The same cell once more.
     #[cycle(copying)]
-    fn copy(&self, alloc: Global) -> Result<Pair, NoMemory>
-        ensures { IfOk result (λ pair. named pair ≡ named self.now) }
+    fn copy(&self, alloc: Global) -> Result<Cell, NoMemory>
+        ensures { IfOk result (λ cell. cell ≡ self.now) }
     {
-        let name = String::from_str(alloc, self.name.as_str())?;
         let value = self.value.copy(alloc)?;
-        Ok(Pair { name, value })
+        Ok(Cell {
+            end: self.end,
+            value,
+        })
     }
 }
 

@@ -2,23 +2,22 @@
 
 ghost use Rattle.std.specs.Prelude.{◌≡◌, IfOk};
 ghost use Rattle.fm_nv.specs.Spelled.{distinct};
-ghost use Rattle.fm_nv.specs.View.{pairs_of};
 
 use crate::no_memory::NoMemory;
-use crate::nv::Pair;
+use crate::nv::Content;
 use std::alloc::Global;
 use std::collections::BTreeSet;
 
 /// Whether no name stands twice. The names are looked up in a set of those that stand behind, so the
 /// time is that of a sort, whatever the names are.
-pub(crate) fn are_distinct(alloc: Global, pairs: &[Pair]) -> Result<bool, NoMemory>
-    ensures { IfOk result (λ b. b ≡ distinct (pairs_of pairs.now)) }
+pub(crate) fn are_distinct(alloc: Global, pairs: &Content) -> Result<bool, NoMemory>
+    ensures { IfOk result (λ b. b ≡ distinct pairs.now) }
 {
     let mut behind = BTreeSet::new(alloc);
     let mut at = pairs.len();
     'pairs: while at > 0 {
         at -= 1;
-        if !behind.insert(pairs[at].name.as_str())? {
+        if !behind.insert(pairs.name_bytes(at))? {
             return Ok(false);
         }
     }

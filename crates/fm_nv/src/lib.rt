@@ -6,9 +6,13 @@
 //! 1 to 255 bytes, at most 65,535 pairs, texts of at most 65,536 bytes, arrays of at most 65,535 items,
 //! no list deeper than 8) and what the spelling is (`pairs_bytes`).
 //!
-//! The invariant of `Nv` is that its pairs have a spelling, and that the field `deep` is their depth. So
-//! `write_nv` asks for nothing, and `push` refuses what would break it: `refusal` is the first fault of a
-//! pair, in the order of `NvFault`. `NvLists` keeps the depth of its lists in the same way.
+//! The invariant of `Nv` is that its pairs have a spelling. So `write_nv` asks for nothing, and `push`
+//! refuses what would break it: `refusal` is the first fault of a pair, in the order of `NvFault`.
+//!
+//! A list without pairs keeps nothing, and any other keeps a `Content`: the depth, the bytes of the names
+//! one behind the other in one piece, and a `Cell` for each pair, with its value and the place where its
+//! name ends (`IsContent` of `specs/View.antt`). So a list takes three blocks beside those of its values,
+//! however many names it has.
 //!
 //! `read_nv` answers a list exactly where the bytes begin with the spelling of one. It reads over an
 //! `Input`, the bytes that are left; each reader ensures what the front of them reads as
@@ -20,6 +24,7 @@
 //! `Input` and the `put_` functions read and write the numbers and short texts of other formats too.
 #![tactic(auto)]
 
+mod content;
 mod copy;
 mod distinct;
 mod fault;

@@ -1,8 +1,8 @@
 //! What a list tells of itself.
 
-ghost use Rattle.std.specs.Prelude.{◌≡◌, ◌+◌, ◌==◌, ◌<◌, ◌≤◌, Some, option_map};
+ghost use Rattle.std.specs.Prelude.{◌≡◌, ◌+◌, ◌==◌, ◌<◌, ◌≤◌, IsTrue, Some, option_map};
 ghost use Rattle.fm_nv.specs.Data.{no_pairs, count, depth, data_depth, find, name_at, value_at};
-ghost use Rattle.fm_nv.specs.Spelled.{IsSpelledList};
+ghost use Rattle.fm_nv.specs.Spelled.{IsSpelledList, is_name};
 ghost use Rattle.fm_nv.specs.View.{datum};
 
 use crate::nv::{Nv, Value};
@@ -14,8 +14,8 @@ impl Nv {
         ensures { result ≡ no_pairs }
     {
         Nv {
-            deep: 1,
-            pairs: Vec::new(alloc),
+            alloc,
+            content: None,
         }
     }
 
@@ -24,14 +24,17 @@ impl Nv {
         ensures count { result ≡ count self.now }
         ensures bound { result ≤ 65535 }
     {
-        self.pairs.len()
+        match &self.content {
+            None => 0,
+            Some(content) => content.len(),
+        }
     }
 
     /// Whether it has no pair.
     pub fn is_empty(&self) -> bool
         ensures { result ≡ (count self.now == 0) }
     {
-        self.pairs.is_empty()
+        self.len() == 0
     }
 
     /// How deep lists stand in it, itself counted. It takes no time: the depth is kept.
@@ -40,19 +43,20 @@ impl Nv {
         ensures bound { result ≤ 8 }
         ensures spelled { IsSpelledList self.now }
     {
-        self.deep
+        match &self.content {
+            None => 1,
+            Some(content) => content.depth(),
+        }
     }
 
     /// The value at a name, where the name is there.
     pub fn get(&self, name: &str) -> Option<&Value>
         ensures { option_map (λ v. datum v.now) result ≡ find name.now self.now }
     {
-        for pair in &self.pairs {
-            if pair.name.as_str() == name {
-                return Some(&pair.value);
-            }
+        match &self.content {
+            None => None,
+            Some(content) => content.get(name),
         }
-        None
     }
 
     /// The name of the pair at a place, counted from 0.
@@ -60,7 +64,10 @@ impl Nv {
         requires { at < count self.now }
         ensures { result.now ≡ name_at at self.now }
     {
-        self.pairs[at].name.as_str()
+        match std::str::from_utf8(self.name_bytes(at)) {
+            Ok(name) => name,
+            Err(_) => unreachable!(),
+        }
     }
 
     /// The value of the pair at a place, counted from 0.
@@ -69,6 +76,21 @@ impl Nv {
         ensures value { datum result.now ≡ value_at at self.now }
         ensures smaller { data_depth (datum result.now) < depth self.now }
     {
-        &self.pairs[at].value
+        match &self.content {
+            None => unreachable!(),
+            Some(content) => content.value(at),
+        }
+    }
+
+    /// The bytes of the name at a place, counted from 0.
+    pub(crate) fn name_bytes(&self, at: usize) -> &[u8]
+        requires { at < count self.now }
+        ensures name { result.now ≡ name_at at self.now }
+        ensures fits { IsTrue (is_name (name_at at self.now)) }
+    {
+        match &self.content {
+            None => unreachable!(),
+            Some(content) => content.name_bytes(at),
+        }
     }
 }

@@ -11,8 +11,7 @@ impl NvLists {
     pub fn from_vec(items: Vec<Nv>) -> NvLists
         ensures { result ≡ items.items }
     {
-        let deep = deepest(&items);
-        NvLists { deep, items }
+        NvLists { items }
     }
 
     /// The lists, given back.
@@ -38,14 +37,14 @@ impl NvLists {
         self.items.len()
     }
 
-    /// How deep the deepest of the lists is, and 0 where there is none. It takes no time: the depth
-    /// is kept.
+    /// How deep the deepest of the lists is, and 0 where there is none. It takes one step a list, since
+    /// each list keeps its own depth.
     pub fn depth(&self) -> u64
         ensures deep { result ≡ lists_depth (lists_of self.now) }
         ensures bound { result ≤ 8 }
         ensures spelled { IsTrue (lists_fit (lists_of self.now)) }
     {
-        self.deep
+        deepest(&self.items)
     }
 }
 

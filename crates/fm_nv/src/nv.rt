@@ -2,6 +2,7 @@
 
 use crate::numbers::{Numbers, NvTexts};
 use crate::text::NvText;
+use std::alloc::Global;
 use std::marker::Model;
 
 /// A value of a list.
@@ -26,25 +27,62 @@ pub enum Value {
     Lists(NvLists),
 }
 
-/// A name and its value.
+/// A value, and where its name ends among the names of the list.
 #[derive(Drop)]
 #[cycle(nv)]
-pub struct Pair {
-    pub(crate) name: String,
+pub(crate) struct Cell {
+    pub(crate) end: u32,
     pub(crate) value: Value,
 }
 
-/// A list of names and values.
+/// Pairs whose names need not be distinct.
+#[derive(Drop)]
+#[cycle(nv)]
+pub(crate) struct Content {
+    /// How deep the list of the pairs is.
+    pub(crate) deep: u64,
+    /// The names, one behind the other: each begins where the name before it ends. They are bytes and
+    /// no `String`, since each name is a text by itself, and is cut out and compared without a look at
+    /// where characters begin.
+    pub(crate) names: Vec<u8>,
+    /// A cell for each pair.
+    pub(crate) cells: Vec<Cell>,
+}
+
+impl Model for Content {
+    ghost use Rattle.std.specs.Prelude.{◌≡◌, ◌≤◌, ◌*◌, IsTrue, length};
+    ghost use Rattle.fm_nv.specs.Data.{Pairs, depth, content_reach};
+    ghost use Rattle.fm_nv.specs.Stored.{stored_pairs};
+
+    ghost Value = { Pairs };
+
+    ghost coded = { stored_pairs };
+
+    ghost use Rattle.fm_nv.specs.View.{pairs_in, IsContent};
+
+    ghost view = { λ a. pairs_in a.names.items 0 a.cells.items };
+
+    ghost invariant = { λ a. IsContent a.deep a.names.items a.cells.items };
+
+    ghost size = { content_reach };
+
+    ghost use Rattle.std.proofs.Common.{arith};
+    ghost use Rattle.fm_nv.specs.Falls.{cells_fall};
+
+    ghost size_decreases = { λ a h. omega (arith, cells_fall a.names.items 0 a.cells.items) };
+}
+
+/// A list of names and values. The list without pairs takes no memory.
 #[derive(Drop)]
 #[cycle(nv)]
 pub struct Nv {
-    pub(crate) deep: u64,
-    pub(crate) pairs: Vec<Pair>,
+    pub(crate) alloc: Global,
+    pub(crate) content: Option<Box<Content>>,
 }
 
 impl Model for Nv {
     ghost use Rattle.std.specs.Prelude.{◌≡◌};
-    ghost use Rattle.fm_nv.specs.Data.{Pairs, depth, reach};
+    ghost use Rattle.fm_nv.specs.Data.{Pairs, reach};
     ghost use Rattle.fm_nv.specs.Stored.{stored_pairs};
 
     ghost Value = { Pairs };
@@ -52,43 +90,38 @@ impl Model for Nv {
     ghost coded = { stored_pairs };
 
     ghost use Rattle.fm_nv.specs.Spelled.{IsSpelledList};
-    ghost use Rattle.fm_nv.specs.View.{pairs_of};
+    ghost use Rattle.fm_nv.specs.Kept.{pairs_kept};
 
-    ghost view = { λ a. pairs_of a.pairs.items };
+    ghost view = { λ a. pairs_kept a.content };
 
-    ghost invariant = { λ a. (a.deep ≡ depth (pairs_of a.pairs.items)) × IsSpelledList (pairs_of a.pairs.items) };
+    ghost invariant = { λ a. IsSpelledList (pairs_kept a.content) };
 
     ghost size = { reach };
 
     ghost use Rattle.std.proofs.Common.{arith};
-    ghost use Rattle.fm_nv.specs.Falls.{pairs_fall};
+    ghost use Rattle.fm_nv.specs.Falls.{content_falls};
 
-    ghost size_decreases = { λ a h. omega (arith, pairs_fall a.pairs.items) };
+    ghost size_decreases = { λ a h. omega (arith, content_falls a.alloc a.content) };
 }
 
 /// An array of lists, which contracts see as a list of lists.
 #[derive(Drop)]
 #[cycle(nv)]
 pub struct NvLists {
-    pub(crate) deep: u64,
     pub(crate) items: Vec<Nv>,
 }
 
 impl Model for NvLists {
-    ghost use Rattle.std.specs.Prelude.{◌≡◌, ◌≤◌, List, IsTrue};
+    ghost use Rattle.std.specs.Prelude.{List};
     ghost use Rattle.std.specs.Coded.{coded_list};
-    ghost use Rattle.fm_nv.specs.Data.{Pairs, lists_of, lists_depth, lists_reach};
+    ghost use Rattle.fm_nv.specs.Data.{Pairs, lists_reach};
     ghost use Rattle.fm_nv.specs.Stored.{stored_pairs};
 
     ghost Value = { List Pairs };
 
     ghost coded = { coded_list stored_pairs };
 
-    ghost use Rattle.fm_nv.specs.Spelled.{lists_fit};
-
     ghost view = { λ a. a.items.items };
-
-    ghost invariant = { λ a. (a.deep ≡ lists_depth (lists_of a.items.items)) × (a.deep ≤ 8) × IsTrue (lists_fit (lists_of a.items.items)) };
 
     ghost size = { lists_reach };
 

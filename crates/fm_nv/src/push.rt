@@ -1,18 +1,19 @@
 //! A pair more in a list.
 
-ghost use Rattle.std.specs.Prelude.{◌≡◌, ◌≤◌, ◌&&◌, true, Err, None, OnOk, OnErr, IfErr, IfNone, IfSome, IsTrue, length, nat_lt, nat_le};
+ghost use Rattle.std.specs.Prelude.{◌≡◌, ◌≤◌, ◌&&◌, true, Err, None, OnOk, OnErr, IfOk, IfErr, IfNone, IfSome, IsTrue, length, nat_lt, nat_le};
 ghost use Rattle.std.specs.Bool.{OnTrue};
 ghost use Rattle.std.specs.List.{list_all};
 ghost use Rattle.std.specs.Str.{is_utf8};
-ghost use Rattle.fm_nv.specs.Data.{add, has, depth, data_depth};
+ghost use Rattle.fm_nv.specs.Data.{no_pairs, add, has, depth, data_depth};
 ghost use Rattle.fm_nv.specs.Refusal.{refusal, is_within, IsWant};
-ghost use Rattle.fm_nv.specs.Spelled.{value_fits, is_text};
+ghost use Rattle.fm_nv.specs.Spelled.{is_name, value_fits, is_text};
 ghost use Rattle.fm_nv.specs.View.{datum};
 
 use crate::fault::NvFault;
 use crate::numbers::NvTexts;
-use crate::nv::{Nv, Pair, Value};
+use crate::nv::{Content, Nv, Value};
 use crate::text::NvText;
+use std::alloc::Global;
 
 impl Nv {
     /// Adds a pair at the end. The first fault in the order of the variants refuses it, and takes no
@@ -37,12 +38,25 @@ impl Nv {
         ensures kept { OnErr result (self.new ≡ self.old) }
         ensures want { IfErr result IsWant }
     {
-        let deep = self.deep.max(value.depth() + 1);
-        let name = String::from_str(*self.pairs.allocator(), name)?;
-        self.pairs.push(Pair { name, value })?;
-        self.deep = deep;
+        if let Some(content) = &mut self.content {
+            content.push(name, value)?;
+            return Ok(());
+        }
+        let content = only_pair(self.alloc, name, value)?;
+        self.content = Some(content);
         Ok(())
     }
+}
+
+/// A pair alone.
+fn only_pair(alloc: Global, name: &str, value: Value) -> Result<Box<Content>, NvFault>
+    requires { IsTrue (is_name name.now) }
+    ensures ok { IfOk result (λ content. content.value ≡ add name.now (datum value) no_pairs) }
+    ensures want { IfErr result IsWant }
+{
+    let mut content = Content::new(alloc);
+    content.push(name, value)?;
+    Ok(Box::new(alloc, content)?)
 }
 
 /// The first fault of a pair that is to stand at the end of a list.
@@ -74,15 +88,11 @@ fn is_sized(name: &str) -> bool
 }
 
 /// Whether a name is there.
+#[tactic(auto, using(crate::proofs::Places::has_found))]
 fn has_name(list: &Nv, name: &str) -> bool
     ensures { result ≡ has name.now list.now }
 {
-    'pairs: for pair in &list.pairs {
-        if pair.name.as_str() == name {
-            return true;
-        }
-    }
-    false
+    list.get(name).is_some()
 }
 
 /// Whether the list would be deeper than 8.

@@ -1,17 +1,17 @@
 //! Lists and their values, read from the front of some bytes.
 
-ghost use Rattle.std.specs.Prelude.{◌≡◌, ◌<◌, ◌≤◌, false, Some, None, IfOk, IfErr, IsTrue, map};
+ghost use Rattle.std.specs.Prelude.{◌≡◌, ◌<◌, ◌≤◌, false, Some, None, IfOk, IfErr, IsTrue, OnOk};
 ghost use Rattle.std.specs.Int.{w64, cast_signed};
-ghost use Rattle.fm_nv.specs.Data.{count, depth, boolean, unsigned, signed, text, nested, unsigneds, texts, lists, lists_of};
-ghost use Rattle.fm_nv.specs.Reading.{IsMisspelled, made, number_from, flag_from, value_text_from, name_from, items_from, array_from, tagged_from, value_from, pair_from, list_from};
-ghost use Rattle.fm_nv.specs.Spelled.{distinct, pairs_fit};
-ghost use Rattle.fm_nv.specs.View.{datum, named, pairs_of};
+ghost use Rattle.fm_nv.specs.Data.{add, count, depth, boolean, unsigned, signed, text, nested, unsigneds, texts, lists, lists_of};
+ghost use Rattle.fm_nv.specs.Reading.{IsMisspelled, made, number_from, flag_from, value_text_from, name_from, items_from, array_from, tagged_from, value_from, pair_from, list_from, to_pairs};
+ghost use Rattle.fm_nv.specs.Spelled.{distinct, is_name, pairs_fit};
+ghost use Rattle.fm_nv.specs.View.{datum};
 
 use crate::distinct::are_distinct;
 use crate::fault::ReadFault;
 use crate::input::Input;
 use crate::numbers::{Numbers, NvTexts};
-use crate::nv::{Nv, NvLists, Pair, Value};
+use crate::nv::{Content, Nv, NvLists, Value};
 use crate::text::NvText;
 use std::alloc::Global;
 
@@ -36,16 +36,16 @@ fn read_list(input: &mut Input, alloc: Global, deep: u64) -> Result<Nv, ReadFaul
         return Err(ReadFault::NoSpelling);
     }
     let _left = input.left();
-    let pairs = read_pairs(input, alloc, deep - 1)?;
-    checked(alloc, pairs)
+    let content = read_pairs(input, alloc, deep - 1)?;
+    checked(alloc, content)
 }
 
 /// The pairs of a list, behind their number. Lists in them are at most so deep.
 #[cycle(reading)]
 #[tactic(auto, unfolding(crate::specs::Reading::array_from))]
-fn read_pairs(input: &mut Input, alloc: Global, deep: u64) -> Result<Vec<Pair>, ReadFault>
+fn read_pairs(input: &mut Input, alloc: Global, deep: u64) -> Result<Content, ReadFault>
     requires { deep < 8 }
-    ensures ok { IfOk result (λ v. array_from (pair_from (list_from deep)) input.old ≡ Some (map named v.items, input.new)) }
+    ensures ok { IfOk result (λ ps. array_from (pair_from (list_from deep)) input.old ≡ Some (to_pairs ps, input.new)) }
     ensures err { IfErr result (λ f. IsMisspelled f → array_from (pair_from (list_from deep)) input.old ≡ None) }
 {
     let count = input.short()?;
@@ -59,31 +59,37 @@ fn read_each_pair(
     alloc: Global,
     deep: u64,
     count: u16,
-) -> Result<Vec<Pair>, ReadFault>
+) -> Result<Content, ReadFault>
     requires { deep < 8 }
-    ensures ok { IfOk result (λ v. items_from (pair_from (list_from deep)) count input.old ≡ Some (map named v.items, input.new)) }
+    ensures ok { IfOk result (λ ps. items_from (pair_from (list_from deep)) count input.old ≡ Some (to_pairs ps, input.new)) }
     ensures err { IfErr result (λ f. IsMisspelled f → items_from (pair_from (list_from deep)) count input.old ≡ None) }
 {
-    let mut pairs = Vec::new(alloc);
+    let mut content = Content::new(alloc);
     'pairs: for at in 0..count {
         let _at = at;
-        pairs.push(read_pair(input, alloc, deep)?)?;
+        read_pair(input, alloc, deep, &mut content)?;
     }
-    Ok(pairs)
+    Ok(content)
 }
 
-/// A name and its value.
+/// A name and its value, which are added to those that were read before.
 #[cycle(reading)]
 #[tactic(auto, unfolding(crate::specs::Reading::pair_from))]
-fn read_pair(input: &mut Input, alloc: Global, deep: u64) -> Result<Pair, ReadFault>
-    requires { deep < 8 }
-    ensures ok { IfOk result (λ p. pair_from (list_from deep) input.old ≡ Some (named p, input.new)) }
+fn read_pair(
+    input: &mut Input,
+    alloc: Global,
+    deep: u64,
+    content: &mut Content,
+) -> Result<(), ReadFault>
+    requires deep { deep < 8 }
+    requires room { count content.old < 65535 }
+    ensures ok { OnOk result (made (λ p. add p.0 p.1 content.old) (pair_from (list_from deep) input.old) ≡ Some (content.new, input.new)) }
     ensures err { IfErr result (λ f. IsMisspelled f → pair_from (list_from deep) input.old ≡ None) }
 {
     let name = read_name(input)?;
     let value = read_value(input, alloc, deep)?;
-    let name = String::from_str(alloc, name)?;
-    Ok(Pair { name, value })
+    content.push(name, value)?;
+    Ok(())
 }
 
 /// A name behind its length in one byte.
@@ -91,6 +97,7 @@ fn read_pair(input: &mut Input, alloc: Global, deep: u64) -> Result<Pair, ReadFa
 fn read_name<'a>(input: &mut Input<'a>) -> Result<&'a str, ReadFault>
     ensures ok { IfOk result (λ t. name_from input.old ≡ Some (t.now, input.new)) }
     ensures err { IfErr result (λ f. IsMisspelled f → name_from input.old ≡ None) }
+    ensures fits { IfOk result (λ t. IsTrue (is_name t.now)) }
 {
     let length = input.byte()?;
     if length == 0 {
@@ -279,29 +286,21 @@ fn read_each_list(
 }
 
 /// The list of these pairs, where their names are distinct.
-fn checked(alloc: Global, pairs: Vec<Pair>) -> Result<Nv, ReadFault>
-    requires fit { IsTrue (pairs_fit (pairs_of pairs.items)) }
-    requires few { count (pairs_of pairs.items) ≤ 65535 }
-    requires shallow { depth (pairs_of pairs.items) ≤ 8 }
-    ensures ok { IfOk result (λ ps. (ps ≡ pairs_of pairs.items) × IsTrue (distinct ps)) }
-    ensures err { IfErr result (λ f. IsMisspelled f → distinct (pairs_of pairs.items) ≡ false) }
+fn checked(alloc: Global, content: Content) -> Result<Nv, ReadFault>
+    requires fit { IsTrue (pairs_fit content) }
+    requires shallow { depth content ≤ 8 }
+    ensures ok { IfOk result (λ ps. (ps ≡ content) × IsTrue (distinct ps)) }
+    ensures err { IfErr result (λ f. IsMisspelled f → distinct content ≡ false) }
 {
-    if !are_distinct(alloc, &pairs)? {
+    if content.len() == 0 {
+        return Ok(Nv::new(alloc));
+    }
+    if !are_distinct(alloc, &content)? {
         return Err(ReadFault::NoSpelling);
     }
-    let deep = deepest_of(&pairs);
-    Ok(Nv { deep, pairs })
-}
-
-/// How deep the list of these pairs is.
-#[tactic(auto, using(crate::proofs::Places::depth_positive))]
-fn deepest_of(pairs: &[Pair]) -> u64
-    requires { depth (pairs_of pairs.now) ≤ 8 }
-    ensures { result ≡ depth (pairs_of pairs.now) }
-{
-    let mut deep = 1;
-    'pairs: for pair in pairs {
-        deep = deep.max(pair.value.depth() + 1);
-    }
-    deep
+    let content = Box::new(alloc, content)?;
+    Ok(Nv {
+        alloc,
+        content: Some(content),
+    })
 }

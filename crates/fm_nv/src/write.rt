@@ -1,6 +1,6 @@
 //! The spelling of a list, written.
 
-ghost use Rattle.std.specs.Prelude.{◌≡◌, ◌++◌, ◌∷◌, [], ◌&&◌, ◌≤◌, OnOk, OnErr, IsTrue, length, flat_map, nat_le, if◌then◌else◌, string_bytes};
+ghost use Rattle.std.specs.Prelude.{◌≡◌, ◌++◌, ◌∷◌, [], ◌&&◌, ◌≤◌, OnOk, OnErr, IsTrue, length, flat_map, nat_le, if◌then◌else◌};
 ghost use Rattle.std.specs.List.{list_all};
 ghost use Rattle.std.specs.Int.{w64, cast_unsigned};
 ghost use Rattle.fm_nv.specs.Data.{lists_count, lists_of};
@@ -10,7 +10,7 @@ ghost use Rattle.fm_nv.specs.View.{datum};
 
 use crate::no_memory::NoMemory;
 use crate::numbers::{Numbers, NvTexts};
-use crate::nv::{Nv, NvLists, Pair, Value};
+use crate::nv::{Nv, NvLists, Value};
 use crate::output::{put_byte, put_long, put_long_text, put_short};
 
 /// Writes the spelling of a list behind what `out` holds. Each list has one.
@@ -40,30 +40,32 @@ fn put_list(nv: &Nv, out: &mut Vec<u8>) -> Result<(), NoMemory>
 fn put_pairs(nv: &Nv, out: &mut Vec<u8>) -> Result<(), NoMemory>
     ensures ok { OnOk result (out.new.items ≡ out.old.items ++ body_bytes nv.now) }
 {
-    'pairs: for pair in &nv.pairs {
-        put_pair(pair, out)?;
+    let _deep = nv.depth();
+    let count = nv.len();
+    'pairs: for at in 0..count {
+        put_pair(nv.name_bytes(at), nv.value(at), out)?;
     }
     Ok(())
 }
 
 /// Writes a name behind its length, and the value.
 #[cycle(writing)]
-fn put_pair(pair: &Pair, out: &mut Vec<u8>) -> Result<(), NoMemory>
-    requires name { IsTrue (is_name (string_bytes pair.now.name)) }
-    requires value { IsTrue (value_fits (datum pair.now.value)) }
-    ensures ok { OnOk result (out.new.items ≡ out.old.items ++ (name_bytes (string_bytes pair.now.name) ++ value_bytes (datum pair.now.value))) }
+fn put_pair(name: &[u8], value: &Value, out: &mut Vec<u8>) -> Result<(), NoMemory>
+    requires name { IsTrue (is_name name.now) }
+    requires value { IsTrue (value_fits (datum value.now)) }
+    ensures ok { OnOk result (out.new.items ≡ out.old.items ++ (name_bytes name.now ++ value_bytes (datum value.now))) }
 {
-    put_name(pair.name.as_str(), out)?;
-    put_value(&pair.value, out)
+    put_name(name, out)?;
+    put_value(value, out)
 }
 
 /// Writes a name behind its length in one byte.
-fn put_name(name: &str, out: &mut Vec<u8>) -> Result<(), NoMemory>
+fn put_name(name: &[u8], out: &mut Vec<u8>) -> Result<(), NoMemory>
     requires { IsTrue (is_name name.now) }
     ensures ok { OnOk result (out.new.items ≡ out.old.items ++ name_bytes name.now) }
 {
     put_byte(name.len() as u8, out)?;
-    out.extend_from_slice(name.as_bytes())?;
+    out.extend_from_slice(name)?;
     Ok(())
 }
 
