@@ -1,4 +1,7 @@
 //! Numbers and texts, written behind what a buffer holds.
+//!
+//! After want of memory a part of what was to be written may stand there. Who wants all or nothing writes into a
+//! buffer of its own first, as `write_nv` does.
 
 ghost use Rattle.std.specs.Prelude.{◌≡◌, ◌++◌, ◌∷◌, [], ◌<◌, length, OnOk};
 ghost use Rattle.fm_nv.specs.Numbers.{u16_bytes, u32_bytes, u64_bytes, short_text, long_text};
