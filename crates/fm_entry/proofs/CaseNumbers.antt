@@ -16,7 +16,7 @@ no_case : (m : Option ℕ) → case_of m None ≡ None
 no_case None = refl
 no_case (Some m) = refl
 
-no_number : number_of_word (2 ^ 63) [] ≡ None
+pub no_number : number_of_word (2 ^ 63) [] ≡ None
 unfolding number_of_word is_numeral
 no_number = refl
 

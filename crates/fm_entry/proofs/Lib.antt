@@ -6,3 +6,5 @@ pub mod SpokenReader
 pub mod Digits
 pub mod Places
 pub mod CaseNumbers
+pub mod Numerals
+pub mod CaseTexts

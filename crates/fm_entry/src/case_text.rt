@@ -1,7 +1,8 @@
 //! Reading a case name.
 
-ghost use Rattle.std.specs.Prelude.{◌≡◌, ◌<◌, position, IfSome};
-ghost use Rattle.fm_entry.specs.CaseText.{is_slash, case_of, case_numbers, case_named};
+ghost use Rattle.std.specs.Prelude.{◌≡◌, ◌<◌, position, IfSome, Some};
+ghost use Rattle.fm_entry.specs.CaseText.{case_text, is_slash, case_of, case_numbers, case_named};
+ghost use Rattle.fm_entry.specs.Entries.{IsCaseName};
 
 use crate::case_name::CaseName;
 use crate::decimal::read_below;
@@ -34,13 +35,23 @@ fn case_numbers(text: &[u8]) -> Option<CaseName>
     )
 }
 
-/// The case name that a text is, if it is one.
+/// The case name that a text is, by what follows `dx`.
 #[tactic(auto, unfolding(crate::specs::CaseText::case_named))]
-pub fn read_case_name(text: &str) -> Option<CaseName>
+fn case_named(text: &str) -> Option<CaseName>
     ensures { result ≡ case_named text.now }
 {
     match text.strip_prefix("dx") {
         Some(numbers) => case_numbers(numbers.as_bytes()),
         None => None,
     }
+}
+
+/// The case name that a text is the text of. `None` exactly where it is that of none.
+#[tactic(auto, using(crate::proofs::CaseTexts::named_spelled, crate::proofs::CaseTexts::named_read))]
+pub fn read_case_name(text: &str) -> Option<CaseName>
+    ensures value { result ≡ case_named text.now }
+    ensures spelled { IfSome result (λ name. (text.now ≡ case_text name) × IsCaseName name) }
+    ensures read { (name : CaseName) → text.now ≡ case_text name → IsCaseName name → result ≡ Some name }
+{
+    case_named(text)
 }

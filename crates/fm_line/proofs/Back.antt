@@ -1,13 +1,7 @@
 -- What is printed for an entry that a line gives reads as the entry.
-use Rattle.std.proofs.Common.{◌≡◌, ℕ, suc, ◌+◌, ◌^◌, ◌<◌, ◌≤◌, ◌==◌, ◌++◌, ◌∷◌, [], List, Bool, true, false, cond, not, length, take, drop, codes, Some, None, Result, Ok, Err, OnOk, IsTrue, refl, sym, ap, ◌∙◌, subst, arith, append_assoc, decimal}
-use Rattle.std.specs.List.{before_first, after_first, position_or_len, list_all}
-use Rattle.std.proofs.Math.Seq.{take-append_seam}
-use Rattle.std.specs.Str.Parse.{AllDigits}
+use Rattle.std.proofs.Common.{◌≡◌, ℕ, ◌^◌, ◌<◌, ◌≤◌, ◌==◌, ◌++◌, ◌∷◌, [], List, Bool, true, false, cond, length, codes, Some, None, Result, Ok, Err, OnOk, IsTrue, refl, sym, ap, ◌∙◌, subst, arith, append_assoc, decimal}
 use Rattle.std.proofs.lemmas.Bool.{lt-ltb}
-use Rattle.std.proofs.lemmas.Bool.Decides.{nat_tests}
-use Rattle.std.proofs.lemmas.Fmt.{decimal_is_IsNumeral}
-use Rattle.std.proofs.lemmas.Str.Parse.{digit_from_value}
-use Rattle.fm_nv.proofs.Booleans.{and_parts, and_true}
+use Rattle.fm_nv.proofs.Booleans.{and_true}
 use Rattle.fm_line.proofs.Cutting.{positive_eqb}
 use Rattle.fm_line.proofs.Spelling.{entry_spelled, entry_payload}
 use Rattle.fm_line.specs.Sound.{HasSpelledPayload, HasReadPayload, ReadsAsJson}
@@ -20,12 +14,15 @@ use Rattle.fm_name.specs.Class.{is_class}
 use Rattle.fm_name.specs.Path.{is_path}
 use Rattle.fm_name.specs.declared.classes.Category.TheVariants.{Ereport}
 use Rattle.fm_nv.specs.Data as nv
-use Rattle.fm_entry.specs.Entries.{IsSpelled}
+use Rattle.fm_entry.specs.Entries.{IsCaseName, IsSpelled}
+use Rattle.fm_entry.specs.declared.case_name.CaseName.{CaseName}
 use Rattle.fm_entry.specs.declared.entry.Entry.{Entry}
 use Rattle.fm_entry.specs.declared.entry.Entry.TheVariants.{Report, Tick, Repaired, Replaced, Acquit}
 use Rattle.fm_line.proofs.Graphic.{is_graphic, graphic, graphic_append, class_graphic, path_graphic}
-use Rattle.fm_line.proofs.PlainBack.{text_of_graphic, decimal_graphic, number_back, EndsPlainly, ends_behind, line_is, two_is, three_is, four_is}
-use Rattle.fm_entry.specs.CaseText.{is_slash, case_of, case_numbers, case_named}
+use Rattle.fm_line.proofs.PlainBack.{text_of_graphic, decimal_graphic, EndsPlainly, ends_behind, line_is, two_is, three_is, four_is}
+use Rattle.fm_entry.specs.CaseText.{case_text}
+use Rattle.fm_entry.proofs.CaseTexts.{case_back}
+use Rattle.fm_entry.proofs.Numerals.{number_back}
 use Rattle.fm_line.specs.Forms.{text_of, needed, words, words_entry, is_ereport, class_in, path_in, case_in, moment_in, report, tick, repaired, replaced, acquit, is_json, two_words, three_words, four_words, report_keys, four_keys, object_entry, json_of, json_entry, content_entry, line_entry}
 use Rattle.fm_line.specs.Lines.{line_limit}
 use Rattle.fm_entry.specs.Decimals.{as_below, number_of_word}
@@ -86,65 +83,26 @@ report_back class path n is category is_p below short =
 
 -- ---- case names
 
-abbrev no_slash : ℕ → Bool
-no_slash b = not (is_slash b)
+case_graphic : (name : CaseName) → IsCaseName name → IsTrue (graphic (case_text name))
+case_graphic name is =
+    graphic_append (codes "dx") (decimal name.module ++ 47 ∷ decimal name.case) refl
+    (graphic_append (decimal name.module) (47 ∷ decimal name.case) (decimal_graphic name.module (omega (arith, is.module_fits)))
+    (and_true (is_graphic 47) (graphic (decimal name.case)) refl (decimal_graphic name.case (omega (arith, is.case_fits)))))
 
-slash_at : (xs ys : List ℕ) → IsTrue (list_all no_slash xs) → position_or_len is_slash (xs ++ 47 ∷ ys) ≡ length xs
-slash_at [] ys h = refl
-slash_at (x ∷ xs) ys h =
-    let parts = and_parts (no_slash x) (list_all no_slash xs) h in
-    let one : position_or_len is_slash (x ∷ (xs ++ 47 ∷ ys)) ≡ 1 + position_or_len is_slash (xs ++ 47 ∷ ys) =
-    ap (λ t. cond t (1 + position_or_len is_slash (xs ++ 47 ∷ ys)) 0) parts.0 in
-    omega (arith, one, slash_at xs ys parts.1)
+case_in_back : (name : CaseName) → IsCaseName name → case_in (text_of (case_text name)) ≡ Some name
+unfolding case_in
+case_in_back name is = ap case_in (text_of_graphic (case_text name) (case_graphic name is)) ∙ case_back name is
 
-drop_seam : (xs ys : List ℕ) (y : ℕ) → drop (suc (length xs)) (xs ++ y ∷ ys) ≡ ys
-drop_seam [] ys y = refl
-drop_seam (x ∷ xs) ys y = drop_seam xs ys y
-
-digits_no_slash : (ds : List ℕ) → AllDigits 10 ds → IsTrue (list_all no_slash ds)
-digits_no_slash [] h = refl
-digits_no_slash (d ∷ ds) h =
-    let range = digit_from_value d h.0 in
-    let other : (d == 47) ≡ false = grind (arith, nat_tests) in
-    and_true (no_slash d) (list_all no_slash ds) (ap not other) (digits_no_slash ds h.1)
-
-numbers_back : (m k : ℕ) → m < 8 → k < 2 ^ 63 → case_numbers (decimal m ++ 47 ∷ decimal k) ≡ Some (record { «module» = m; case = k })
-unfolding case_numbers
-numbers_back m k hm hk =
-    let free : IsTrue (list_all no_slash (decimal m)) = digits_no_slash (decimal m) (decimal_is_IsNumeral m (omega arith)).0.1 in
-    let place : position_or_len is_slash (decimal m ++ 47 ∷ decimal k) ≡ length (decimal m) = slash_at (decimal m) (decimal k) free in
-    let before : before_first is_slash (decimal m ++ 47 ∷ decimal k) ≡ decimal m = ap (λ n. take n (decimal m ++ 47 ∷ decimal k)) place ∙ take-append_seam (decimal m) (47 ∷ decimal k) in
-    let past : position_or_len is_slash (decimal m ++ 47 ∷ decimal k) + 1 ≡ suc (length (decimal m)) = omega (arith, place) in
-    let after : after_first is_slash (decimal m ++ 47 ∷ decimal k) ≡ decimal k = ap (λ n. drop n (decimal m ++ 47 ∷ decimal k)) past ∙ drop_seam (decimal m) (decimal k) 47 in
-    ap (λ l. case_of (number_of_word 8 l) (number_of_word (2 ^ 63) (after_first is_slash (decimal m ++ 47 ∷ decimal k)))) before
-    ∙ ap (λ l. case_of (number_of_word 8 (decimal m)) (number_of_word (2 ^ 63) l)) after
-    ∙ ap (λ n. case_of n (number_of_word (2 ^ 63) (decimal k))) (number_back 8 m hm (omega arith))
-    ∙ ap (case_of (Some m)) (number_back (2 ^ 63) k hk (omega arith))
-
--- the text of a case name
-abbrev case_text : ℕ → ℕ → List ℕ
-case_text m k = codes "dx" ++ (decimal m ++ 47 ∷ decimal k)
-
-case_graphic : (m k : ℕ) → m < 8 → k < 2 ^ 63 → IsTrue (graphic (case_text m k))
-case_graphic m k hm hk =
-    graphic_append (codes "dx") (decimal m ++ 47 ∷ decimal k) refl
-    (graphic_append (decimal m) (47 ∷ decimal k) (decimal_graphic m (omega arith)) (and_true (is_graphic 47) (graphic (decimal k)) refl (decimal_graphic k (omega arith))))
-
-case_back : (m k : ℕ) → m < 8 → k < 2 ^ 63 → case_in (text_of (case_text m k)) ≡ Some (record { «module» = m; case = k })
-unfolding case_in case_named
-case_back m k hm hk = ap case_in (text_of_graphic (case_text m k) (case_graphic m k hm hk)) ∙ numbers_back m k hm hk
-
-acquit_back : (m k n : ℕ) → m < 8 → k < 2 ^ 63 → n < 2 ^ 62
-    → length (codes "acquit dx" ++ (decimal m ++ (codes "/" ++ (decimal k ++ (codes " " ++ decimal n))))) ≤ line_limit
-    → line_entry (codes "acquit dx" ++ (decimal m ++ (codes "/" ++ (decimal k ++ (codes " " ++ decimal n))))) ≡ Ok (Acquit (record { «module» = m; case = k }) n)
+acquit_back : (name : CaseName) (n : ℕ) → IsCaseName name → n < 2 ^ 62 → length (line_text (Acquit name n)) ≤ line_limit
+    → line_entry (line_text (Acquit name n)) ≡ Ok (Acquit name n)
 unfolding is_json three_words acquit
-acquit_back m k n hm hk below short =
-    let whole : codes "acquit" ++ 32 ∷ (case_text m k ++ 32 ∷ decimal n) ≡ codes "acquit dx" ++ (decimal m ++ (codes "/" ++ (decimal k ++ (codes " " ++ decimal n)))) =
-    ap (λ l. codes "acquit dx" ++ l) (append_assoc (decimal m) (47 ∷ decimal k) (32 ∷ decimal n)) in
+acquit_back name n is below short =
+    let whole : codes "acquit" ++ 32 ∷ (case_text name ++ 32 ∷ decimal n) ≡ line_text (Acquit name n) =
+    ap (λ l. codes "acquit dx" ++ l) (append_assoc (decimal name.module) (47 ∷ decimal name.case) (32 ∷ decimal n)) in
     ap line_entry (sym whole)
-    ∙ three_is (codes "acquit") (case_text m k) n refl (case_graphic m k hm hk) (omega arith) (subst (λ (l : List ℕ). length l ≤ line_limit) (sym whole) short) refl
-    ∙ ap (λ c. acquit c (number_of_word (2 ^ 62) (decimal n))) (case_back m k hm hk)
-    ∙ ap (acquit (Some (record { «module» = m; case = k }))) (moment_back n below)
+    ∙ three_is (codes "acquit") (case_text name) n refl (case_graphic name is) (omega arith) (subst (λ (l : List ℕ). length l ≤ line_limit) (sym whole) short) refl
+    ∙ ap (λ c. acquit c (number_of_word (2 ^ 62) (decimal n))) (case_in_back name is)
+    ∙ ap (acquit (Some name)) (moment_back n below)
 
 -- ---- reports with a payload
 
@@ -215,7 +173,7 @@ entry_back (Report class path moment payload) is own said short = report_line_ba
 entry_back (Tick moment) is own said short = tick_back moment is.moment_fits short
 entry_back (Repaired path moment) is own said short = repaired_back path moment is.body is.moment_fits short
 entry_back (Replaced path moment) is own said short = replaced_back path moment is.body is.moment_fits short
-entry_back (Acquit case moment) is own said short = acquit_back case.module case.case moment is.body.module_fits is.body.case_fits is.moment_fits short
+entry_back (Acquit case moment) is own said short = acquit_back case moment is.body is.moment_fits short
 
 -- what is printed for the entry of a line reads as the entry
 pub line_back : (line : List ℕ) (entry : Entry) → line_entry line ≡ Ok entry → HasSpelledPayload entry → ReadsAsJson entry → length (line_text entry) ≤ line_limit

@@ -1,15 +1,10 @@
 -- What is printed for the entry of a line is no longer than the line.
-use Rattle.std.proofs.Common.{◌≡◌, ℕ, ◌+◌, ◌-◌, ◌^◌, ◌<◌, ◌≤◌, ◌==◌, ◌∷◌, ◌++◌, [], List, Bool, true, false, cond, length, take, drop, codes, decimal, Option, Some, None, Result, Ok, Err, IfSome, Ordering, Less, Equal, Greater, nat_cmp, option_and_then, bytes_eq, nat_eq, nat_lt, nat_le, refl, ap, ◌∙◌, subst, arith}
-use Rattle.std.specs.List.{before_first, after_first, position_or_len, list_all, starts_with, slice_split, onto_first}
+use Rattle.std.proofs.Common.{◌≡◌, ℕ, ◌+◌, ◌-◌, ◌^◌, ◌<◌, ◌≤◌, ◌==◌, ◌∷◌, ◌++◌, [], List, Bool, true, false, cond, length, take, codes, decimal, Option, Some, None, Result, Ok, Err, IfSome, Ordering, Less, Equal, Greater, nat_cmp, option_and_then, bytes_eq, nat_lt, refl, ap, ◌∙◌, subst, arith}
+use Rattle.std.specs.List.{slice_split, onto_first}
 use Rattle.std.specs.Ordering.{match_ordering}
 use Rattle.std.specs.Cmp.Lexicographic.{slice_cmp}
-use Rattle.std.specs.Char.{is_ascii_digit, digit_value}
-use Rattle.std.specs.Str.Parse.{AllDigits, digits_value}
-use Rattle.std.proofs.lemmas.Bool.{ltb-true, ltb-false, leb-true, and_parts, false≢true}
-use Rattle.std.proofs.lemmas.Bool.Decides.{nat_tests}
-use Rattle.std.proofs.lemmas.Fmt.{length-decimal-le}
-use Rattle.std.proofs.lemmas.Int.Digits.{digits_value-lt}
-use Rattle.std.proofs.lemmas.List.{length-append, length-take, length-drop}
+use Rattle.std.proofs.lemmas.Bool.{ltb-true, ltb-false, false≢true}
+use Rattle.std.proofs.lemmas.List.{length-append, length-take}
 use Rattle.std.proofs.lemmas.List.Splits.{slice_split-cons_yes, slice_split-cons_no, length-slice_split}
 use Rattle.std.proofs.lemmas.Map.Lookups.{exact_bytes}
 use Rattle.std.proofs.lemmas.Slice.Eq.{bytes_eq-Decides}
@@ -29,8 +24,11 @@ use Rattle.fm_entry.specs.declared.case_name.CaseName.{CaseName}
 use Rattle.fm_entry.specs.declared.entry.Entry.{Entry}
 use Rattle.fm_line.specs.declared.fault.LineFault.{LineFault}
 use Rattle.fm_line.specs.declared.fault.LineFault.TheVariants.{Json, Shape, Class, Path, Time, Value, TooLong}
-use Rattle.fm_entry.specs.CaseText.{is_slash, case_of, case_numbers, case_named}
-use Rattle.fm_entry.specs.Decimals.{as_below, number_of_word, is_numeral, leads_plainly}
+use Rattle.fm_entry.specs.CaseText.{case_text, case_named}
+use Rattle.fm_entry.proofs.CaseTexts.{case_spelled}
+use Rattle.fm_entry.proofs.Numerals.{number_spelled}
+use Rattle.std.proofs.lemmas.Option.{IfSome_then}
+use Rattle.fm_entry.specs.Decimals.{as_below, number_of_word}
 use Rattle.fm_line.specs.Forms.{text_of, is_ereport, class_in, path_in, case_in, moment_in, needed, report, tick, repaired, replaced, acquit, is_space, words, words_entry, two_words, three_words, four_words, key_count, one_key, acquit_keys, replaced_keys, repaired_keys, two_keys, report_keys, four_keys, object_entry, json_of, json_entry, without_return, is_json, content_entry, line_entry}
 use Rattle.fm_line.specs.Lines.{line_limit}
 use Rattle.fm_line.specs.Numbers.{as_moment, moment_of_word}
@@ -48,9 +46,6 @@ chosen : {A : Type 0} (P : A → Type 0) (b : Bool) (x y : A) → (b ≡ true �
 chosen P true x y f g = f refl
 chosen P false x y f g = g refl
 
-digit_below : (b : ℕ) → 48 ≤ b → b ≤ 57 → digit_value b < 10
-digit_below b l h = grind (arith, nat_tests)
-
 second : (a b c : Bool) → cond a false (cond b c false) ≡ true → b ≡ true
 second true b c h = absurd (false≢true h)
 second false true c h = refl
@@ -63,28 +58,12 @@ if_found P false o f = tt
 below : (P : ℕ → Type 0) (limit n : ℕ) → (n < limit → P n) → IfSome (as_below limit n) P
 below P limit n f = if_found P (nat_lt n limit) (Some n) (λ e. f (ltb-true n limit e))
 
-all_digits : (ds : List ℕ) → list_all is_ascii_digit ds ≡ true → AllDigits 10 ds
-all_digits [] h = tt
-all_digits (d ∷ ds) h =
-    let parts = and_parts (is_ascii_digit d) (list_all is_ascii_digit ds) h in
-    let range = and_parts (nat_le 48 d) (nat_le d 57) parts.0 in
-    (digit_below d (leb-true 48 d range.0) (leb-true d 57 range.1), all_digits ds parts.1)
-
 -- a number is written in no more digits than a word that reads as it
 abbrev IsWritten : ℕ → ℕ → Type 0
 IsWritten length_of n = length (decimal n) ≤ length_of
 
-numeral : (word : List ℕ) → is_numeral word ≡ true → (0 < length word) × (list_all is_ascii_digit word ≡ true)
-unfolding is_numeral
-numeral [] h = absurd (false≢true h)
-numeral (d ∷ ds) h = (omega arith, second (length (d ∷ ds) == 0) (list_all is_ascii_digit (d ∷ ds)) (leads_plainly (d ∷ ds)) h)
-
 word_written : (limit : ℕ) (word : List ℕ) → limit ≤ 2 ^ 64 → IfSome (number_of_word limit word) (IsWritten (length word))
-unfolding number_of_word
-word_written limit word small =
-    if_found (IsWritten (length word)) (is_numeral word) (as_below limit (digits_value 10 word))
-    (λ is. below (IsWritten (length word)) limit (digits_value 10 word)
-    (λ under. let parts = numeral word is in length-decimal-le (length word) (digits_value 10 word) parts.0 (digits_value-lt 10 word (all_digits word parts.1)) (omega (arith, under, small))))
+word_written limit word small = IfSome_then (number_of_word limit word) (number_spelled limit word small) (λ n h. omega (arith, ap length h.0))
 
 -- ---- case names
 
@@ -92,42 +71,15 @@ word_written limit word small =
 abbrev IsCaseWritten : ℕ → CaseName → Type 0
 IsCaseWritten n c = length (decimal c.module) + length (decimal c.case) + 3 ≤ n
 
-pair_written : (m k : Option ℕ) (a b n : ℕ) → IfSome m (IsWritten a) → IfSome k (IsWritten b) → (IfSome k (λ _. a + b + 3 ≤ n)) → IfSome (case_of m k) (IsCaseWritten n)
-pair_written None k a b n hm hk fits = tt
-pair_written (Some m) None a b n hm hk fits = tt
-pair_written (Some m) (Some k) a b n hm hk fits = omega (arith, hm, hk, fits)
-
-nonempty : (limit : ℕ) (word : List ℕ) → IfSome (number_of_word limit word) (λ _. 0 < length word)
-unfolding number_of_word
-nonempty limit word =
-    if_found (λ _. 0 < length word) (is_numeral word) (as_below limit (digits_value 10 word)) (λ is. below (λ _. 0 < length word) limit (digits_value 10 word) (λ under. (numeral word is).0))
-
-shifted : {P Q : ℕ → Type 0} (o : Option ℕ) → IfSome o P → ((n : ℕ) → P n → Q n) → IfSome o Q
-shifted None h f = tt
-shifted (Some n) h f = f n h
-
-numbers_written : (text : List ℕ) → IfSome (case_numbers text) (IsCaseWritten (length text + 2))
-unfolding case_numbers
-numbers_written text =
-    let before = before_first is_slash text in
-    let after = after_first is_slash text in
-    let at = position_or_len is_slash text in
-    pair_written (number_of_word 8 before) (number_of_word (2 ^ 63) after) (length before) (length after) (length text + 2) (word_written 8 before (omega arith))
-    (word_written (2 ^ 63) after (omega arith))
-    (shifted (number_of_word (2 ^ 63) after) (nonempty (2 ^ 63) after) (λ n some. omega (arith, some, length-take at text, length-drop (at + 1) text)))
-
 wider : (c : Option CaseName) (m n : ℕ) → IfSome c (IsCaseWritten m) → m ≤ n → IfSome c (IsCaseWritten n)
 wider None m n h le = tt
 wider (Some c) m n h le = omega (arith, h, le)
 
-front : (text : List ℕ) → starts_with nat_eq text (codes "dx") ≡ true → 2 ≤ length text
-front [] h = absurd (false≢true h)
-front (x ∷ []) h = absurd (false≢true (and_parts _ _ h).1)
-front (x ∷ y ∷ text) h = omega arith
+text_written : (text : List ℕ) (name : CaseName) → text ≡ case_text name → IsCaseWritten (length text) name
+text_written text name same = omega (arith, ap length same, length-append (decimal name.module) (47 ∷ decimal name.case))
 
 case_written : (text : List ℕ) → IfSome (case_named text) (IsCaseWritten (length text))
-unfolding case_named
-case_written text = if_found (IsCaseWritten (length text)) _ (case_numbers (drop 2 text)) (λ (starts : starts_with nat_eq text (codes "dx") ≡ true). wider (case_numbers (drop 2 text)) (length (drop 2 text) + 2) (length text) (numbers_written (drop 2 text)) (omega (arith, front text starts, length-drop 2 text)))
+case_written text = IfSome_then (case_named text) (case_spelled text) (λ name h. text_written text name h.0)
 
 -- ---- the parts of an entry
 

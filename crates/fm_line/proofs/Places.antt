@@ -1,31 +1,15 @@
 -- The first byte of a list that passes a test, by its place.
-use Rattle.std.proofs.Common.{◌≡◌, ℕ, ◌+◌, ◌<◌, ◌≤◌, ◌++◌, ◌∷◌, List, Bool, true, false, cond, length, position, Some, None, refl, ap, ◌∙◌, subst, arith, take, drop, get_or, get_or-take, length-take, add-one, nat_lt}
+use Rattle.std.proofs.Common.{◌≡◌, ℕ, ◌+◌, ◌<◌, ◌≤◌, ◌++◌, ◌∷◌, List, Bool, true, false, length, position, Some, None, ap, ◌∙◌, subst, arith, take, drop, get_or, get_or-take, length-take, add-one}
 use Rattle.std.specs.List.{All, position_or_len}
 use Rattle.std.proofs.Math.Seq.{split_at}
-use Rattle.std.proofs.lemmas.Bool.{ltb-true, ltb-false}
 use Rattle.std.proofs.lemmas.List.Sums.{fails_before_first, passes_at_first}
-use Rattle.std.proofs.lemmas.Option.{cond_some}
+use Rattle.fm_entry.proofs.Places.{place_none, place_is}
 
--- where no place is found, there is none before the end
-pub place_none : (p : ℕ → Bool) (xs : List ℕ) → position p xs ≡ None → length xs ≤ position_or_len p xs
-place_none p xs none =
-    elim (nat_lt (position_or_len p xs) (length xs)) as (λ t. nat_lt (position_or_len p xs) (length xs) ≡ t → cond t (Some (position_or_len p xs)) None ≡ None → length xs ≤ position_or_len p xs) [
-      | true ↦ λ e some. cc
-      | false ↦ λ e same. ltb-false (position_or_len p xs) (length xs) e
-    ] refl none
-
--- and no byte passes
+-- where no place is found, no byte passes
 pub fails_all : (p : ℕ → Bool) (xs : List ℕ) → position p xs ≡ None → All (λ b. p b ≡ false) xs
 fails_all p xs none k d below =
     let past : length xs ≤ position_or_len p xs = place_none p xs none in
     fails_before_first p xs k d (omega arith)
-
--- the place that is found is that of the first byte that passes
-pub place_is : (p : ℕ → Bool) (xs : List ℕ) (at : ℕ) → position p xs ≡ Some at → (position_or_len p xs ≡ at) × (at < length xs)
-place_is p xs at found =
-    let (b, e) = cond_some (nat_lt (position_or_len p xs) (length xs)) (position_or_len p xs) at found in
-    let below : position_or_len p xs < length xs = ltb-true (position_or_len p xs) (length xs) b in
-    (e, omega arith)
 
 pub fails_before : (p : ℕ → Bool) (xs : List ℕ) (at : ℕ) → position p xs ≡ Some at → All (λ b. p b ≡ false) (take at xs)
 fails_before p xs at found k d below =

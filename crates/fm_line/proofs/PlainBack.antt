@@ -1,24 +1,21 @@
 -- What is printed in the plain form reads as the entry.
-use Rattle.std.proofs.Common.{◌≡◌, ℕ, zero, suc, ◌||◌, ◌+◌, ◌-◌, ◌^◌, ◌<◌, ◌≤◌, ◌==◌, ◌&&◌, ◌++◌, ◌∷◌, [], List, Bool, true, false, cond, not, length, take, Some, None, Err, IsTrue, refl, ap, ◌∙◌, arith, nat_lt, nat_le, get_or, slice_index, length-append, decimal}
-use Rattle.std.specs.List.{list_all}
-use Rattle.std.specs.Char.{is_ascii_digit, digit_value}
+use Rattle.std.proofs.Common.{◌≡◌, ℕ, zero, suc, ◌+◌, ◌-◌, ◌^◌, ◌<◌, ◌≤◌, ◌==◌, ◌&&◌, ◌++◌, ◌∷◌, [], List, Bool, true, false, cond, length, take, Some, None, Err, IsTrue, refl, ap, ◌∙◌, arith, nat_lt, get_or, slice_index, length-append, decimal}
+use Rattle.std.specs.Char.{digit_value}
 use Rattle.std.specs.Str.{IsAscii}
-use Rattle.std.specs.Str.Parse.{AllDigits, digits_value}
-use Rattle.std.proofs.lemmas.Bool.{lt-ltb, le-ltb, ltb-true, le-leb}
+use Rattle.std.specs.Str.Parse.{AllDigits}
+use Rattle.std.proofs.lemmas.Bool.{lt-ltb, le-ltb, ltb-true}
 use Rattle.std.proofs.lemmas.Bool.Decides.{nat_tests}
-use Rattle.std.proofs.lemmas.Fmt.{decimal_is_IsNumeral, first_decimal, decimal_digit, decimal_nonempty}
+use Rattle.std.proofs.lemmas.Fmt.{decimal_is_IsNumeral, decimal_nonempty}
 use Rattle.std.proofs.lemmas.List.{get_or-append_right}
 use Rattle.std.proofs.lemmas.List.Splits.{slice_split_none, slice_split_at}
 use Rattle.std.proofs.lemmas.List.Sums.{AllPass-from_list_all}
 use Rattle.std.proofs.lemmas.Str.{is_utf8-from_IsUtf8, IsUtf8-from_ascii}
 use Rattle.std.proofs.lemmas.Str.Parse.{digit_from_value}
 use Rattle.fm_nv.proofs.Booleans.{and_parts, and_true}
-use Rattle.fm_line.proofs.Cutting.{positive_eqb}
 use Rattle.fm_line.proofs.Graphic.{is_graphic, graphic}
 use Rattle.fm_line.specs.declared.fault.LineFault.TheVariants.{TooLong}
 use Rattle.fm_line.specs.Forms.{text_of, words, is_space, without_return, is_json, json_entry, content_entry, words_entry, line_entry}
 use Rattle.fm_line.specs.Lines.{line_limit}
-use Rattle.fm_entry.specs.Decimals.{is_numeral, leads_plainly, as_below, number_of_word}
 
 -- ---- texts without spaces
 
@@ -60,44 +57,8 @@ digits_graphic : (ds : List ℕ) → AllDigits 10 ds → IsTrue (graphic ds)
 digits_graphic [] h = refl
 digits_graphic (d ∷ ds) h = and_true (is_graphic d) (graphic ds) (digit_graphic d h.0) (digits_graphic ds h.1)
 
-digit_test : (b : ℕ) → digit_value b < 10 → IsTrue (is_ascii_digit b)
-digit_test b h =
-    let range = digit_from_value b h in
-    and_true (nat_le 48 b) (nat_le b 57) (le-leb 48 b (omega arith)) (le-leb b 57 (omega arith))
-
-digits_test : (ds : List ℕ) → AllDigits 10 ds → list_all is_ascii_digit ds ≡ true
-digits_test [] h = refl
-digits_test (d ∷ ds) h = and_true (is_ascii_digit d) (list_all is_ascii_digit ds) (digit_test d h.0) (digits_test ds h.1)
-
 pub decimal_graphic : (n : ℕ) → n < 2 ^ 64 → IsTrue (graphic (decimal n))
 decimal_graphic n h = digits_graphic (decimal n) (decimal_is_IsNumeral n h).0.1
-
-later_eqb : (a b : ℕ) → a < b → (b == a) ≡ false
-later_eqb a b h = grind (arith, nat_tests)
-
-either_second : (a b : Bool) → b ≡ true → (a || b) ≡ true
-either_second true b h = refl
-either_second false b h = h
-
-leads : (n : ℕ) → n < 2 ^ 64 → leads_plainly (decimal n) ≡ true
-leads zero h = ap leads_plainly (decimal_digit 0 (omega arith))
-leads (suc n) h = either_second (length (decimal (suc n)) == 1) (not (get_or (decimal (suc n)) 0 0 == 48)) (ap not (later_eqb 48 (get_or (decimal (suc n)) 0 0) (first_decimal (suc n) (omega arith) h)))
-
-is_numeral_by : (ds : List ℕ) → 0 < length ds → list_all is_ascii_digit ds ≡ true → leads_plainly ds ≡ true → is_numeral ds ≡ true
-unfolding is_numeral
-is_numeral_by ds some digits first =
-    ap (λ t. cond t false (cond (list_all is_ascii_digit ds) (leads_plainly ds) false)) (positive_eqb (length ds) some)
-    ∙ ap (λ t. cond t (leads_plainly ds) false) digits
-    ∙ first
-
-pub number_back : (limit n : ℕ) → n < limit → n < 2 ^ 64 → number_of_word limit (decimal n) ≡ Some n
-unfolding number_of_word
-number_back limit n below fits =
-    let spelled = decimal_is_IsNumeral n fits in
-    let numeral : is_numeral (decimal n) ≡ true = is_numeral_by (decimal n) spelled.0.0 (digits_test (decimal n) spelled.0.1) (leads n fits) in
-    ap (λ t. cond t (as_below limit (digits_value 10 (decimal n))) None) numeral
-    ∙ ap (as_below limit) spelled.1
-    ∙ ap (λ t. cond t (Some n) None) (lt-ltb n limit below)
 
 -- ---- lines
 

@@ -1,6 +1,5 @@
 -- The entry of a line has a spelling, if its payload has one.
-use Rattle.std.proofs.Common.{◌≡◌, ℕ, ◌<◌, ◌^◌, ◌∷◌, [], List, Bool, true, false, cond, Option, Some, None, Result, Ok, Err, IfSome, IsTrue, refl, subst, nat_lt, nat_eq, codes, option_and_then, drop}
-use Rattle.std.specs.List.{before_first, after_first, starts_with}
+use Rattle.std.proofs.Common.{◌≡◌, ℕ, ◌<◌, ◌^◌, ◌∷◌, [], List, Bool, true, false, cond, Option, Some, None, Result, Ok, Err, IfSome, IsTrue, refl, subst, nat_lt, codes, option_and_then, arith}
 use Rattle.std.proofs.lemmas.Bool.{ltb-true}
 use Rattle.serde_json.specs.Data.{Data}
 use Rattle.serde_json.specs.Find.{get, as_str, as_number, as_u64}
@@ -15,9 +14,12 @@ use Rattle.fm_entry.specs.declared.entry.Entry.{Entry}
 use Rattle.fm_entry.specs.Entries.{IsSpelled, IsCaseName}
 use Rattle.fm_line.specs.declared.fault.LineFault.{LineFault}
 use Rattle.fm_line.specs.declared.fault.LineFault.TheVariants.{Shape, TooLong, Json}
-use Rattle.fm_entry.specs.CaseText.{is_slash, case_of, case_numbers, case_named}
+use Rattle.fm_entry.specs.CaseText.{case_named}
+use Rattle.fm_entry.proofs.CaseTexts.{case_spelled}
+use Rattle.fm_entry.proofs.Numerals.{number_spelled}
+use Rattle.std.proofs.lemmas.Option.{IfSome_then}
 use Rattle.fm_line.specs.Forms.{text_of, is_ereport, class_in, path_in, case_in, moment_in, needed, report, tick, repaired, replaced, acquit, words, words_entry, two_words, three_words, four_words, one_key, acquit_keys, replaced_keys, repaired_keys, two_keys, report_keys, four_keys, object_entry, json_of, json_entry, without_return, content_entry, line_entry}
-use Rattle.fm_entry.specs.Decimals.{as_below, number_of_word, is_numeral}
+use Rattle.fm_entry.specs.Decimals.{as_below, number_of_word}
 use Rattle.fm_line.specs.Numbers.{as_moment, moment_of_word}
 use Rattle.fm_line.specs.Payload.{list_of}
 use Rattle.fm_line.specs.Sound.{HasSpelledPayload, HasReadPayload}
@@ -86,33 +88,10 @@ below_sound limit n =
       | false ↦ λ e. tt
     ] refl
 
-if_below : (b : Bool) (limit n : ℕ) → IfSome (cond b (as_below limit n) None) (λ m. m < limit)
-if_below true limit n = below_sound limit n
-if_below false limit n = tt
-
-number_sound : (limit : ℕ) (word : List ℕ) → IfSome (number_of_word limit word) (λ m. m < limit)
-unfolding number_of_word
-number_sound limit word = if_below (is_numeral word) limit _
-
-case_of_sound : (m n : Option ℕ) → IfSome m (λ m. m < 8) → IfSome n (λ n. n < 2 ^ 63) → IfSome (case_of m n) IsCaseName
-case_of_sound None n hm hn = tt
-case_of_sound (Some m) None hm hn = tt
-case_of_sound (Some m) (Some n) hm hn = record { module_fits = hm; case_fits = hn }
-
-numbers_sound : (text : List ℕ) → IfSome (case_numbers text) IsCaseName
-unfolding case_numbers
-numbers_sound text =
-    case_of_sound (number_of_word 8 (before_first is_slash text)) (number_of_word (2 ^ 63) (after_first is_slash text))
-    (number_sound 8 (before_first is_slash text)) (number_sound (2 ^ 63) (after_first is_slash text))
-
-if_case : (b : Bool) (o : Option CaseName) → IfSome o IsCaseName → IfSome (cond b o None) IsCaseName
-if_case true o h = h
-if_case false o h = tt
-
 case_sound : (text : Option (List ℕ)) → IfSome (case_in text) IsCaseName
-unfolding case_in case_named
+unfolding case_in
 case_sound None = tt
-case_sound (Some text) = if_case (starts_with nat_eq text (codes "dx")) (case_numbers (drop 2 text)) (numbers_sound (drop 2 text))
+case_sound (Some text) = IfSome_then (case_named text) (case_spelled text) (λ name h. h.1)
 
 then_moment : (o : Option ℕ) → IfSome (option_and_then as_moment o) IsMoment
 then_moment None = tt
@@ -123,7 +102,7 @@ unfolding moment_in
 moment_sound d = then_moment (option_and_then as_u64 (as_number d))
 
 word_sound : (word : List ℕ) → IfSome (moment_of_word word) IsMoment
-word_sound word = number_sound (2 ^ 62) word
+word_sound word = IfSome_then (number_of_word (2 ^ 62) word) (number_spelled (2 ^ 62) word (omega arith)) (λ n h. h.1)
 
 report_sound : (c p : Option (List ℕ)) (t : Option ℕ) (y : Option Pairs) → IfSome c IsReportClass → IfSome p (λ p. IsTrue (is_path p)) → IfSome t IsMoment → IfSome y IsOwn → IsSound (report c p t y)
 unfolding report

@@ -1,5 +1,5 @@
 -- The entry that a line says, or its first fault: the forms of a line, over its bytes.
-use Rattle.std.specs.Prelude.{ℕ, ◌-◌, ◌==◌, ◌&&◌, ◌||◌, not, Bool, true, false, List, [], ◌∷◌, length, take, codes, slice_index, nat_lt, find, if◌then◌else◌, Option, Some, None, option_and_then, Result, Ok, Err, bytes_eq}
+use Rattle.std.specs.Prelude.{ℕ, ◌-◌, ◌==◌, ◌&&◌, not, Bool, true, false, List, [], ◌∷◌, length, take, codes, slice_index, nat_lt, find, if◌then◌else◌, Option, Some, None, option_and_then, Result, Ok, Err, bytes_eq}
 use Rattle.std.specs.List.{slice_split}
 use Rattle.std.specs.Str.{is_utf8}
 use Rattle.serde_json.specs.Data.{Data, null, boolean, number, string, array, object}
@@ -16,6 +16,7 @@ use Rattle.fm_entry.specs.declared.case_name.CaseName.{CaseName}
 use Rattle.fm_entry.specs.declared.entry.Entry.{Entry}
 use Rattle.fm_entry.specs.declared.entry.Entry.TheVariants.{Report, Tick, Repaired, Replaced, Acquit}
 use Rattle.fm_entry.specs.CaseText.{case_named}
+use Rattle.fm_line.specs.Blank.{is_blank_byte}
 use Rattle.fm_line.specs.Lines.{line_limit}
 use Rattle.fm_line.specs.Numbers.{as_moment, moment_of_word}
 use Rattle.fm_line.specs.Payload.{list_of}
@@ -174,9 +175,9 @@ json_entry line = needed (json_of line) Json object_entry
 unfoldable pub without_return : List ℕ → List ℕ
 without_return line = if nat_lt 0 (length line) && (slice_index line (length line - 1) == 13) then take (length line - 1) line else line
 
--- a byte that is no space and no tab
+-- a byte that is no blank
 abbrev pub is_inked : ℕ → Bool
-is_inked b = not (b == 32 || b == 9)
+is_inked b = not (is_blank_byte b)
 
 -- the byte opens an object
 abbrev pub opens : Option ℕ → Bool

@@ -12,8 +12,8 @@
 //!
 //! `line_entry` is what a line says, by cases over its bytes: an entry, or the first of its faults. Of
 //! JSON it speaks by the value that the bytes read as. `read_line` answers just this, but for want of
-//! memory, and what it answers has a spelling as bytes. `code_of` numbers the faults. `outcomes_of` is
-//! what a whole stream says: blank lines are counted and skipped.
+//! memory, and what it answers has a spelling as bytes. `code_of` numbers the faults. Lines of blanks are
+//! skipped: `is_blank_line` tells them.
 //!
 //! `line_text` is the line of an entry. `print_line` appends it, and the line that it prints for an entry
 //! that some line gives reads as that entry, if it is within the limit of a line.

@@ -24,11 +24,13 @@ fn without_return(line: &[u8]) -> &[u8]
     line
 }
 
-/// The first byte that is no space and no tab.
+/// The first byte that is no blank.
 fn first_inked(line: &[u8]) -> Option<u8>
     ensures { result ≡ find is_inked line.now }
 {
-    line.iter().copied().find(|b| !(*b == b' ' || *b == b'\t'))
+    line.iter()
+        .copied()
+        .find(|b| !(*b == b' ' || *b == b'\t' || *b == b'\r'))
 }
 
 /// Whether the line is in the JSON form.

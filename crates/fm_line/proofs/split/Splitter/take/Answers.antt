@@ -2,7 +2,8 @@ use Rattle.std.proofs.Common.{◌≡◌, Some, ap, sym, ◌∙◌, refl, ◌++�
 use Rattle.std.proofs.Math.Seq.{drop-length}
 use Rattle.fm_line.specs.Lines.{lines_from, lines_of, is_newline, told}
 use Rattle.fm_line.proofs.split.Splitter.take.Goals as goal
-use Rattle.fm_line.proofs.Places.{fails_all, fails_before, place_is, passes_at}
+use Rattle.fm_entry.proofs.Places.{place_is}
+use Rattle.fm_line.proofs.Places.{fails_all, fails_before, passes_at}
 use Rattle.fm_line.proofs.Cutting.{cut_at, cut_free, view_in_progress, IsInProgress, lines_from_afresh}
 
 pub grow-requires : goal.grow-requires
