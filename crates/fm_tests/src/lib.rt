@@ -1,6 +1,8 @@
-//! Tests of the top call over objects in memory: what no clause says of it. They stand in a crate of their
-//! own, so that the library below is not proved again with each of them.
+//! Tests of the top call over objects in memory, and of a journal whose disk stops while it is opened: what no clause
+//! says of them. They stand in a crate of their own, so that the libraries below are not proved again with each of them.
 #![tactic(auto)]
 
+#[cfg(test)]
+mod stopped;
 #[cfg(test)]
 mod tests;

@@ -151,6 +151,14 @@ fn a_replay_counts_by_class(rt: HostRuntime) -> Result<(), Fail> {
     fresh_puts(&rt, alloc, "replay", input.as_str(), ToolStatus::Done, text)
 }
 
+#[test]
+fn each_entry_of_a_class_is_counted(rt: HostRuntime) -> Result<(), Fail> {
+    let alloc = rt.alloc();
+    let input = format!(in alloc; "{REPORT}{REPORT}{REPORT}")?;
+    let text = "entries 3 spoken 2\ncount 3 ereport.cpu.ue\n";
+    fresh_puts(&rt, alloc, "replay", input.as_str(), ToolStatus::Done, text)
+}
+
 /// A line of so many letters.
 fn letters(alloc: Global, count: usize) -> Result<Vec<u8>, Fail> {
     Ok(vec![in alloc; b'a'; count]?)
@@ -374,6 +382,24 @@ fn a_failing_outside_is_told(rt: HostRuntime) -> Result<(), Fail> {
         ToolStatus::DiskFault,
         "disk fault\n",
     )
+}
+
+/// Asserts what was put where the second call of the sink fails.
+fn first_answer(rt: &impl Abort, alloc: Global, input: &[u8], text: &str) -> Result<(), Fail> {
+    let mut disks = disks_of(alloc, b"", &[])?;
+    let outside = Outside {
+        sink_fails: &[1],
+        ..WHOLE
+    };
+    let told = (ToolStatus::WriteFault, text);
+    puts(rt, alloc, &mut disks, "accept", input, outside, told)
+}
+
+#[test]
+fn a_line_is_answered_by_one_put(rt: HostRuntime) -> Result<(), Fail> {
+    let alloc = rt.alloc();
+    first_answer(&rt, alloc, b"tick 1\ntick 2\n", "ok 0\n")?;
+    first_answer(&rt, alloc, b"hello\ntick 2\n", "refused 1 2\n")
 }
 
 /// Asserts where a disk with these bytes is damaged.

@@ -11,7 +11,7 @@ use Rattle.fm_journal.specs.JournalOf.{JournalOf}
 use Rattle.fm_journal.specs.Keeps.{Keeps}
 use Rattle.fm_top.specs.declared.stops.Stop.{Stop}
 use Rattle.fm_top.specs.declared.stops.Stop.TheVariants.{Usage, Damaged, Read, Write, Disk, Memory, Full}
-use denote.MutBor.{MutBor}
+use Rattle.fm_top.specs.declared.lent.Lent.{Lent}
 use Rattle.std.specs.Io.KnownBytes.{Appends, Consumes}
 use Rattle.std.proofs.KnownBytes.{Appends-nil, Consumes-nil}
 use Rattle.fm_journal.specs.declared.fault.JournalFault.{JournalFault}
@@ -130,36 +130,36 @@ disk_rose seen images failures j k puts is_told next consumes at_end (inl ran) =
 disk_rose seen images failures j k puts is_told next consumes at_end (inr ran) = (ran.stops.1.2).left.0
 
 -- the whole command, once its journal was opened
-pub accepted_all : {F E : Type 0} (seen : F → Option (List ℕ)) (images : F → List ℕ → Type 0) (failures : F → ℕ) (was : Option (List ℕ)) (j k : JournalOf (MutBor F)) (x : F)
+pub accepted_all : {F E : Type 0} (seen : F → Option (List ℕ)) (images : F → List ℕ → Type 0) (failures : F → ℕ) (was : Option (List ℕ)) (j k : JournalOf (Lent F)) (x : F)
     (puts consumes : List ℕ → Type 0) (at_end : Type 0) (r : Result E Stop)
-    → x ≡ k.disk.now → Stands (λ d. seen d.now) (λ d. images d.now) was j
+    → x ≡ k.disk.disk.now → Stands (λ d. seen d.disk.now) (λ d. images d.disk.now) was j
     → ((bytes : List ℕ) → was ≡ Some bytes → (payloads : List (List ℕ)) × Stood bytes j.first payloads)
-    → OnOk r (RanAll (Recorded (λ d. seen d.now) (λ d. images d.now) (λ d. failures d.now) j k) puts true (j.first + j.count) consumes at_end)
+    → OnOk r (RanAll (Recorded (λ d. seen d.disk.now) (λ d. images d.disk.now) (λ d. failures d.disk.now) j k) puts true (j.first + j.count) consumes at_end)
     → OnOk r (AcceptedAll was (images x) puts consumes at_end)
 accepted_all seen images failures was j k x puts consumes at_end r same stands there ran =
     on_ok_weaker r
-    (λ (done : RanAll (Recorded (λ d. seen d.now) (λ d. images d.now) (λ d. failures d.now) j k) puts true (j.first + j.count) consumes at_end).
-    let grew : RanAll (Grew was (images k.disk.now) (j.first + j.count)) puts true (j.first + j.count) consumes at_end =
-    all_weaker _ _ puts true (j.first + j.count) consumes at_end (grew_of (λ d. seen d.now) (λ d. images d.now) (λ d. failures d.now) was j k stands) done in
+    (λ (done : RanAll (Recorded (λ d. seen d.disk.now) (λ d. images d.disk.now) (λ d. failures d.disk.now) j k) puts true (j.first + j.count) consumes at_end).
+    let grew : RanAll (Grew was (images k.disk.disk.now) (j.first + j.count)) puts true (j.first + j.count) consumes at_end =
+    all_weaker _ _ puts true (j.first + j.count) consumes at_end (grew_of (λ d. seen d.disk.now) (λ d. images d.disk.now) (λ d. failures d.disk.now) was j k stands) done in
     let there_now : IsThere was = λ bytes told. let (payloads, stood) = there bytes told in (j.first, payloads, stood) in
-    let whole : AcceptedAll was (images k.disk.now) puts consumes at_end = record { there = there_now; next = j.first + j.count; ran = grew } in
+    let whole : AcceptedAll was (images k.disk.disk.now) puts consumes at_end = record { there = there_now; next = j.first + j.count; ran = grew } in
     subst (λ d. AcceptedAll was (images d) puts consumes at_end) (sym same) whole)
     ran
 
-pub accepted_until : {F E : Type 0} (seen : F → Option (List ℕ)) (images : F → List ℕ → Type 0) (failures : F → ℕ) (was : Option (List ℕ)) (old : List ℕ → Type 0) (j k : JournalOf (MutBor F)) (x : F)
+pub accepted_until : {F E : Type 0} (seen : F → Option (List ℕ)) (images : F → List ℕ → Type 0) (failures : F → ℕ) (was : Option (List ℕ)) (old : List ℕ → Type 0) (j k : JournalOf (Lent F)) (x : F)
     (puts consumes : List ℕ → Type 0) (at_end : Type 0) (r : Result E Stop)
-    → x ≡ k.disk.now → Stands (λ d. seen d.now) (λ d. images d.now) was j
+    → x ≡ k.disk.disk.now → Stands (λ d. seen d.disk.now) (λ d. images d.disk.now) was j
     → ((bytes : List ℕ) → was ≡ Some bytes → (payloads : List (List ℕ)) × Stood bytes j.first payloads)
-    → IfErr r (RanUntil (Recorded (λ d. seen d.now) (λ d. images d.now) (λ d. failures d.now) j k) puts true (j.first + j.count) consumes at_end)
+    → IfErr r (RanUntil (Recorded (λ d. seen d.disk.now) (λ d. images d.disk.now) (λ d. failures d.disk.now) j k) puts true (j.first + j.count) consumes at_end)
     → IfErr r (AcceptStops was old (images x) puts consumes at_end)
 accepted_until seen images failures was old j k x puts consumes at_end r same stands there ran =
-    IfErr-weaker r (RanUntil (Recorded (λ d. seen d.now) (λ d. images d.now) (λ d. failures d.now) j k) puts true (j.first + j.count) consumes at_end)
+    IfErr-weaker r (RanUntil (Recorded (λ d. seen d.disk.now) (λ d. images d.disk.now) (λ d. failures d.disk.now) j k) puts true (j.first + j.count) consumes at_end)
     (AcceptStops was old (images x) puts consumes at_end)
     (λ stop stopped.
-    let grew : RanUntil (Grew was (images k.disk.now) (j.first + j.count)) puts true (j.first + j.count) consumes at_end stop =
-    until_weaker _ _ puts true (j.first + j.count) consumes at_end stop (grew_of (λ d. seen d.now) (λ d. images d.now) (λ d. failures d.now) was j k stands) stopped in
+    let grew : RanUntil (Grew was (images k.disk.disk.now) (j.first + j.count)) puts true (j.first + j.count) consumes at_end stop =
+    until_weaker _ _ puts true (j.first + j.count) consumes at_end stop (grew_of (λ d. seen d.disk.now) (λ d. images d.disk.now) (λ d. failures d.disk.now) was j k stands) stopped in
     let there_now : IsThere was = λ bytes told. let (payloads, stood) = there bytes told in (j.first, payloads, stood) in
-    let whole : AcceptedUntil was (images k.disk.now) puts consumes at_end stop = record { there = there_now; next = j.first + j.count; ran = grew } in
+    let whole : AcceptedUntil was (images k.disk.disk.now) puts consumes at_end stop = record { there = there_now; next = j.first + j.count; ran = grew } in
     inr (subst (λ d. AcceptedUntil was (images d) puts consumes at_end stop) (sym same) whole))
     ran
 

@@ -7,6 +7,7 @@ pub mod Ended
 pub mod Ending
 pub mod Halting
 pub mod Held
+pub mod Lending
 pub mod Opening
 pub mod Recorders
 pub mod Recording

@@ -27,6 +27,7 @@ fn call_accept<S: Source, K: Sink, D: Disk>(
 ) -> ToolStatus
     ensures accepts { Accepts (D.seen disk.old) (D.images disk.old) (D.images disk.new) (K.put_bytes out.old) (K.put_bytes out.new) (S.left input.old) (S.left input.new) result }
     ensures cause { AcceptCause (S.failures input.old) (S.failures input.new) (K.failures out.old) (K.failures out.new) (D.failures disk.old) (D.failures disk.new) result }
+    ensures same_disk { D.name disk.new ≡ D.name disk.old }
 {
     let ran = accept(alloc, input, out, disk);
     end(alloc, ran, out)
@@ -74,6 +75,7 @@ pub fn tool<S: Source, K: Sink, D: Disk>(
     ensures untouched { command_of words.now ≡ None → disks.new ≡ disks.old }
     ensures cause { StatusCause (command_of words.now) (S.failures input.old) (S.failures input.new) (K.failures out.old) (K.failures out.new)
         (D.failures disks.old.err_a) (D.failures disks.new.err_a) result }
+    ensures same_disk { D.name disks.new.err_a ≡ D.name disks.old.err_a }
     ensures others { disks.new ≡ record disks.old { err_a = disks.new.err_a } }
     ensures same_rules { rules.new ≡ rules.old }
     ensures same_topo { topo.new ≡ topo.old }

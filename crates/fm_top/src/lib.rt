@@ -24,6 +24,7 @@ mod acts;
 mod answering;
 mod call;
 mod last;
+mod lent;
 mod opening;
 mod pieces;
 mod reading;

@@ -15,7 +15,14 @@ pub struct Disks<D> {
 
 impl<D> Disks<D> {
     /// The disks, lent. Who writes through them writes to these.
-    pub fn lend(&mut self) -> Disks<&mut D> {
+    pub fn lend(&mut self) -> Disks<&mut D>
+        ensures conf { result.conf.now ≡ self.old.conf }
+        ensures err_a { result.err_a.now ≡ self.old.err_a }
+        ensures err_b { result.err_b.now ≡ self.old.err_b }
+        ensures slot_a { result.slot_a.now ≡ self.old.slot_a }
+        ensures slot_b { result.slot_b.now ≡ self.old.slot_b }
+        ensures flt { result.flt.now ≡ self.old.flt }
+    {
         Disks {
             conf: &mut self.conf,
             err_a: &mut self.err_a,

@@ -10,10 +10,12 @@
 //! actuator its list `retired.KIND`, of one path a line.
 #![tactic(auto)]
 
+mod ending;
 mod input;
 mod opened;
 mod retired;
 
+use crate::ending::exit_of;
 use crate::input::Input;
 use crate::opened::{open_disks, open_rules, open_topology};
 use crate::retired::Retired;
@@ -26,9 +28,6 @@ use std::process::ExitCode;
 
 /// The kinds of resource that there is an actuator for.
 const KINDS: [&str; 5] = ["cpu", "dimm", "disk", "fan", "psu"];
-
-/// The status where memory was wanted and not to be had.
-const NO_MEMORY: u8 = 9;
 
 /// The words of the command line, without the program's own name.
 fn words_of(rt: &HostRuntime) -> Result<Vec<ArgText>, AllocError> {
@@ -66,7 +65,7 @@ fn run(rt: &HostRuntime) -> Result<ToolStatus, AllocError> {
 
 fn main(rt: HostRuntime) -> ExitCode {
     match run(&rt) {
-        Ok(status) => ExitCode::from(status.code()),
-        Err(_) => ExitCode::from(NO_MEMORY),
+        Ok(status) => exit_of(status),
+        Err(_) => exit_of(ToolStatus::NoMemory),
     }
 }

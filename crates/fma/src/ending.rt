@@ -1,0 +1,14 @@
+// The exit status of the process.
+ghost use Rattle.std.specs.Prelude.{◌≡◌};
+ghost use Rattle.std.specs.Process.{exit_status};
+ghost use Rattle.fm_top.specs.Status.{code_of};
+
+use fm_top::ToolStatus;
+use std::process::ExitCode;
+
+/// The exit status of a call that ended so.
+pub fn exit_of(status: ToolStatus) -> ExitCode
+    ensures { exit_status result ≡ code_of status }
+{
+    ExitCode::from(status.code())
+}
