@@ -1,4 +1,5 @@
 pub mod Finding
+pub mod Building
 pub mod Drawings
 pub mod Gathering
 pub mod Tripping

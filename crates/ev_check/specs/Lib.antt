@@ -8,3 +8,4 @@ pub mod Firsts
 pub mod Drawn
 pub mod Faults
 pub mod Book
+pub mod Sound

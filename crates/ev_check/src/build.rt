@@ -5,6 +5,7 @@ ghost use Rattle.ev_check.specs.Book.{IsBookOf, event_spec, fit_of, kind_of, lin
 ghost use Rattle.ev_tree.specs.Pattern.{view_pattern};
 ghost use Rattle.ev_check.specs.Declarations.{engines_in, events_in};
 ghost use Rattle.ev_check.specs.Drawn.{number_at};
+ghost use Rattle.ev_check.specs.Faults.{IsChecked};
 ghost use Rattle.ev_check.specs.Firsts.{engine_value, first_by, n_value, t_value};
 
 use crate::checked::{Checked, DeclKind, EventSpec, PropSpec, SerdSpec};
@@ -266,6 +267,7 @@ pub(crate) fn build(
 ) -> Result<Checked, NoMemory>
     requires events { events.now ≡ events_in statements.now }
     requires engines { engines.now ≡ engines_in statements.now }
+    requires checked { IsChecked statements.now }
     ensures { IfOk result (IsBookOf statements.now) }
 {
     let event_list = event_specs(alloc, engines, statements)?;

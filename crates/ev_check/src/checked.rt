@@ -1,5 +1,6 @@
 ghost use Rattle.std.specs.Prelude.{◌≡◌, IfOk, map};
 ghost use Rattle.ev_check.specs.Book.{IsCopyOf, view_prop};
+ghost use Rattle.ev_check.specs.Sound.{IsSound};
 
 use crate::no_memory::NoMemory;
 use ev_tree::{Count, Declared, Patterns};
@@ -42,7 +43,8 @@ pub struct PropSpec {
     pub k: Count,
 }
 
-/// A checked rule file, in order of statements: the place of an event or an engine in its list is its number.
+/// A checked rule file, in order of statements: the place of an event or an engine in its list is its number. Each one
+/// is that of statements at which no phase finds a fault, so its events are declared once and none reaches itself.
 #[derive(Drop)]
 pub struct Checked {
     events: Vec<EventSpec>,
@@ -60,6 +62,10 @@ impl Model for Checked {
     ghost coded = { Prim.hlevel (codes, cond.the_row.coded) };
 
     ghost view = { λ c. record { events = c.events.items; engines = c.engines.items; props = c.props.items } };
+
+    ghost use Rattle.ev_check.specs.Sound.{IsSound};
+
+    ghost invariant = { λ c. IsSound (record { events = c.events.items; engines = c.engines.items; props = c.props.items }) };
 }
 
 impl EventSpec {
@@ -143,6 +149,7 @@ impl Checked {
         engines: Vec<SerdSpec>,
         props: Vec<PropSpec>,
     ) -> Checked
+        requires { IsSound (record { events = events.items; engines = engines.items; props = props.items }) }
         ensures { result ≡ record { events = events.items; engines = engines.items; props = props.items } }
     {
         Checked {
@@ -154,21 +161,24 @@ impl Checked {
 
     /// The events, in order of statements.
     pub fn events(&self) -> &[EventSpec]
-        ensures { result.now ≡ self.now.events }
+        ensures items { result.now ≡ self.now.events }
+        ensures sound { IsSound self.now }
     {
         self.events.as_slice()
     }
 
     /// The engines, in order of statements.
     pub fn engines(&self) -> &[SerdSpec]
-        ensures { result.now ≡ self.now.engines }
+        ensures items { result.now ≡ self.now.engines }
+        ensures sound { IsSound self.now }
     {
         self.engines.as_slice()
     }
 
     /// The propagations, in order of statements.
     pub fn props(&self) -> &[PropSpec]
-        ensures { result.now ≡ self.now.props }
+        ensures items { result.now ≡ self.now.props }
+        ensures sound { IsSound self.now }
     {
         self.props.as_slice()
     }

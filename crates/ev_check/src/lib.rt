@@ -14,7 +14,8 @@
 //! reaches comes from its distances, and the cycle that is named from its first cycle. `check` carries the
 //! promise: it answers a file exactly where no phase finds a fault, and then no declared event reaches itself
 //! and the defaults are filled in (`IsBookOf`); else it answers exactly the first fault. Only want of memory
-//! may stand in for either.
+//! may stand in for either. The invariant of `Checked` is that there are such statements (`IsSound`), and each
+//! look at its lists says so, so that who holds one needs no tree to know that it is acyclic.
 #![tactic(auto)]
 
 mod arrows;
