@@ -1,4 +1,5 @@
 pub mod Back
+pub mod Cases
 pub mod Compact
 pub mod Cuts
 pub mod Cutting

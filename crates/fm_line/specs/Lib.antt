@@ -1,4 +1,5 @@
 pub mod Blank
+pub mod Cases
 pub mod Faults
 pub mod Forms
 pub mod Lines

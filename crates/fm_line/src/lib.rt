@@ -13,7 +13,8 @@
 //! `line_entry` is what a line says, by cases over its bytes: an entry, or the first of its faults. Of
 //! JSON it speaks by the value that the bytes read as. `read_line` answers just this, but for want of
 //! memory, and what it answers has a spelling as bytes. `code_of` numbers the faults. Lines of blanks are
-//! skipped: `is_blank_line` tells them.
+//! skipped: `is_blank_line` tells them. `Says` has one case for each fault and one for an entry, each with
+//! its own condition over the form of the line, and `faults_by_cases` is the law that `line_entry` is it.
 //!
 //! `line_text` is the line of an entry. `print_line` appends it, and the line that it prints for an entry
 //! that some line gives reads as that entry, if it is within the limit of a line.
@@ -26,6 +27,7 @@ mod blank;
 mod data;
 mod fault;
 mod json_form;
+mod laws;
 mod no_memory;
 mod number;
 mod parts;
@@ -37,6 +39,7 @@ mod split;
 
 pub use blank::is_blank_line;
 pub use fault::LineFault;
+pub use laws::faults_by_cases;
 pub use no_memory::NoMemory;
 pub use print::{print_line, print_payload};
 pub use read::read_line;

@@ -1,7 +1,8 @@
 //! Lines from outside the proofs: what each is answered, and how streams fall into lines.
 
 use crate::{
-    LineFault, NoMemory, Splitter, Whole, is_blank_line, print_line, print_payload, read_line,
+    LineFault, NoMemory, Splitter, Whole, faults_by_cases, is_blank_line, print_line,
+    print_payload, read_line,
 };
 use fm_entry::Entry;
 use std::alloc::Global;
@@ -262,5 +263,6 @@ fn a_line_has_at_most_65536_bytes(rt: HostRuntime) -> Result<(), Fail> {
     assert_eq!(rt; splitter.take(b"\nb"), (1, Some(Whole::TooLong)));
     assert_eq!(rt; splitter.line(), b"".as_slice());
     assert_eq!(rt; splitter.finish(), None);
+    faults_by_cases();
     Ok(())
 }

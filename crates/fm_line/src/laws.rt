@@ -1,0 +1,14 @@
+//! Laws about the definitions.
+
+ghost use Rattle.std.specs.Prelude.{◌≡◌, ℕ, List, Result};
+ghost use Rattle.fm_entry.specs.declared.entry.Entry.{Entry};
+ghost use Rattle.fm_line.specs.declared.fault.LineFault.{LineFault};
+ghost use Rattle.fm_line.specs.Forms.{line_entry};
+ghost use Rattle.fm_line.specs.Cases.{Says};
+
+/// The entry of a line or its first fault is that of the cases, each with its own condition, and of no
+/// other: exactly one case holds of a line.
+pub fn faults_by_cases()
+    ensures says { (line : List ℕ) → Says line (line_entry line) }
+    ensures only { (line : List ℕ) (answer : Result Entry LineFault) → Says line answer → line_entry line ≡ answer }
+{}
