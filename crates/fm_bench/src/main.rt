@@ -1,9 +1,12 @@
 //! The program `fm_bench`: one operation of a library on an input of a given size, for the scripts in bench/.
 //!
-//! Its words are `nv COUNT`: a spelled name-value list of so many pairs is made, read and written again. It ends
-//! with status 0 where what was written is what was read, with 1 where not, and with 2 where the words are others.
+//! Its words are `nv COUNT`: a spelled name-value list of so many pairs is made, read and written again; or
+//! `core COUNT`: a core of two counters takes so many reports, all in memory, and both are worked to the end. It ends
+//! with status 0 where what was written is what was read, or each report was taken, with 1 where not, and with 2 where
+//! the words are others.
 #![tactic(auto)]
 
+mod cores;
 mod lists;
 
 use std::alloc::AllocError;
@@ -19,11 +22,10 @@ fn run(rt: &HostRuntime) -> Result<Option<bool>, AllocError> {
     let (Some(operation), Some(size)) = (words.next(), words.next()) else {
         return Ok(None);
     };
-    let Ok(count) = size.as_str().parse::<u16>() else {
-        return Ok(None);
-    };
-    match operation.as_str() {
-        "nv" => Ok(Some(lists::read_and_write(rt.alloc(), count)?)),
+    let size = size.as_str();
+    match (operation.as_str(), size.parse::<u16>(), size.parse::<u32>()) {
+        ("nv", Ok(count), _) => Ok(Some(lists::read_and_write(rt.alloc(), count)?)),
+        ("core", _, Ok(count)) => Ok(Some(cores::accept_and_drain(rt.alloc(), count)?)),
         _ => Ok(None),
     }
 }

@@ -6,13 +6,12 @@ use Rattle.std.proofs.lemmas.List.{length-map}
 use Rattle.std.proofs.lemmas.Option.{slice_get_within, slice_get-get_or, same_Some}
 use Rattle.fm_entry.specs.declared.entry.Entry.{Entry}
 use Rattle.fm_core.specs.Hands.{Shown}
-use Rattle.fm_core.specs.Book.{Part, Book, end_of, worked, worked_at, worked_on, is_done}
+use Rattle.fm_core.specs.Book.{Part, Book, end_of, worked, worked_at, worked_on, is_done, with_entries}
 use Rattle.fm_core.specs.Drained.{drained}
 use Rattle.fm_core.specs.Seen.{Seen, book_of, IsCore, OnlyWorked, HasComeTo, FirstPassed, HavePassed, ComeOn}
 use Rattle.fm_core.proofs.Lists.{get_set_same, get_set_other, map_got}
 use Rattle.fm_core.proofs.Tests.{eq_true}
 use Rattle.fm_core.proofs.Drains.{drained_worked}
-use Rattle.fm_core.proofs.Runs.{with_none}
 use Rattle.fm_core.proofs.Keeping.{part_for, worked_is, hand_low, hand_high, core_idle}
 
 -- what work leaves of a book
@@ -39,7 +38,7 @@ worked_still k i = still_at k i (slice_get k.parts i) (slice_get k.cursors i)
 
 -- a core is by work alone what it is
 pub only_same : (c : Seen) → IsCore c → OnlyWorked c c
-only_same c h = record { lawful = h; base_same = refl; entries_same = refl; parts_same = refl; modules_same = refl; drains_same = refl }
+only_same c h = record { lawful = h; base_same = refl; entries_same = refl; parts_same = refl; modules_same = refl; drains_same = λ more. refl }
 
 pub only_equal : (a b c : Seen) → OnlyWorked a b → c ≡ b → OnlyWorked a c
 only_equal a b c h e = subst (OnlyWorked a) (sym e) h
@@ -53,7 +52,7 @@ only_both a b c f g =
       entries_same = g.entries_same ∙ f.entries_same;
       parts_same = g.parts_same ∙ f.parts_same;
       modules_same = g.modules_same ∙ f.modules_same;
-      drains_same = g.drains_same ∙ f.drains_same;
+      drains_same = λ more. g.drains_same more ∙ f.drains_same more;
     }
 
 -- one move of work
@@ -66,7 +65,7 @@ only_worked a b i h g many e =
       entries_same = ap (λ k. k.entries) e ∙ s.entries_same;
       parts_same = ap (λ k. k.parts) e ∙ s.parts_same;
       modules_same = many;
-      drains_same = ap drained e ∙ sym (with_none (worked (book_of a) i)) ∙ drained_worked (book_of a) i [] h.lawful ∙ with_none (book_of a);
+      drains_same = λ more. ap (λ k. drained (with_entries k more)) e ∙ drained_worked (book_of a) i more h.lawful;
     }
 
 -- the cursors of the other modules stay

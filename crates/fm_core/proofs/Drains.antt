@@ -100,7 +100,7 @@ records_at_end k i p h =
     (taken_all k (end_of k) (omega arith))
 
 -- and none of them is at the end or past it
-records_before_end : (k : Book) (i : ℕ) (p : Part) → IsPlaced k i p (end_of k) → of_module i (numbered_before (end_of k) k.records) ≡ of_module i k.records
+pub records_before_end : (k : Book) (i : ℕ) (p : Part) → IsPlaced k i p (end_of k) → of_module i (numbered_before (end_of k) k.records) ≡ of_module i k.records
 records_before_end k i p h =
     filter_swap (λ r. r.«module» == i) (λ r. nat_lt r.number (end_of k)) k.records
     ∙ before_all (end_of k) (of_module i k.records) (records_below k i p (end_of k) h)

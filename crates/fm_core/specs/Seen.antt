@@ -6,7 +6,7 @@ use Rattle.fm_entry.specs.Entries.{IsSpelled}
 use Rattle.fm_core.specs.Meaning.{Meaning, State, says_of}
 use Rattle.fm_core.specs.Hands.{HandOf, Shown, shown, stepped}
 use Rattle.fm_core.specs.Folds.{records_at}
-use Rattle.fm_core.specs.Book.{Part, Book, end_of, state_at, IsLawful}
+use Rattle.fm_core.specs.Book.{Part, Book, end_of, state_at, IsLawful, with_entries}
 use Rattle.fm_core.specs.Drained.{drained}
 
 -- a core: the number of its first entry, a hand of each module there, the entries accepted since, the
@@ -95,14 +95,14 @@ with_step c i h e =
     record c { hands = slice_set c.hands i (stepped h e); records = c.records ++ speech h e }
 
 -- One core became another by work alone: it is in order, has the same entries and modules, and drains to
--- the same.
+-- the same, also after more entries.
 pub record OnlyWorked (old new : Seen) : Type 0 where
   pub lawful : IsCore new
   pub base_same : new.base ≡ old.base
   pub entries_same : new.entries ≡ old.entries
   pub parts_same : (book_of new).parts ≡ (book_of old).parts
   pub modules_same : length new.hands ≡ length old.hands
-  pub drains_same : drained (book_of new) ≡ drained (book_of old)
+  pub drains_same : (more : List Entry) → drained (with_entries (book_of new) more) ≡ drained (with_entries (book_of old) more)
 
 -- the cursor of module i is c
 abbrev pub HasComeTo : Seen → ℕ → ℕ → Type 0

@@ -4,7 +4,7 @@ ghost use Rattle.fm_entry.specs.Words.{IsWordOf};
 ghost use Rattle.fm_core.specs.Counts.{is_ereport, are_counts, report_words, report_counts};
 
 use crate::class_count::ClassCount;
-use crate::counting::{count_at, count_in, find_class, third_word};
+use crate::counting::{copied, count_at, count_in, find_class, third_word};
 use crate::module::{LoadFault, Module};
 use crate::no_memory::NoMemory;
 use crate::saving::{MOST, cases, counted_total, put_counts, read_counts};
@@ -47,6 +47,19 @@ impl Counter {
             total: 0,
             cases: 0,
         }
+    }
+
+    /// An equal counter.
+    pub fn copy(&self, alloc: Global) -> Result<Counter, NoMemory>
+        ensures { IfOk result (λ counter. counter ≡ self.now) }
+    {
+        let counts = copied(alloc, &self.counts)?;
+        Ok(Counter {
+            number: self.number,
+            counts,
+            total: self.total,
+            cases: self.cases,
+        })
     }
 
     /// The counts, in byte order of classes.

@@ -75,6 +75,19 @@ pub(crate) fn count_in(
     }
 }
 
+// equal counts
+pub(crate) fn copied(alloc: Global, counts: &[ClassCount]) -> Result<Vec<ClassCount>, NoMemory>
+    ensures { IfOk result (λ copied. copied.items ≡ counts.now) }
+{
+    let mut copied = Vec::with_capacity(alloc, counts.len())?;
+    for x in counts {
+        let class = x.class.copy()?;
+        let count = x.count;
+        copied.push(ClassCount { class, count })?;
+    }
+    Ok(copied)
+}
+
 // the upset that is said where the count is a multiple of three
 pub(crate) fn third_word(
     alloc: Global,

@@ -159,6 +159,14 @@ fn each_entry_of_a_class_is_counted(rt: HostRuntime) -> Result<(), Fail> {
     fresh_puts(&rt, alloc, "replay", input.as_str(), ToolStatus::Done, text)
 }
 
+#[test]
+fn a_long_replay_counts_each_entry(rt: HostRuntime) -> Result<(), Fail> {
+    let alloc = rt.alloc();
+    let input = REPORT.repeat(alloc, 2600)?;
+    let text = "entries 2600 spoken 1732\ncount 2600 ereport.cpu.ue\n";
+    fresh_puts(&rt, alloc, "replay", input.as_str(), ToolStatus::Done, text)
+}
+
 /// A line of so many letters.
 fn letters(alloc: Global, count: usize) -> Result<Vec<u8>, Fail> {
     Ok(vec![in alloc; b'a'; count]?)

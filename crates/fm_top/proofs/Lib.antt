@@ -12,3 +12,4 @@ pub mod Replays
 pub mod Sinks
 pub mod Stopping
 pub mod Summaries
+pub mod Tallies

@@ -3,22 +3,21 @@ use Rattle.std.proofs.Common.{◌≡◌, ℕ, ◌+◌, ◌<◌, ◌==◌, cond, 
 use Rattle.std.specs.List.{slice_get, AllByRecursion}
 use Rattle.std.proofs.lemmas.Bool.{cases_lt}
 use Rattle.std.proofs.lemmas.List.{length-map}
-use Rattle.std.proofs.lemmas.Option.{slice_get_cases}
-use Rattle.fm_entry.specs.declared.entry.Entry.{Entry}
 use Rattle.fm_entry.specs.declared.spoken.Spoken.{Spoken}
-use Rattle.fm_core.specs.Book.{Book, Part, IsLawful, end_of, state_at, with_entries, is_done}
+use Rattle.fm_core.specs.Book.{Book, Part, IsLawful, end_of, state_at, is_done}
 use Rattle.fm_core.specs.Counter.{CounterOf}
 use Rattle.fm_core.specs.Drained.{Ended, drained, ended}
 use Rattle.fm_core.specs.Hands.{HandOf, shown}
 use Rattle.fm_core.specs.Meaning.{Counting}
 use Rattle.fm_core.specs.Records.{of_module}
-use Rattle.fm_core.specs.Seen.{CoreOf, Follows, OnlyWorked, seen}
+use Rattle.fm_core.specs.Seen.{CoreOf, Follows}
 use Rattle.fm_core.proofs.Drains.{cursor_of}
 use Rattle.fm_core.proofs.Lists.{map_get, list_all_get}
 use Rattle.fm_core.proofs.Runs.{ends_drained}
 use Rattle.fm_core.proofs.Tests.{eq_true, eq_false, true_eq}
 use Rattle.fm_top.specs.Draining.{meaning_of, state_of, core_book, IsInOrder}
-use Rattle.fm_top.specs.Replaying.{fresh_part, fresh_book, replayed, spoken_by, counts_in, first_counts, summary_text, summary_of, replay_text}
+use Rattle.fm_top.specs.Replaying.{spoken_by, counts_in, first_counts}
+use Rattle.fm_top.specs.Tallied.{sum_of}
 
 -- records of two modules are those of the one and those of the other
 pub two_modules : (rs : List Spoken) → AllByRecursion (λ r. r.«module» < 2) rs → length (of_module 0 rs) + length (of_module 1 rs) ≡ length rs
@@ -49,60 +48,62 @@ ended_at k i p lawful there here =
     let stands : slice_get (map (ended k) k.parts) i ≡ Some (record { state = state_at k p (end_of k); words = of_module i k.records }) = ends_drained k i p lawful there here in
     cc
 
--- the text of a core whose two modules stand at the end is that of what its book drains to
-pub summary_is : (c : CoreOf CounterOf) (h : HandOf CounterOf) → IsInOrder c → (core_book c).parts ≡ fresh_part 0 ∷ fresh_part 1 ∷ []
-    → slice_get (core_book c).cursors 0 ≡ Some (end_of (core_book c)) → slice_get (core_book c).cursors 1 ≡ Some (end_of (core_book c))
-    → slice_get c.hands 0 ≡ Some h
-    → summary_text (c.base + length c.entries) (length c.records) h.object.counts ≡ summary_of (drained (core_book c))
-summary_is c h ready parts first second hand =
-    let k : Book = core_book c in
-    let there0 : slice_get k.parts 0 ≡ Some (fresh_part 0) = ap (λ ps. slice_get ps 0) parts in
-    let there1 : slice_get k.parts 1 ≡ Some (fresh_part 1) = ap (λ ps. slice_get ps 1) parts in
-    let end0 : ended k (fresh_part 0) ≡ record { state = state_at k (fresh_part 0) (end_of k); words = of_module 0 k.records } = ended_at k 0 (fresh_part 0) ready.lawful there0 first in
-    let end1 : ended k (fresh_part 1) ≡ record { state = state_at k (fresh_part 1) (end_of k); words = of_module 1 k.records } = ended_at k 1 (fresh_part 1) ready.lawful there1 second in
-    let named : AllByRecursion (λ r. r.«module» < 2) k.records = subst (λ n. AllByRecursion (λ r. r.«module» < n) k.records) (ap length parts) ready.lawful.named in
-    let modules : map (ended k) k.parts ≡ ended k (fresh_part 0) ∷ ended k (fresh_part 1) ∷ [] = ap (map (ended k)) parts in
-    let spoken : spoken_by (map (ended k) k.parts) ≡ length c.records =
-    ap spoken_by modules
-    ∙ ap (λ (m : Ended). length m.words + (length (ended k (fresh_part 1)).words + 0)) end0
-    ∙ ap (λ (m : Ended). length (of_module 0 k.records) + (length m.words + 0)) end1
-    ∙ (let sum : length (of_module 0 k.records) + (length (of_module 1 k.records) + 0) ≡ length k.records = omega (arith, two_modules k.records named) in sum) in
-    let follows : Follows k 0 (fresh_part 0) (shown meaning_of state_of h) =
-    ready.follows 0 (shown meaning_of state_of h) (map_get (shown meaning_of state_of) c.hands 0 h hand) (fresh_part 0) there0 in
-    let cursor : slice_get k.cursors 0 ≡ Some h.cursor =
-    map_get _ _ 0 _ (map_get (shown meaning_of state_of) c.hands 0 h hand) in
-    let at : h.cursor ≡ end_of k = some_equal h.cursor (end_of k) (sym cursor ∙ first) in
-    let state : Counting h.object.counts ≡ state_at k (fresh_part 0) (end_of k) = follows.folds ∙ ap (state_at k (fresh_part 0)) at in
-    let counts : first_counts (map (ended k) k.parts) ≡ h.object.counts =
-    ap first_counts modules ∙ ap (λ (m : Ended). counts_in m.state) end0 ∙ ap counts_in (sym state) in
-    ap (λ n. summary_text (end_of k) n h.object.counts) (sym spoken)
-    ∙ ap (λ xs. summary_text (end_of k) (spoken_by (map (ended k) k.parts)) xs) (sym counts)
-  where
-    some_equal : (a b : ℕ) → Some a ≡ Some b → a ≡ b
-    some_equal a b e = cc
-
 -- where all is done, a module stands at the end
-done_at : (k : Book) (i : ℕ) (p : Part) → IsLawful k → is_done k ≡ true → slice_get k.parts i ≡ Some p → slice_get k.cursors i ≡ Some (end_of k)
+pub done_at : (k : Book) (i : ℕ) (p : Part) → IsLawful k → is_done k ≡ true → slice_get k.parts i ≡ Some p → slice_get k.cursors i ≡ Some (end_of k)
 done_at k i p lawful done there =
     let (c, here) = cursor_of k i p lawful there in
     here ∙ ap Some (true_eq c (end_of k) (list_all_get (λ c. c == end_of k) k.cursors i c done here))
 
--- the text of a core that was drained, from before it was
-pub drained_is : (old new : CoreOf CounterOf) (entries : List Entry) (text : List ℕ)
-    → OnlyWorked (seen meaning_of state_of old) (seen meaning_of state_of new) → is_done (core_book new) ≡ true
-    → length old.hands ≡ 2 → core_book old ≡ with_entries fresh_book entries
-    → ((h : HandOf CounterOf) → slice_get new.hands 0 ≡ Some h → text ≡ summary_text (new.base + length new.entries) (length new.records) h.object.counts)
-    → text ≡ replay_text entries
-unfolding replayed
-drained_is old new entries text worked done two began is =
-    let hands : length new.hands ≡ 2 = sym (length-map new.hands (shown meaning_of state_of)) ∙ worked.modules_same ∙ length-map old.hands (shown meaning_of state_of) ∙ two in
-    elim ((slice_get_cases new.hands 0).1) [
-      | inl (h, within, found, same) ↦
-          let parts : (core_book new).parts ≡ fresh_part 0 ∷ fresh_part 1 ∷ [] = worked.parts_same ∙ ap (λ (b : Book). b.parts) began in
-          let first : slice_get (core_book new).cursors 0 ≡ Some (end_of (core_book new)) =
-          done_at (core_book new) 0 (fresh_part 0) worked.lawful.lawful done (ap (λ ps. slice_get ps 0) parts) in
-          let second : slice_get (core_book new).cursors 1 ≡ Some (end_of (core_book new)) =
-          done_at (core_book new) 1 (fresh_part 1) worked.lawful.lawful done (ap (λ ps. slice_get ps 1) parts) in
-          is h found ∙ summary_is new h worked.lawful parts first second found ∙ ap summary_of (worked.drains_same ∙ ap drained began)
-      | inr (past, none) ↦ absurd (let no_room : ⊥ = omega arith in no_room)
-    ]
+pub some_equal : (a b : ℕ) → Some a ≡ Some b → a ≡ b
+some_equal a b e = cc
+
+-- a list of two
+pub record Two {X : Type 0} (xs : List X) : Type 0 where
+  pub first : X
+  pub second : X
+  pub is : xs ≡ first ∷ second ∷ []
+
+pub two_of : {X : Type 0} (xs : List X) → length xs ≡ 2 → Two xs
+two_of [] e = absurd (let no : ⊥ = omega (arith, e) in no)
+two_of (x ∷ []) e = absurd (let no : ⊥ = omega (arith, e) in no)
+two_of (x ∷ y ∷ []) e = record { first = x; second = y; is = refl }
+two_of (x ∷ y ∷ z ∷ zs) e = absurd (let no : ⊥ = omega (arith, e) in no)
+
+-- a core in order has as many modules as hands
+pub many_parts : (c : CoreOf CounterOf) → IsInOrder c → length c.hands ≡ 2 → length (core_book c).parts ≡ 2
+many_parts c ready two =
+    sym ready.lawful.as_many ∙ length-map (map (shown meaning_of state_of) c.hands) (λ h. h.cursor)
+    ∙ length-map c.hands (shown meaning_of state_of) ∙ two
+
+-- the cursor of a hand that stands at the end
+pub stands_at : (c : CoreOf CounterOf) (i : ℕ) (h : HandOf CounterOf) (p : Part) → IsInOrder c → is_done (core_book c) ≡ true → slice_get c.hands i ≡ Some h
+    → slice_get (core_book c).parts i ≡ Some p → h.cursor ≡ end_of (core_book c)
+stands_at c i h p ready done hand there =
+    let cursor : slice_get (core_book c).cursors i ≡ Some h.cursor = map_get _ _ i _ (map_get (shown meaning_of state_of) c.hands i h hand) in
+    some_equal h.cursor (end_of (core_book c)) (sym cursor ∙ done_at (core_book c) i p ready.lawful done there)
+
+-- what a core comes to whose two modules stand at the end
+pub done_sum : (c : CoreOf CounterOf) (h : HandOf CounterOf) (before : ℕ) → IsInOrder c → length c.hands ≡ 2 → is_done (core_book c) ≡ true → slice_get c.hands 0 ≡ Some h
+    → sum_of before (drained (core_book c)) ≡ record { entries = c.base + length c.entries; spoken = before + length c.records; counts = h.object.counts }
+done_sum c h before ready two done hand =
+    let k : Book = core_book c in
+    let parts : Two k.parts = two_of k.parts (many_parts c ready two) in
+    let p : Part = parts.first in
+    let q : Part = parts.second in
+    let there0 : slice_get k.parts 0 ≡ Some p = ap (λ ps. slice_get ps 0) parts.is in
+    let there1 : slice_get k.parts 1 ≡ Some q = ap (λ ps. slice_get ps 1) parts.is in
+    let end0 : ended k p ≡ record { state = state_at k p (end_of k); words = of_module 0 k.records } = ended_at k 0 p ready.lawful there0 (done_at k 0 p ready.lawful done there0) in
+    let end1 : ended k q ≡ record { state = state_at k q (end_of k); words = of_module 1 k.records } = ended_at k 1 q ready.lawful there1 (done_at k 1 q ready.lawful done there1) in
+    let named : AllByRecursion (λ r. r.«module» < 2) k.records = subst (λ n. AllByRecursion (λ r. r.«module» < n) k.records) (ap length parts.is) ready.lawful.named in
+    let modules : map (ended k) k.parts ≡ ended k p ∷ ended k q ∷ [] = ap (map (ended k)) parts.is in
+    let spoken : spoken_by (map (ended k) k.parts) ≡ length c.records =
+    ap spoken_by modules
+    ∙ ap (λ (m : Ended). length m.words + (length (ended k q).words + 0)) end0
+    ∙ ap (λ (m : Ended). length (of_module 0 k.records) + (length m.words + 0)) end1
+    ∙ (let sum : length (of_module 0 k.records) + (length (of_module 1 k.records) + 0) ≡ length k.records = omega (arith, two_modules k.records named) in sum) in
+    let follows : Follows k 0 p (shown meaning_of state_of h) =
+    ready.follows 0 (shown meaning_of state_of h) (map_get (shown meaning_of state_of) c.hands 0 h hand) p there0 in
+    let state : Counting h.object.counts ≡ state_at k p (end_of k) = follows.folds ∙ ap (state_at k p) (stands_at c 0 h p ready done hand there0) in
+    let counts : first_counts (map (ended k) k.parts) ≡ h.object.counts =
+    ap first_counts modules ∙ ap (λ (m : Ended). counts_in m.state) end0 ∙ ap counts_in (sym state) in
+    λ i. record { entries = end_of k; spoken = before + spoken i; counts = counts i }

@@ -1,5 +1,5 @@
 -- A core of two counters, and how it is drained.
-use Rattle.std.specs.Prelude.{ℕ, []}
+use Rattle.std.specs.Prelude.{◌≡◌, ℕ, ◌+◌, [], map, length}
 use Rattle.fm_core.specs.Book.{Book}
 use Rattle.fm_core.specs.Counter.{CounterOf, counter_meaning}
 use Rattle.fm_core.specs.Hands.{HandOf}
@@ -21,6 +21,18 @@ core_book c = book_of (seen meaning_of state_of c)
 abbrev pub IsInOrder : CoreOf CounterOf → Type 0
 IsInOrder c = IsCore (seen meaning_of state_of c)
 
--- a hand of a counter that has counted nothing
-abbrev pub fresh_hand : ℕ → HandOf CounterOf
-fresh_hand own = record { number = own; cursor = 0; object = record { number = own; counts = [] } }
+-- a hand of a counter, at a place
+abbrev pub hand_at : ℕ → CounterOf → HandOf CounterOf
+hand_at place counter = record { number = counter.number; cursor = place; object = counter }
+
+-- a hand of a counter that is put at a place
+abbrev pub moved_to : ℕ → HandOf CounterOf → HandOf CounterOf
+moved_to place hand = hand_at place hand.object
+
+-- A core begins where another ends: with the two counters as they are there, before any entry.
+pub record IsNext (core next : CoreOf CounterOf) : Type 0 where
+  pub base_is : next.base ≡ core.base + length core.entries
+  pub kept_is : next.kept ≡ map (moved_to (core.base + length core.entries)) core.hands
+  pub hands_is : next.hands ≡ map (moved_to (core.base + length core.entries)) core.hands
+  pub entries_none : next.entries ≡ []
+  pub records_none : next.records ≡ []

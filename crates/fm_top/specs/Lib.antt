@@ -1,7 +1,6 @@
 pub mod Accepting
 pub mod Answers
 pub mod Calls
-pub mod Cored
 pub mod Draining
 pub mod Ended
 pub mod Ending
@@ -17,4 +16,6 @@ pub mod Replaying
 pub mod Running
 pub mod Status
 pub mod Stops
+pub mod Tallied
+pub mod TallyLaws
 pub mod Words

@@ -2,8 +2,8 @@
 //!
 //! `tool` finds the command in the words and runs it. Both commands read the input by one loop, `pieces::run`: it reads
 //! pieces, cuts them into lines, and answers each line once, after its entry was taken. What takes the entries is a
-//! `takers::Taker`: for `accept` the journal of reports, which is opened or made first, for `replay` a core of two
-//! counters in memory. Why a command stops before all is done is a `Stop`; it gives the last line and the status.
+//! `takers::Taker`: for `accept` the journal of reports, which is opened or made first, for `replay` a `tally::Tally`: a
+//! core of two counters in memory, after which the next one goes on. Why a command stops before all is done is a `Stop`; it gives the last line and the status.
 //!
 //! The model of a run is the list of bytes that were read. The answers (`specs/Answers`) and the entries are functions
 //! of its lines, and the lines are those of the whole stream, however it came in pieces. `specs/Running` says how a
@@ -23,6 +23,7 @@ mod accept;
 mod acts;
 mod answering;
 mod call;
+mod counts;
 mod last;
 mod lent;
 mod opening;
@@ -34,6 +35,7 @@ mod six_disks;
 mod status;
 mod stops;
 mod takers;
+mod tally;
 mod words;
 
 pub use acts::{ActFault, Actuator};

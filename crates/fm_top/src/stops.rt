@@ -62,6 +62,16 @@ impl<T: Drop> From<AllocFailed<T>> for Stop {
     }
 }
 
+impl From<fm_core::NoMemory> for Stop {
+    ghost use Rattle.fm_top.specs.declared.stops.Stop.TheVariants as stop;
+
+    ghost from_gives = { λ _ s. s ≡ stop.Memory };
+
+    fn from(_want: fm_core::NoMemory) -> Stop {
+        Stop::Memory
+    }
+}
+
 impl From<fm_entry::NoMemory> for Stop {
     ghost use Rattle.fm_top.specs.declared.stops.Stop.TheVariants as stop;
 

@@ -1,6 +1,6 @@
 use Rattle.std.proofs.Common.{◌++◌, sym, ◌∙◌, ap, append-nil, string_bytes}
 use Rattle.fm_top.proofs.CountLines.{lines_none, text_more}
-use Rattle.fm_top.proofs.replaying.push_counts.Goals as goal
+use Rattle.fm_top.proofs.counts.push_counts.Goals as goal
 
 pub loop-counted-init : goal.loop-counted-init
 loop-counted-init c = sym (ap (λ l. string_bytes c.args.text.now ++ l) lines_none ∙ append-nil (string_bytes c.args.text.now))
