@@ -1,3 +1,4 @@
+pub mod Firsts
 pub mod Cutting
 pub mod Digits
 pub mod Scanning

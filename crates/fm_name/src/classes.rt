@@ -7,10 +7,11 @@ ghost use Rattle.std.specs.Hash as fed;
 ghost use Rattle.std.proofs.Common.{rules};
 ghost use Rattle.fm_name.specs.Class.{is_class};
 ghost use Rattle.fm_name.specs.Category.{category_of, category_named};
-ghost use Rattle.std.specs.List.{before_first};
+ghost use Rattle.std.specs.List.{before_first, position};
 
 use crate::grammar::spells_class;
 use crate::no_memory::NoMemory;
+use crate::text::Text;
 use std::alloc::Global;
 use std::cmp::Ordering;
 use std::fmt;
@@ -32,18 +33,18 @@ pub enum Category {
 /// A class: two or more components joined by dots. Contracts see its text, as bytes.
 #[derive(Debug, Drop)]
 pub struct Class {
-    text: String,
+    text: Text,
 }
 
 impl Model for Class {
-    ghost use Rattle.std.specs.Prelude.{ℕ, List, IsTrue, string_bytes};
+    ghost use Rattle.std.specs.Prelude.{ℕ, List, IsTrue};
     ghost use Rattle.fm_name.specs.Class.{is_class};
 
     ghost Value = { List ℕ };
 
-    ghost view = { λ c. string_bytes c.text };
+    ghost view = { λ c. c.text };
 
-    ghost invariant = { λ c. IsTrue (is_class (string_bytes c.text)) };
+    ghost invariant = { λ c. IsTrue (is_class c.text) };
 }
 
 /// Reads a class; None where the text is no class.
@@ -53,16 +54,23 @@ pub fn read_class(alloc: Global, text: &str) -> Result<Option<Class>, NoMemory>
     if !spells_class(text.as_bytes()) {
         return Ok(None);
     }
-    let text = String::from_str(alloc, text)?;
+    let text = Text::new(alloc, text)?;
     Ok(Some(Class { text }))
 }
 
-/// The text before the first dot.
-fn first_component(text: &str) -> &str
+/// The place of the first dot.
+fn first_dot(text: &[u8]) -> Option<usize>
+    ensures { result ≡ position (λ b. b == 46) text.now }
+{
+    text.iter().position(|b| *b == b'.')
+}
+
+/// The bytes before the first dot.
+fn first_component(text: &[u8]) -> &[u8]
     ensures { result.now ≡ before_first (λ b. b == 46) text.now }
 {
-    match text.split_once('.') {
-        Some((first, _)) => first,
+    match first_dot(text) {
+        Some(at) => &text[..at],
         None => text,
     }
 }
@@ -96,7 +104,7 @@ impl Class {
     pub fn category(&self) -> Option<Category>
         ensures { result ≡ category_of self.now }
     {
-        category_named(first_component(self.text.as_str()).as_bytes())
+        category_named(first_component(self.text.as_str().as_bytes()))
     }
 
     /// The text that was read, of at most 255 bytes.
@@ -115,7 +123,7 @@ impl Class {
     pub fn copy(&self) -> Result<Class, NoMemory>
         ensures { IfOk result (λ class. class ≡ self.now) }
     {
-        let text = self.text.clone()?;
+        let text = self.text.copy()?;
         Ok(Class { text })
     }
 }

@@ -14,6 +14,7 @@ use crate::no_memory::NoMemory;
 use crate::parts::{
     begins_with_parts, compare_tails, count_texts, joins_parts, part_text, read_part,
 };
+use crate::text::Text;
 use std::alloc::Global;
 use std::cmp::Ordering;
 use std::fmt;
@@ -23,18 +24,18 @@ use std::marker::Model;
 /// A path: `hc:///` and parts `name=instance` joined by slashes. Contracts see its text, as bytes.
 #[derive(Debug, Drop)]
 pub struct Fmri {
-    text: String,
+    text: Text,
 }
 
 impl Model for Fmri {
-    ghost use Rattle.std.specs.Prelude.{ℕ, List, IsTrue, string_bytes};
+    ghost use Rattle.std.specs.Prelude.{ℕ, List, IsTrue};
     ghost use Rattle.fm_name.specs.Path.{is_path};
 
     ghost Value = { List ℕ };
 
-    ghost view = { λ p. string_bytes p.text };
+    ghost view = { λ p. p.text };
 
-    ghost invariant = { λ p. IsTrue (is_path (string_bytes p.text)) };
+    ghost invariant = { λ p. IsTrue (is_path p.text) };
 }
 
 /// Whether the text is a path.
@@ -58,7 +59,7 @@ pub fn read_fmri(alloc: Global, text: &str) -> Result<Option<Fmri>, NoMemory>
     if !spells_path(text) {
         return Ok(None);
     }
-    let text = String::from_str(alloc, text)?;
+    let text = Text::new(alloc, text)?;
     Ok(Some(Fmri { text }))
 }
 
@@ -130,7 +131,7 @@ impl Fmri {
     pub fn copy(&self) -> Result<Fmri, NoMemory>
         ensures { IfOk result (λ path. path ≡ self.now) }
     {
-        let text = self.text.clone()?;
+        let text = self.text.copy()?;
         Ok(Fmri { text })
     }
 }

@@ -17,6 +17,12 @@ fn pattern(alloc: Global, text: &str) -> Result<Pattern, Fail> {
     Ok(found)
 }
 
+fn event(alloc: Global, name: &str, place: &str) -> Result<EventName, Fail> {
+    let class = class(alloc, name)?;
+    let path = path(alloc, place)?;
+    Ok(EventName { class, path })
+}
+
 #[test]
 fn reads_classes(rt: HostRuntime) -> Result<(), Fail> {
     for text in [
@@ -243,6 +249,36 @@ fn tells_what_is_under(rt: HostRuntime) -> Result<(), Fail> {
 }
 
 #[test]
+fn keeps_texts_of_each_length(rt: HostRuntime) -> Result<(), Fail> {
+    let ascending = [
+        ("ereport.cpu", "hc:///chassis=0"),
+        ("ereport.cpu.l2-cache.ce", "hc:///chassis=0/cpu=123"),
+        ("ereport.cpu.l2-cache.ce1", "hc:///chassis=0/cpu=1234"),
+        ("ereport.cpu.l2-cache.ce1x", "hc:///chassis=0/cpu=12345"),
+        (
+            "ereport.cpu.l2-cache.correctable",
+            "hc:///chassis=0/cpu=123456/core=17/strand=3",
+        ),
+    ];
+    for (at, (name, place)) in ascending.into_iter().enumerate() {
+        let read = event(rt.alloc(), name, place)?;
+        assert!(rt; read.class.text() == name);
+        assert!(rt; read.path.text() == place);
+        assert!(rt; read.class.category() == Some(Category::Ereport));
+        let copied = read.copy()?;
+        assert!(rt; copied.class.text() == name);
+        assert!(rt; copied.path.text() == place);
+        for (other_at, (other_name, other_place)) in ascending.into_iter().enumerate() {
+            let other = event(rt.alloc(), other_name, other_place)?;
+            assert!(rt; copied.class.cmp(&other.class) == at.cmp(&other_at));
+            assert!(rt; copied.path.cmp(&other.path) == at.cmp(&other_at));
+            assert!(rt; (copied == other) == (at == other_at));
+        }
+    }
+    Ok(())
+}
+
+#[test]
 fn orders_events(rt: HostRuntime) -> Result<(), Fail> {
     let events = [
         ("fault.a", "hc:///c=9"),
@@ -251,14 +287,8 @@ fn orders_events(rt: HostRuntime) -> Result<(), Fail> {
     ];
     for (at, (name, place)) in events.into_iter().enumerate() {
         for (other_at, (other_name, other_place)) in events.into_iter().enumerate() {
-            let ours = EventName {
-                class: class(rt.alloc(), name)?,
-                path: path(rt.alloc(), place)?,
-            };
-            let theirs = EventName {
-                class: class(rt.alloc(), other_name)?,
-                path: path(rt.alloc(), other_place)?,
-            };
+            let ours = event(rt.alloc(), name, place)?;
+            let theirs = event(rt.alloc(), other_name, other_place)?;
             assert!(rt; ours.cmp(&theirs) == at.cmp(&other_at));
             assert!(rt; (ours.copy()? == theirs) == (at == other_at));
         }
