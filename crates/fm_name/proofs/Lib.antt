@@ -2,4 +2,5 @@ pub mod Firsts
 pub mod Cutting
 pub mod Digits
 pub mod Scanning
+pub mod PartScans
 pub mod Same

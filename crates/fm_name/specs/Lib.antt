@@ -6,4 +6,5 @@ pub mod Order
 pub mod Events
 pub mod Cut
 pub mod OrderLaws
+pub mod Tail
 pub mod Text
