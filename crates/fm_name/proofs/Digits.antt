@@ -1,11 +1,10 @@
 -- What `parse` answers for texts of digits.
-use Rattle.std.proofs.Common.{◌≡◌, ◌<◌, ◌≤◌, ◌^◌, ℕ, Bool, true, false, ◌&&◌, List, [], ◌∷◌, length, refl, arith, rules, nat_lt, IsTrue, Result, Ok, Err, ap, sym, ◌∙◌}
+use Rattle.std.proofs.Common.{◌≡◌, ◌<◌, ◌≤◌, ◌^◌, ℕ, true, ◌&&◌, List, [], ◌∷◌, length, refl, arith, rules, IsTrue, Result, Ok, ap, sym, ◌∙◌}
 use Rattle.std.specs.List.{list_all}
 use Rattle.std.specs.Char.{is_ascii_digit}
 use Rattle.std.specs.Str.{all_ascii_digits}
 use Rattle.std.specs.Str.Parse.{digits_value, ParsesUnsigned}
-use Rattle.std.specs.Result.{is_ok, OkIff}
-use Rattle.std.proofs.lemmas.Str.Parse.{IsNumeralModel, numerals_by_value, tells_all_ascii_digits, parse_digits, parse_gives, digits_value_short}
+use Rattle.std.proofs.lemmas.Str.Parse.{IsNumeralModel, numerals_by_value, tells_all_ascii_digits, parse_gives, digits_value_short}
 use Rattle.std.proofs.lemmas.Grind.{common_steps}
 use Rattle.std.proofs.lemmas.List.{drop_all}
 use Rattle.std.specs.Prelude.{◌==◌}
@@ -19,16 +18,6 @@ own = numerals_by_value _ tells_all_ascii_digits
 pub all_digits : (bs : List ℕ) → list_all is_ascii_digit bs ≡ all_ascii_digits bs
 all_digits [] = refl
 all_digits (b ∷ bs) = ap (λ r. is_ascii_digit b && r) (all_digits bs)
-
-is_ok_from : {E : Type 0} (bs : List ℕ) (r : Result ℕ E) → OkIff r ((0 < length bs) × (digits_value 10 bs < 2 ^ 32)) (digits_value 10 bs)
-    → is_ok r ≡ (nat_lt 0 (length bs) && nat_lt (digits_value 10 bs) (2 ^ 32))
-is_ok_from bs (Ok v) h = grind (arith, common_steps)
-is_ok_from bs (Err e) h = grind (arith, common_steps)
-
--- a text of digits means a `u32` exactly where there is a digit and the number is in range
-pub parsed : {E : Type 0} (bs : List ℕ) (r : Result ℕ E) → ParsesUnsigned 32 10 bs r → list_all is_ascii_digit bs ≡ true
-    → is_ok r ≡ (nat_lt 0 (length bs) && nat_lt (digits_value 10 bs) (2 ^ 32))
-parsed bs r h d = is_ok_from bs r (parse_digits own 32 bs r h (sym (all_digits bs) ∙ d))
 
 pub parsed_value : {E : Type 0} (bs : List ℕ) (r : Result ℕ E) → ParsesUnsigned 32 10 bs r → list_all is_ascii_digit bs ≡ true
     → 0 < length bs → digits_value 10 bs < 2 ^ 32 → r ≡ Ok (digits_value 10 bs)
@@ -47,13 +36,6 @@ has_equals bs e h =
     let k : IsTrue (is_instance (after_first (λ b. b == 61) bs)) = search rules in
     let n = (instance_digits _ k).1 in
     absurd (omega (arith, ap length d))
-
-not_so : (b : Bool) → (IsTrue b → ⊥) → false ≡ b
-not_so true h = absurd (h refl)
-not_so false h = refl
-
-pub no_equals : (bs : List ℕ) → position_or_len (λ b. b == 61) bs ≡ length bs → false ≡ is_part bs
-no_equals bs e = not_so _ (has_equals bs e)
 
 -- a short text of digits means a small number
 pub short_value : (ds : List ℕ) (k : ℕ) → list_all is_ascii_digit ds ≡ true → length ds ≤ k → digits_value 10 ds < 10 ^ k

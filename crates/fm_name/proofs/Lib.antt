@@ -1,4 +1,5 @@
 pub mod Cutting
 pub mod Digits
 pub mod Scanning
+pub mod PartScans
 pub mod Same

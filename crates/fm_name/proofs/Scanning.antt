@@ -62,7 +62,7 @@ abbrev components_left : ℕ → Bool → List (List ℕ) → Bool
 components_left size begun [] = begun
 components_left size begun (c ∷ cs) = (nat_le (size + length c) 32 && pieces begun c) && list_all is_component cs
 
-component_is : (c : List ℕ) → is_component c ≡ (nat_le (0 + length c) 32 && pieces false c)
+pub component_is : (c : List ℕ) → is_component c ≡ (nat_le (0 + length c) 32 && pieces false c)
 unfolding is_component
 component_is c = ap (λ r. nat_le (length c) 32 && r) (sym (pieces_is false c)) ∙ ap (λ n. nat_le n 32 && pieces false c) (sym (zero-add (length c)))
 

@@ -6,3 +6,4 @@ pub mod Order
 pub mod Events
 pub mod Cut
 pub mod OrderLaws
+pub mod Tail

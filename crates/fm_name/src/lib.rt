@@ -8,6 +8,7 @@ mod no_memory;
 mod parts;
 mod paths;
 mod patterns;
+mod tails;
 
 pub use classes::{Category, Class, read_class};
 pub use events::EventName;

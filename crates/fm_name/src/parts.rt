@@ -1,8 +1,7 @@
-ghost use Rattle.std.specs.Prelude.{◌≡◌, ◌<◌, ◌^◌, ◌==◌, ◌&&◌, ◌||◌, ◌∷◌, IsTrue, IfSome, Some, nat_lt, ◌≤◌, slice_get, slice_index, length, map, option_map};
-ghost use Rattle.std.specs.Char.{is_ascii_digit};
+ghost use Rattle.std.specs.Prelude.{◌≡◌, ◌<◌, ◌==◌, ◌&&◌, ◌∷◌, IsTrue, IfSome, Some, ◌≤◌, slice_get, length, map, option_map};
 ghost use Rattle.std.specs.List.{slice_split, list_all};
 ghost use Rattle.std.specs.Str.Parse.{digits_value};
-ghost use Rattle.fm_name.specs.Path.{is_name, is_instance, is_part, are_parts, part_of};
+ghost use Rattle.fm_name.specs.Path.{is_name, is_instance, is_part, part_of};
 ghost use Rattle.fm_name.specs.Order.{part_cmp, part_eq, parts_cmp, begins_with_parts};
 ghost use Rattle.fm_name.specs.Cut.{texts_left};
 
@@ -52,70 +51,6 @@ pub fn is_name(text: &str) -> bool
 {
     let bytes = text.as_bytes();
     begins_with_letter(bytes) && spells_component(bytes)
-}
-
-/// Whether all bytes are digits.
-fn are_digits(bytes: &[u8]) -> bool
-    ensures { result ≡ list_all is_ascii_digit bytes.now }
-{
-    bytes.iter().all(|b| b.is_ascii_digit())
-}
-
-/// Whether a text of digits has no zero in front of another digit.
-fn is_plain(bytes: &[u8]) -> bool
-    ensures { result ≡ (length bytes.now == 1 || nat_lt 48 (slice_index bytes.now 0)) }
-{
-    match bytes {
-        [] => false,
-        [_] => true,
-        [first, ..] => *first > b'0',
-    }
-}
-
-/// Whether a text of digits, one or more, means a `u32`.
-fn fits(digits: &str) -> bool
-    requires { IsTrue (list_all is_ascii_digit digits.now) }
-    ensures { result ≡ (nat_lt 0 (length digits.now) && nat_lt (digits_value 10 digits.now) (2 ^ 32)) }
-{
-    digits.parse::<u32>().is_ok()
-}
-
-/// Whether the text is an instance.
-#[tactic(auto, unfolding(crate::specs::Path::is_instance))]
-fn spells_instance(text: &str) -> bool
-    ensures { result ≡ is_instance text.now }
-{
-    let bytes = text.as_bytes();
-    are_digits(bytes) && is_plain(bytes) && fits(text)
-}
-
-/// Whether the text is a part.
-#[tactic(auto, unfolding(crate::specs::Path::is_part))]
-fn spells_part(text: &str) -> bool
-    ensures { result ≡ is_part text.now }
-{
-    match text.split_once('=') {
-        Some((name, digits)) => is_name(name) && spells_instance(digits),
-        None => false,
-    }
-}
-
-/// Whether the text is one or more parts, joined by slashes, and not more than there is room for.
-#[tactic(auto, using(crate::proofs::Cutting::some_text), unfolding(crate::specs::Path::are_parts))]
-pub fn joins_parts(text: &str, room: usize) -> bool
-    ensures { result ≡ are_parts room (slice_split (λ b. b == 47) text.now) }
-{
-    if room == 0 {
-        return false;
-    }
-    let (first, rest) = cut(text);
-    if !spells_part(first) {
-        return false;
-    }
-    match rest {
-        Some(rest) => joins_parts(rest, room - 1),
-        None => true,
-    }
 }
 
 /// The number that the digits of an instance mean.

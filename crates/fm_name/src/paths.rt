@@ -11,9 +11,8 @@ ghost use Rattle.fm_name.specs.Path.{is_name, is_instance, is_part, is_path, par
 ghost use Rattle.fm_name.specs.Order.{path_cmp, parts_cmp, is_under};
 
 use crate::no_memory::NoMemory;
-use crate::parts::{
-    begins_with_parts, compare_tails, count_texts, joins_parts, part_text, read_part,
-};
+use crate::parts::{begins_with_parts, compare_tails, count_texts, part_text, read_part};
+use crate::tails::joins_parts;
 use std::alloc::Global;
 use std::cmp::Ordering;
 use std::fmt;
@@ -46,7 +45,7 @@ fn spells_path(text: &str) -> bool
         return false;
     }
     match text.strip_prefix("hc:///") {
-        Some(tail) => joins_parts(tail, 16),
+        Some(tail) => joins_parts(tail.as_bytes(), 16),
         None => false,
     }
 }
