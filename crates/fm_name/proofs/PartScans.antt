@@ -9,7 +9,7 @@ use Rattle.std.proofs.lemmas.Bool.Decides.{nat_tests}
 use Rattle.std.proofs.lemmas.Grind.{common_steps}
 use Rattle.fm_name.specs.Class.{is_piece_byte}
 use Rattle.fm_name.specs.Path.{is_name, is_instance, is_part, are_parts}
-use Rattle.fm_name.specs.Tail.{name_rest, instance_rest, part_rest, goes_on}
+use Rattle.fm_name.specs.Tail.{starts_piece, name_rest, instance_rest, part_rest, goes_on}
 use Rattle.fm_name.proofs.Cutting.{some_text}
 use Rattle.fm_name.proofs.Scanning.{pieces, component_is}
 
@@ -127,6 +127,15 @@ instance_left (b ∷ bs) room begun n =
     step_instance room begun n b bs (is_ascii_digit b) (b == 47) (begun && n == 0) (nat_lt (n * 10 + (b - 48)) (2 ^ 32)) refl refl refl refl (λ m. instance_left bs room true m)
 
 -- ---- what is left after a name
+
+-- a piece has begun as well behind its first byte, and none begins with another
+pub begun_first : (whole : ℕ) (bs : List ℕ) → starts_piece bs ≡ true → name_rest whole false bs ≡ name_rest whole true bs
+begun_first whole [] e = absurd (true≢false (sym e))
+begun_first whole (b ∷ bs) e = rw e refl
+
+pub none_first : (whole : ℕ) (bs : List ℕ) → starts_piece bs ≡ false → name_rest whole false bs ≡ None
+none_first whole [] e = refl
+none_first whole (b ∷ bs) e = rw e refl
 
 abbrev pub goes_to : ℕ → Option (List ℕ) → Bool
 goes_to room None = false

@@ -5,6 +5,11 @@ use Rattle.std.specs.Char.{is_ascii_digit, is_ascii_alphabetic}
 use Rattle.fm_name.specs.Class.{is_piece_byte}
 use Rattle.fm_name.specs.Path.{are_parts}
 
+-- the first byte may stand in a piece
+abbrev pub starts_piece : List ℕ → Bool
+starts_piece [] = false
+starts_piece (b ∷ bs) = is_piece_byte b
+
 -- What is left after the rest of a name and its `=`, where `whole` bytes were left after the first byte of the name,
 -- and a piece of it has begun or not.
 abbrev pub name_rest : ℕ → Bool → List ℕ → Option (List ℕ)

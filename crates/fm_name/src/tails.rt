@@ -3,30 +3,35 @@
 ghost use Rattle.std.specs.Prelude.{◌≡◌, ◌==◌, length, true, false, option_map};
 ghost use Rattle.std.specs.List.{slice_split};
 ghost use Rattle.fm_name.specs.Path.{are_parts};
-ghost use Rattle.fm_name.specs.Tail.{name_rest, instance_rest, part_rest};
+ghost use Rattle.fm_name.specs.Tail.{starts_piece, name_rest, instance_rest, part_rest};
 
 use crate::grammar::is_in_piece;
 
-/// What is left after a name and its `=`, where the bytes follow the first byte of the name.
+/// Whether the first byte may stand in a piece.
+fn begins_piece(bytes: &[u8]) -> bool
+    ensures { result ≡ starts_piece bytes.now }
+{
+    match bytes {
+        [] => false,
+        [first, ..] => is_in_piece(*first),
+    }
+}
+
+/// What is left after a name and its `=`, where the bytes follow the first byte of the name. Most bytes of a name are
+/// letters, so these are tried first.
+#[tactic(auto, using(crate::proofs::PartScans::begun_first, crate::proofs::PartScans::none_first))]
 fn after_name(bytes: &[u8]) -> Option<&[u8]>
     ensures { option_map (λ s. s.now) result ≡ name_rest (length bytes.now) true bytes.now }
 {
-    let mut begun = true;
     let mut rest = bytes;
     while let [byte, tail @ ..] = rest {
-        if is_in_piece(*byte) {
-            begun = true;
-        } else {
-            if !begun {
-                return None;
-            }
+        if !byte.is_ascii_alphabetic() {
             if *byte == b'=' {
                 return (bytes.len() - tail.len() <= 32).then_some(tail);
             }
-            if *byte != b'-' {
+            if !is_in_piece(*byte) && (*byte != b'-' || !begins_piece(tail)) {
                 return None;
             }
-            begun = false;
         }
         rest = tail;
     }

@@ -5,7 +5,7 @@ use Rattle.fm_name.proofs.tails.after_name.Given as goal
 abbrev pub invariant-loop-rest : goal.invariant-loop-rest
 invariant-loop-rest l = record {
   shorter : length l.rest ≤ length l.bytes;
-  same : name_rest (length l.bytes) l.begun l.rest ≡ name_rest (length l.bytes) true l.bytes;
+  same : name_rest (length l.bytes) true l.rest ≡ name_rest (length l.bytes) true l.bytes;
 }
 
 abbrev pub decreases-loop-rest : goal.decreases-loop-rest
