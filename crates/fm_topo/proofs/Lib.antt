@@ -10,5 +10,6 @@ pub mod Pairs
 pub mod Parents
 pub mod Places
 pub mod Round
+pub mod Faulty
 pub mod Kept
 pub mod Codes
