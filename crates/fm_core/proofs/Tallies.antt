@@ -6,7 +6,7 @@ use Rattle.std.specs.List.Sorted.{IsPartitionedBy}
 use Rattle.std.specs.declared.cmp.Ordering.{Ordering}
 use Rattle.std.specs.declared.cmp.Ordering.TheVariants.{Less, Equal, Greater}
 use Rattle.std.specs.Ordering.{is_lt, is_eq}
-use Rattle.std.specs.Cmp.Lexicographic.{texts_ties}
+use Rattle.std.specs.Cmp.Lexicographic.{texts_ties, bytes_decides}
 use Rattle.std.proofs.lemmas.Bool.Decides.{nat_tests}
 use Rattle.std.proofs.lemmas.Option.{slice_get_read, slice_get_within}
 use Rattle.std.specs.Prelude.{◌==◌}
@@ -178,12 +178,41 @@ within_by class xs i (Some x) e h = slice_get_within xs i x e
 pub standing_within : (class : List ℕ) (xs : List ClassCount) (i : ℕ) (r : Bool) → r ≡ is_standing class (slice_get xs i) → r ≡ true → i < length xs
 standing_within class xs i r told holds = within_by class xs i (slice_get xs i) refl (sym told ∙ holds)
 
+equal_from : (r : Ordering) → is_eq r ≡ true → r ≡ Equal
+equal_from Less e = absurd (let no : ⊥ = cc in no)
+equal_from Equal e = refl
+equal_from Greater e = absurd (let no : ⊥ = cc in no)
+
+-- a class that stands among those past a class is past it
+standing_past : (a class : List ℕ) (xs : List ClassCount) (i : ℕ) → IsTrue (is_past a xs) → is_standing class (slice_get xs i) ≡ true → cmp a class ≡ Less
+standing_past a class [] i h s = absurd (let no : ⊥ = cc in no)
+standing_past a class (x ∷ xs) zero h s =
+    subst (λ c. cmp a c ≡ Less) ((bytes_decides x.class class).0 s) (less_is (cmp a x.class) (both_true (is_lt (cmp a x.class)) (is_past x.class xs) h).0)
+standing_past a class (x ∷ xs) (suc i) h s =
+    let parts : IsTrue (is_lt (cmp a x.class)) × IsTrue (is_past x.class xs) = both_true (is_lt (cmp a x.class)) (is_past x.class xs) h in
+    standing_past a class xs i (is_past_before a x.class xs (less_is (cmp a x.class) parts.0) parts.1) s
+
+-- in counts that ascend, a class stands at its place and at no other
+standing_place : (class : List ℕ) (xs : List ClassCount) (i : ℕ) → IsTrue (is_ordered xs) → is_standing class (slice_get xs i) ≡ true → i ≡ place_of class xs
+standing_place class [] i h s = absurd (let no : ⊥ = cc in no)
+standing_place class (x ∷ xs) zero h s =
+    let same : order x class ≡ Equal = equal_from (order x class) (sym (of_class x class (order x class) refl) ∙ s) in
+    rw same refl
+standing_place class (x ∷ xs) (suc i) h s =
+    let up : order x class ≡ Less = standing_past x.class class xs i h s in
+    rw up (ap suc (standing_place class xs i (ordered_past x.class xs h) s))
+
 -- what was found where the class stands, and where it would stand
 pub found_there : (class : List ℕ) (xs : List ClassCount) (i : ℕ) (r : Bool) → i ≡ place_of class xs → r ≡ is_standing class (slice_get xs i) → r ≡ true → Ok i ≡ place_in class xs
 found_there class xs i r at told holds =
     let is : is_standing class (slice_get xs (place_of class xs)) ≡ true = ap (λ p. is_standing class (slice_get xs p)) (sym at) ∙ sym told ∙ holds in
     let found : Result ℕ ℕ = Ok i in
     subst (λ b. found ≡ cond b (Ok (place_of class xs)) (Err (place_of class xs))) (sym is) (ap Ok at)
+
+-- what was guessed
+pub guessed_there : (class : List ℕ) (xs : List ClassCount) (i : ℕ) (r : Bool) → IsTrue (is_ordered xs) → r ≡ is_standing class (slice_get xs i) → r ≡ true → Ok i ≡ place_in class xs
+guessed_there class xs i r h told holds =
+    found_there class xs i r (standing_place class xs i h (sym told ∙ holds)) told holds
 
 pub found_none : (class : List ℕ) (xs : List ClassCount) (i : ℕ) (r : Bool) → i ≡ place_of class xs → r ≡ is_standing class (slice_get xs i) → r ≡ false → Err i ≡ place_in class xs
 found_none class xs i r at told fails =

@@ -8,6 +8,7 @@ use crate::counting::{copied, count_at, count_in, find_class, third_word};
 use crate::module::{LoadFault, Module};
 use crate::no_memory::NoMemory;
 use crate::saving::{MOST, cases, counted_total, put_counts, read_counts};
+use crate::trail::Trail;
 use fm_entry::{CaseName, Entry, ListEvent};
 use fm_name::{Class, Fmri};
 use std::alloc::Global;
@@ -22,6 +23,7 @@ pub struct Counter {
     counts: Vec<ClassCount>,
     total: u64,
     cases: u64,
+    trail: Trail,
 }
 
 impl Model for Counter {
@@ -46,6 +48,7 @@ impl Counter {
             counts: Vec::new(alloc),
             total: 0,
             cases: 0,
+            trail: Trail::new(),
         }
     }
 
@@ -59,6 +62,7 @@ impl Counter {
             counts,
             total: self.total,
             cases: self.cases,
+            trail: self.trail,
         })
     }
 
@@ -101,7 +105,7 @@ impl Counter {
         if self.total >= MOST {
             return Ok(Vec::new(alloc));
         }
-        let place = find_class(&self.counts, class);
+        let place = find_class(&self.counts, self.trail.guess(), class);
         let before = count_at(&self.counts, place);
         let case = CaseName {
             module: self.number,
@@ -109,6 +113,7 @@ impl Counter {
         };
         let words = third_word(alloc, case, before + 1, class, path, moment)?;
         count_in(&mut self.counts, place, class)?;
+        self.trail.follow(place.unwrap_or_else(|at| at));
         self.total += 1;
         self.cases += (before + 1) / 3 - before / 3;
         Ok(words)

@@ -8,11 +8,18 @@ use fm_entry::{CaseName, EventNames, ListEvent, ListKind, Suspects};
 use fm_name::{Class, EventName, Fmri};
 use std::alloc::Global;
 
-// where the class stands, or else would stand
-pub(crate) fn find_class(counts: &[ClassCount], class: &Class) -> Result<usize, usize>
+// where the class stands, or else would stand; it is looked for at the guess first
+pub(crate) fn find_class(
+    counts: &[ClassCount],
+    guess: usize,
+    class: &Class,
+) -> Result<usize, usize>
     requires { IsTrue (is_ordered counts.now) }
     ensures { result ≡ place_in class.now counts.now }
 {
+    if stands(counts, guess, class) {
+        return Ok(guess);
+    }
     let at = find_place(counts, class);
     if stands(counts, at, class) {
         Ok(at)

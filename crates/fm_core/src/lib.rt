@@ -22,7 +22,8 @@
 //! hold (`words_are_spelled`).
 //!
 //! `Counter` is a small module, which counts reports by class and says an upset at every third report of
-//! one class. What its `save` writes, `load` takes back, and `load` refuses all other bytes.
+//! one class. It looks for a class first where a `Trail` of earlier places guesses it. What its `save`
+//! writes, `load` takes back, and `load` refuses all other bytes.
 #![tactic(auto)]
 
 mod class_count;
@@ -34,6 +35,7 @@ mod laws;
 mod module;
 mod no_memory;
 mod saving;
+mod trail;
 #[cfg(test)]
 mod trials;
 mod worked;
