@@ -19,7 +19,8 @@ pub fn begins_with_letter(bytes: &[u8]) -> bool
     }
 }
 
-/// Whether the bytes are one or more components joined by dots, in one pass.
+/// Whether the bytes are one or more components joined by dots, in one pass. Most bytes are letters, so these are
+/// tried first.
 #[tactic(auto, using(crate::proofs::Scanning::scan_start))]
 pub fn joins_components(bytes: &[u8]) -> bool
     ensures { result ≡ are_components bytes.now }
@@ -27,7 +28,7 @@ pub fn joins_components(bytes: &[u8]) -> bool
     let mut size: u32 = 0;
     let mut begun = false;
     for byte in bytes {
-        if is_in_piece(*byte) {
+        if byte.is_ascii_alphabetic() || is_in_piece(*byte) {
             if size == 32 {
                 return false;
             }
