@@ -13,7 +13,9 @@ fn report(alloc: Global, number: u32) -> Result<Entry, AllocError>
 {
     let class = number % 20;
     let path = number % 200;
-    let line = format!(in alloc; "report ereport.cpu.c{class} hc:///chassis=0/cpu={path} {number}")?;
+    let line = format!(in alloc;
+        "report ereport.cpu.c{class} hc:///chassis=0/cpu={path} {number}"
+    )?;
     read_line(alloc, line.as_bytes()).map_err(|_| AllocError)
 }
 

@@ -9,11 +9,7 @@ use fm_name::{Class, EventName, Fmri};
 use std::alloc::Global;
 
 // where the class stands, or else would stand; it is looked for at the guess first
-pub(crate) fn find_class(
-    counts: &[ClassCount],
-    guess: usize,
-    class: &Class,
-) -> Result<usize, usize>
+pub(crate) fn find_class(counts: &[ClassCount], guess: usize, class: &Class) -> Result<usize, usize>
     requires { IsTrue (is_ordered counts.now) }
     ensures { result ≡ place_in class.now counts.now }
 {

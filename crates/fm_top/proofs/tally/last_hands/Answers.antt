@@ -15,7 +15,7 @@ two_hands-requires-clause-second c =
 pub returns-clause-ok : goal.returns-clause-ok
 returns-clause-ok c =
     let same : hand_at c.len.result c.in_ok-first.first ∷ hand_at c.len.result c.in_ok-second.second ∷ []
-        ≡ map (moved_to (c.args.core.now.base + length c.args.core.now.entries)) c.args.core.now.hands =
+    ≡ map (moved_to (c.args.core.now.base + length c.args.core.now.entries)) c.args.core.now.hands =
     ap (λ o. hand_at c.len.result o ∷ hand_at c.len.result c.in_ok-second.second ∷ []) (c.in_ok-first.ensures ∙ c.state.ensures)
     ∙ ap (λ o. hand_at c.len.result c.hand.result.now.object ∷ hand_at c.len.result o ∷ []) (c.in_ok-second.ensures ∙ c.state-2.ensures)
     ∙ both_moved c.len.result c.args.core.now.hands c.hand.result.now c.hand-2.result.now c.requires.two c.hand.ensures c.hand-2.ensures
