@@ -14,7 +14,7 @@ use Rattle.fm_name.specs.Order.{path_cmp}
 use Rattle.fm_name.specs.OrderLaws.{path_cmp_total}
 use Rattle.fm_name.proofs.Cutting.{some_text}
 use Rattle.fm_topo.specs.Line.{lines_of, end_of, content_of, is_skipped, is_clean_byte, words_from, path_of, words_of}
-use Rattle.fm_topo.specs.Property.{Properties, is_property, properties_of}
+use Rattle.fm_topo.specs.Property.{Properties, is_property, name_of, has_twin, properties_of}
 use Rattle.fm_topo.specs.Topology.{Topology, has_path, with_line, lines_topology, topology_of}
 use Rattle.fm_topo.specs.Fault.{parent_of, lacks_parent, set_fault, entry_fault, line_fault, fault_at, IsCleanBefore, IsClean}
 use Rattle.fm_topo.specs.Printed.{properties_text, line_text, topology_text}
@@ -94,7 +94,7 @@ unfolding entry_fault set_fault
 entry_good found path words e =
     let a = if_none (not (is_path path)) Path _ e in
     let b = if_none (not (list_all is_property words)) Property _ a.1 in
-    let c = if_none (has_path found path || nat_lt (length (properties_of words)) (length words)) Twice _ b.1 in
+    let c = if_none (has_path found path || has_twin (map name_of words)) Twice _ b.1 in
     let d = if_none (lacks_parent found path) Parent _ c.1 in
     let f = if_none (nat_le 65536 (length found)) Count None d.1 in
     let n = f.0 in

@@ -10,6 +10,7 @@ pub mod Pairs
 pub mod Parents
 pub mod Places
 pub mod Round
+pub mod Twins
 pub mod Faulty
 pub mod Kept
 pub mod Codes

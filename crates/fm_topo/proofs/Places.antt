@@ -3,6 +3,10 @@ use Rattle.std.proofs.Common.{◌≡◌, ◌<◌, ◌≤◌, ◌-◌, ◌^◌, �
 use Rattle.std.specs.Prelude.{◌==◌}
 use Rattle.std.specs.Char.{is_ascii_digit}
 use Rattle.std.specs.List.{list_all, list_any, before_first, onto_first}
+use Rattle.std.specs.List.Sorted.{IsStrictlySortedBy}
+use Rattle.std.specs.Map.{keys_of}
+use Rattle.std.specs.Ordering.{nat_cmp}
+use Rattle.std.specs.Cmp.Lexicographic.{slice_cmp}
 use Rattle.std.specs.BTreeMap.{insert_entry}
 use Rattle.std.proofs.Math.Seq.{take-length}
 use Rattle.std.proofs.lemmas.Grind.{common_steps}
@@ -10,7 +14,7 @@ use Rattle.fm_name.specs.Path.{is_name, is_path}
 use Rattle.fm_name.specs.Order.{path_cmp}
 use Rattle.fm_name.proofs.Cutting.{count_map}
 use Rattle.fm_topo.specs.Line.{content_of, is_clean_byte, is_skipped, words_from, path_of, words_of}
-use Rattle.fm_topo.specs.Property.{Properties, is_text_byte, properties_of}
+use Rattle.fm_topo.specs.Property.{Properties, is_text_byte, name_of, has_twin, properties_of}
 use Rattle.fm_topo.specs.Topology.{Topology, has_path, with_line}
 use Rattle.fm_topo.specs.Fault.{lacks_parent, set_fault, entry_fault, line_fault}
 use Rattle.fm_topo.specs.Printed.{value_text, properties_text, line_text}
@@ -20,6 +24,7 @@ use Rattle.fm_topo.specs.declared.values.TopoValue.TheVariants.{Number, Text}
 use Rattle.fm_topo.proofs.Pieces.{space_inside, no_space}
 use Rattle.fm_topo.proofs.Cuts.{and_both, all_parts, all_weaker, all_joined, all_index, position_at, position_none, before_at, after_at, is_name_byte, is_path_byte, name_bytes, path_bytes, scheme}
 use Rattle.fm_topo.proofs.Pairs.{pair_text, decimal_digits, properties_back, words_back}
+use Rattle.fm_topo.proofs.Twins.{twins_counted}
 
 -- ---- the words of a line
 -- bytes put in front of the first of some words
@@ -188,20 +193,24 @@ place_back found place h =
     rw s (ap (λ z. insert_entry path_cmp found z (properties_of (words_of (content_of (line_text place))))) p ∙ ap (insert_entry path_cmp found place.0) w)
 
 -- ---- a line has no fault
-set_back : (found : Topology) (path : List ℕ) (ps : Properties) → has_path found path ≡ false → lacks_parent found path ≡ false → length found < 65536
-    → set_fault found path (length ps) (length (map pair_text ps)) ≡ None
-unfolding set_fault
-set_back found path ps h l n =
+no_twin : (ps : Properties) → list_all is_pair ps ≡ true → IsStrictlySortedBy (slice_cmp nat_cmp) (keys_of ps) → has_twin (map name_of (map pair_text ps)) ≡ false
+no_twin ps h s =
     let k : nat_lt (length ps) (length (map pair_text ps)) ≡ false = (let e = count_map pair_text ps in grind (arith, common_steps)) in
+    sym (twins_counted (map pair_text ps)) ∙ (ap (λ z. nat_lt (length z) (length (map pair_text ps))) (properties_back ps h s) ∙ k)
+
+set_back : (found : Topology) (path : List ℕ) → has_path found path ≡ false → lacks_parent found path ≡ false → length found < 65536
+    → set_fault found path false ≡ None
+unfolding set_fault
+set_back found path h l n =
     let m : nat_le 65536 (length found) ≡ false = grind (arith, common_steps) in
-    rw (h, k, l, m) refl
+    rw (h, l, m) refl
 
 entry_back : (found : Topology) (place : List ℕ × Properties) → IsPlace place → has_path found place.0 ≡ false → lacks_parent found place.0 ≡ false → length found < 65536
     → entry_fault found place.0 (map pair_text place.1) ≡ None
 unfolding entry_fault
 entry_back found place p h l n =
-    let s : set_fault found place.0 (length (properties_of (map pair_text place.1))) (length (map pair_text place.1)) ≡ None =
-    ap (λ z. set_fault found place.0 (length z) (length (map pair_text place.1))) (properties_back place.1 p.pairs p.names) ∙ set_back found place.0 place.1 h l n in
+    let s : set_fault found place.0 (has_twin (map name_of (map pair_text place.1))) ≡ None =
+    ap (set_fault found place.0) (no_twin place.1 p.pairs p.names) ∙ set_back found place.0 h l n in
     let a : is_path place.0 ≡ true = p.path in
     rw (a, words_back place.1 p.pairs) s
 

@@ -1,10 +1,10 @@
 -- The faults of topology texts.
-use Rattle.std.specs.Prelude.{◌≡◌, ℕ, Bool, not, ◌&&◌, ◌||◌, ◌+◌, ◌<◌, nat_lt, nat_le, List, [], ◌∷◌, length, take, slice_get, unwrap_or, Option, Some, None, if◌then◌else◌}
+use Rattle.std.specs.Prelude.{◌≡◌, ℕ, Bool, not, ◌&&◌, ◌||◌, ◌+◌, ◌<◌, nat_lt, nat_le, List, [], ◌∷◌, length, map, take, slice_get, unwrap_or, Option, Some, None, if◌then◌else◌}
 use Rattle.std.specs.List.{list_all, list_any}
 use Rattle.std.specs.Prelude.{◌==◌}
 use Rattle.fm_name.specs.Path.{is_path, parts_of}
 use Rattle.fm_topo.specs.Line.{lines_of, content_of, end_of, is_clean_byte, is_skipped, path_of, words_of}
-use Rattle.fm_topo.specs.Property.{is_property, properties_of}
+use Rattle.fm_topo.specs.Property.{is_property, name_of, has_twin}
 use Rattle.fm_topo.specs.Topology.{Topology, has_path, lines_topology}
 use Rattle.fm_topo.specs.declared.faults.TopoKind.{TopoKind}
 use Rattle.fm_topo.specs.declared.faults.TopoKind.TheVariants.{Path, Property, Twice, Parent, Length, Count, Bytes}
@@ -21,11 +21,11 @@ abbrev pub lacks_parent : Topology → List ℕ → Bool
 lacks_parent found path =
     nat_lt 1 (length (parts_of path)) && not (is_path (parent_of path) && has_path found (parent_of path))
 
--- the fault of a line whose path and properties are well formed: `kept` of its `count` properties have names of
--- their own, and `found` is the topology of the earlier lines
-unfoldable pub set_fault : Topology → List ℕ → ℕ → ℕ → Option TopoKind
-set_fault found path kept count =
-    if (has_path found path || nat_lt kept count) then Some Twice else
+-- the fault of a line whose path and properties are well formed: `twin` says whether a name stands twice among its
+-- properties, and `found` is the topology of the earlier lines
+unfoldable pub set_fault : Topology → List ℕ → Bool → Option TopoKind
+set_fault found path twin =
+    if (has_path found path || twin) then Some Twice else
     if lacks_parent found path then Some Parent else
     if nat_le 65536 (length found) then Some Count else None
 
@@ -34,7 +34,7 @@ unfoldable pub entry_fault : Topology → List ℕ → List (List ℕ) → Optio
 entry_fault found path words =
     if not (is_path path) then Some Path else
     if not (list_all is_property words) then Some Property else
-    set_fault found path (length (properties_of words)) (length words)
+    set_fault found path (has_twin (map name_of words))
 
 -- the first fault of a line, with which so many bytes of the text end
 unfoldable pub line_fault : Topology → ℕ → List ℕ → Option TopoKind

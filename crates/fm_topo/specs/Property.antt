@@ -1,7 +1,7 @@
 -- Properties: a name, `=` and a number or a text in quotes.
-use Rattle.std.specs.Prelude.{ℕ, Bool, not, ◌&&◌, ◌||◌, ◌==◌, ◌-◌, ◌^◌, nat_lt, nat_le, List, [], length, take, drop, slice_index, fold, Option, Some, None, if◌then◌else◌}
+use Rattle.std.specs.Prelude.{ℕ, Bool, false, not, ◌&&◌, ◌||◌, ◌==◌, ◌-◌, ◌^◌, nat_lt, nat_le, List, [], ◌∷◌, length, take, drop, slice_index, fold, bytes_eq, Option, Some, None, if◌then◌else◌}
 use Rattle.std.specs.Char.{is_ascii_digit}
-use Rattle.std.specs.List.{list_all, before_first, after_first}
+use Rattle.std.specs.List.{list_all, list_any, before_first, after_first}
 use Rattle.std.specs.Str.Parse.{digits_value}
 use Rattle.std.specs.Ordering.{nat_cmp}
 use Rattle.std.specs.Cmp.Lexicographic.{slice_cmp}
@@ -34,10 +34,14 @@ is_quoted bytes =
 unfoldable pub value_of : List ℕ → TopoValue
 value_of bytes = if is_number bytes then Number (digits_value 10 bytes) else Text (inner_of bytes)
 
+-- the name in a word: what stands before its first `=`
+abbrev pub name_of : List ℕ → List ℕ
+name_of word = before_first (λ b. b == 61) word
+
 -- a word that is a property
 unfoldable pub is_property : List ℕ → Bool
 is_property word =
-    is_name (before_first (λ b. b == 61) word)
+    is_name (name_of word)
     && (is_number (after_first (λ b. b == 61) word) || is_quoted (after_first (λ b. b == 61) word))
 
 -- what the text behind `=` means, where it is a value
@@ -50,7 +54,7 @@ pair_read name value = if (is_name name && (is_number value || is_quoted value))
 
 -- what a word means, where it is a property
 unfoldable pub property_read : List ℕ → Option (List ℕ × TopoValue)
-property_read word = if is_property word then Some (before_first (λ b. b == 61) word, value_of (after_first (λ b. b == 61) word)) else None
+property_read word = if is_property word then Some (name_of word, value_of (after_first (λ b. b == 61) word)) else None
 
 -- the properties of a path: a finite map from names to values, as the list of its pairs in byte order of the names
 abbrev pub Properties : Type 0
@@ -59,8 +63,13 @@ Properties = List (List ℕ × TopoValue)
 -- the properties with that of one more word
 unfoldable pub with_word : Properties → List ℕ → Properties
 with_word found word =
-    insert_entry (slice_cmp nat_cmp) found (before_first (λ b. b == 61) word) (value_of (after_first (λ b. b == 61) word))
+    insert_entry (slice_cmp nat_cmp) found (name_of word) (value_of (after_first (λ b. b == 61) word))
 
 -- the properties that words mean
 unfoldable pub properties_of : List (List ℕ) → Properties
 properties_of words = fold with_word [] words
+
+-- whether a name stands twice among names
+abbrev pub has_twin : List (List ℕ) → Bool
+has_twin [] = false
+has_twin (name ∷ names) = list_any (bytes_eq name) names || has_twin names

@@ -1,4 +1,4 @@
-ghost use Rattle.std.specs.Prelude.{◌≡◌, ◌==◌, ◌&&◌, ◌+◌, ◌<◌, ◌≤◌, IsTrue, IfOk, IfErr, OnOk, IfSome, OnSome, fold, false, is_some, if◌then◌else◌, Some, None, length, option_map};
+ghost use Rattle.std.specs.Prelude.{◌≡◌, ◌==◌, ◌&&◌, ◌+◌, ◌<◌, ◌≤◌, IsTrue, IfOk, IfErr, OnOk, IfSome, OnSome, fold, false, is_some, if◌then◌else◌, Some, None, nat_lt, length, option_map};
 ghost use Rattle.std.specs.List.{list_all};
 ghost use Rattle.std.specs.BTreeMap.{btree_map_len};
 ghost use Rattle.fm_name.specs.Path.{is_path};
@@ -154,7 +154,8 @@ fn is_found(found: &BTreeMap<Key, Properties>, path: &Key) -> bool
     found.contains_key(path)
 }
 
-/// The fault of a path with properties among those of earlier lines.
+/// The fault of a path with properties among those of earlier lines. A name stands twice where the map has fewer
+/// names than the line has words.
 #[tactic(auto, unfolding(crate::specs::Fault::set_fault))]
 fn fault_of(
     alloc: Global,
@@ -165,7 +166,7 @@ fn fault_of(
 ) -> Result<Option<TopoKind>, NoMemory>
     requires same { text.now ≡ path.now }
     requires clean { IsTrue (list_all is_clean_byte text.now) }
-    ensures { IfOk result (λ fault. fault ≡ set_fault found.now.entries path.now (length pairs.now.map.entries) pairs.now.count) }
+    ensures { IfOk result (λ fault. fault ≡ set_fault found.now.entries path.now (nat_lt (length pairs.now.map.entries) pairs.now.count)) }
 {
     if is_found(found, path) || pairs.map.len() < pairs.count {
         return Ok(Some(TopoKind::Twice));
