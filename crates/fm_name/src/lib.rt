@@ -8,9 +8,9 @@
 //! Contracts see each of them as the bytes of its text. The grammars (`specs/Class`, `specs/Pattern`,
 //! `specs/Path`) are tests of a whole text, which is split at dots, hyphens and slashes; that the text
 //! passes its test is the type's invariant, so who holds a name need not ask again. `read_class`,
-//! `read_pattern` and `read_fmri` answer one exactly where the grammar has the text. They go over the bytes
-//! once, with a small state: at each byte, what the state and the bytes that are left come to is what the
-//! grammar says of the whole (`proofs/Scanning`, `proofs/PartScans`).
+//! `read_pattern` and `read_fmri` answer one exactly where the grammar has the text. Components and parts are
+//! read byte by byte, with a small state: at each byte, what the state and the bytes that are left come to
+//! is what the grammar says of the whole (`proofs/Scanning`, `proofs/PartScans`).
 //!
 //! Classes are in the order of their bytes, paths in that of their parts: by name, then by the value of the
 //! instance, a path before those under it (`specs/Order`). `Ord` of each type is that order, total, and ties
