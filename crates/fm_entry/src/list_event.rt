@@ -20,6 +20,15 @@ pub enum ListKind {
     Repaired,
 }
 
+impl ListKind {
+    /// The same kind.
+    pub fn copy(&self) -> Result<ListKind, NoMemory>
+        ensures { IfOk result (λ copied. copied ≡ self.now) }
+    {
+        Ok(*self)
+    }
+}
+
 /// One word about a case: what was observed, and who is suspected.
 ///
 /// For `Upset` the suspects are the upsets, with certainty 0, no retire and the mark `Present`. For

@@ -16,6 +16,15 @@ pub enum Mark {
     Acquitted,
 }
 
+impl Mark {
+    /// The same mark.
+    pub fn copy(&self) -> Result<Mark, NoMemory>
+        ensures { IfOk result (λ copied. copied ≡ self.now) }
+    {
+        Ok(*self)
+    }
+}
+
 /// A fault or defect that may have caused a case's reports, or the upset that did.
 #[derive(Drop)]
 pub struct Suspect {

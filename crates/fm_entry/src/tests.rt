@@ -1,7 +1,8 @@
 //! Bytes that are known from outside, and each call once with ample memory.
 
 use crate::{
-    CaseName, read_below, read_case_name, read_entry, read_spoken, write_entry, write_spoken,
+    CaseName, ListKind, Mark, read_below, read_case_name, read_entry, read_spoken, write_entry,
+    write_spoken,
 };
 use std::alloc::Global;
 use std::test::Fail;
@@ -163,4 +164,13 @@ fn a_case_name_is_read(rt: HostRuntime) {
     assert_eq!(rt; read_case_name("dx1/9223372036854775808"), None);
     assert_eq!(rt; read_below(100, b"99"), Some(99));
     assert_eq!(rt; read_below(100, b"100"), None);
+}
+
+#[test]
+fn copies_names_kinds_and_marks(rt: HostRuntime) -> Result<(), Fail> {
+    let case = CaseName { module: 7, case: 5 };
+    assert_eq!(rt; case.copy()?, case);
+    assert_eq!(rt; ListKind::Updated.copy()?, ListKind::Updated);
+    assert_eq!(rt; Mark::Replaced.copy()?, Mark::Replaced);
+    Ok(())
 }
