@@ -284,14 +284,16 @@ fn takes_each_entry_once_after_a_fall_behind_a_word(rt: HostRuntime) -> Result<(
     ends_alike(&rt, alloc, &mut core)
 }
 
-// whether a fresh counter takes the bytes, and a copy of it keeps itself as just these again
+// whether a fresh counter takes the bytes, and keeps itself as just these again, and so does a copy of it
 fn restores(alloc: Global, bytes: &[u8]) -> Result<bool, LoadFault> {
     let mut counter = Counter::new(alloc, 0);
     counter.load(alloc, bytes)?;
-    let copy = counter.copy(alloc)?;
     let mut again = Vec::new(alloc);
-    copy.save(&mut again)?;
-    Ok(again.as_slice() == bytes)
+    counter.save(&mut again)?;
+    let copy = counter.copy(alloc)?;
+    let mut copied = Vec::new(alloc);
+    copy.save(&mut copied)?;
+    Ok(again.as_slice() == bytes && copied.as_slice() == bytes)
 }
 
 #[test]
