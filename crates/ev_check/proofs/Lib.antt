@@ -8,3 +8,4 @@ pub mod Naming
 pub mod Pairing
 pub mod Bounds
 pub mod Excluding
+pub mod Lawfulness

@@ -1,8 +1,9 @@
 -- What a rule file declares, in order of statements, and what is declared twice or not at all.
-use Rattle.std.specs.Prelude.{ℕ, Bool, false, not, ◌&&◌, ◌||◌, List, ◌∷◌, map, Option, Some, None, if◌then◌else◌, position, filter_map}
+use Rattle.std.specs.Prelude.{ℕ, Bool, false, not, ◌&&◌, ◌||◌, List, ◌∷◌, map, Option, Some, None}
+use Rattle.std.specs.Prelude.{if◌then◌else◌, position, filter_map}
 use Rattle.std.specs.List.{list_any}
 use Rattle.std.specs.Cmp.Lexicographic.{pointwise}
-use Rattle.ev_check.specs.Iterators.{same}
+use Rattle.ev_check.specs.Iterators.{same_name}
 use Rattle.ev_tree.specs.declared.tree.Declared.{Declared}
 use Rattle.ev_tree.specs.declared.tree.EventAttr.{EventAttr}
 use Rattle.ev_tree.specs.declared.tree.EventAttr.TheVariants as event_attrs
@@ -18,13 +19,11 @@ use Rattle.ev_check.specs.declared.kinds.CheckKind.TheVariants.{Twice, Undeclare
 -- the event that a statement declares, and the engine
 abbrev pub event_in : Statement → Option Declared
 event_in (statements.Event place d attrs) = Some d
-event_in (statements.Engine place d attrs) = None
-event_in (statements.Prop place left n k right) = None
+event_in _ = None
 
 abbrev pub engine_in : Statement → Option Declared
-engine_in (statements.Event place d attrs) = None
 engine_in (statements.Engine place d attrs) = Some d
-engine_in (statements.Prop place left n k right) = None
+engine_in _ = None
 
 -- the events and the engines of statements, in order: the place in the list is the number
 abbrev pub events_in : List Statement → List Declared
@@ -35,15 +34,15 @@ engines_in ss = filter_map engine_in ss
 
 -- both have the same class, and as many names, each pair the same
 abbrev pub is_alike : Declared → Declared → Bool
-is_alike d e = same d.class e.class && pointwise same d.names e.names
+is_alike d e = same_name d.class e.class && pointwise same_name d.names e.names
 
 -- the class, and then the names
-abbrev pub words_of : Declared → List (List ℕ)
-words_of d = d.class ∷ d.names
+abbrev pub class_names : Declared → List (List ℕ)
+class_names d = d.class ∷ d.names
 
 -- the number of the first in a list that is alike
-abbrev pub number_of : List Declared → Declared → Option ℕ
-number_of ds d = position (is_alike d) ds
+abbrev pub declared_number : List Declared → Declared → Option ℕ
+declared_number ds d = position (is_alike d) ds
 
 -- one of them is alike
 abbrev pub is_declared : List Declared → Declared → Bool
@@ -60,34 +59,38 @@ subject_of p = record { class = p.class; names = map name_of p.parts }
 abbrev pub is_again : List Declared → List Declared → Statement → Bool
 is_again events engines (statements.Event place d attrs) = is_declared events d
 is_again events engines (statements.Engine place d attrs) = is_declared engines d
-is_again events engines (statements.Prop place left n k right) = false
+is_again events engines _ = false
 
 -- the engine of an upset, at its names, or the trip of an engine, at its names, is not declared
-abbrev pub is_lost_engine : List Declared → List (List ℕ) → EventAttr → Bool
-is_lost_engine engines names (event_attrs.Fit n) = false
-is_lost_engine engines names (event_attrs.Retire n) = false
-is_lost_engine engines names (event_attrs.Engine c) = not (is_declared engines (record { class = c; names = names }))
-is_lost_engine engines names (event_attrs.Within t) = false
+abbrev pub is_undeclared_engine : List Declared → List (List ℕ) → EventAttr → Bool
+is_undeclared_engine engines names (event_attrs.Engine c) =
+    not (is_declared engines (record { class = c; names = names }))
+is_undeclared_engine engines names _ = false
 
-abbrev pub is_lost_trip : List Declared → List (List ℕ) → EngineAttr → Bool
-is_lost_trip events names (engine_attrs.N n) = false
-is_lost_trip events names (engine_attrs.T t) = false
-is_lost_trip events names (engine_attrs.Trip c) = not (is_declared events (record { class = c; names = names }))
+abbrev pub is_undeclared_trip : List Declared → List (List ℕ) → EngineAttr → Bool
+is_undeclared_trip events names (engine_attrs.Trip c) =
+    not (is_declared events (record { class = c; names = names }))
+is_undeclared_trip events names _ = false
 
 -- no event is what the pattern is of
-abbrev pub is_lost : List Declared → SidePattern → Bool
-is_lost events p = not (is_declared events (subject_of p))
+abbrev pub is_undeclared : List Declared → SidePattern → Bool
+is_undeclared events p = not (is_declared events (subject_of p))
 
 -- a statement names an event or an engine that is not one of these
-abbrev pub has_lost : List Declared → List Declared → Statement → Bool
-has_lost events engines (statements.Event place d attrs) = list_any (is_lost_engine engines d.names) attrs
-has_lost events engines (statements.Engine place d attrs) = list_any (is_lost_trip events d.names) attrs
-has_lost events engines (statements.Prop place left n k right) = list_any (is_lost events) left || list_any (is_lost events) right
+abbrev pub names_undeclared : List Declared → List Declared → Statement → Bool
+names_undeclared events engines (statements.Event place d attrs) =
+    list_any (is_undeclared_engine engines d.names) attrs
+names_undeclared events engines (statements.Engine place d attrs) =
+    list_any (is_undeclared_trip events d.names) attrs
+names_undeclared events engines (statements.Prop place left n k right) =
+    list_any (is_undeclared events) left || list_any (is_undeclared events) right
 
 -- what the second phase finds at a statement, after these
 abbrev pub twice_after : List Statement → Statement → Option CheckKind
-twice_after before s = if is_again (events_in before) (engines_in before) s then Some Twice else None
+twice_after before s =
+    if is_again (events_in before) (engines_in before) s then Some Twice else None
 
 -- what the third phase finds at a statement, in a file of these events and engines
-abbrev pub lost_among : List Declared → List Declared → Statement → Option CheckKind
-lost_among events engines s = if has_lost events engines s then Some Undeclared else None
+abbrev pub undeclared_among : List Declared → List Declared → Statement → Option CheckKind
+undeclared_among events engines s =
+    if names_undeclared events engines s then Some Undeclared else None

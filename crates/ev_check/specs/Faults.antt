@@ -1,5 +1,6 @@
 -- The first fault of a rule file.
-use Rattle.std.specs.Prelude.{◌≡◌, ◌⊎◌, ℕ, ◌<◌, Bool, true, false, is_some, List, Option, Some, None, slice_get, slice_index, take, filter_map}
+use Rattle.std.specs.Prelude.{◌≡◌, ◌⊎◌, ℕ, ◌<◌, Bool, true, false, is_some, List, Option, Some}
+use Rattle.std.specs.Prelude.{None, slice_get, slice_index, take, filter_map}
 use Rattle.fm_name.specs.Category.{category_of}
 use Rattle.ev_tree.specs.Rule.{place_of}
 use Rattle.ev_tree.specs.declared.tree.Declared.{Declared}
@@ -14,7 +15,7 @@ use Rattle.ev_check.specs.declared.kinds.CheckKind.TheVariants.{UpsetTrips, Cycl
 use Rattle.ev_check.specs.declared.kinds.CheckFault.{CheckFault}
 use Rattle.ev_check.specs.declared.kinds.CheckFault.TheVariants.{At, NoMemory}
 use Rattle.ev_check.specs.Categories.{is_upset}
-use Rattle.ev_check.specs.Declarations.{events_in, engines_in, twice_after, lost_among}
+use Rattle.ev_check.specs.Declarations.{events_in, engines_in, twice_after, undeclared_among}
 use Rattle.ev_check.specs.Drawn.{causes_in, effects_in, trip_in}
 use Rattle.ev_check.specs.Words.{word_of}
 
@@ -24,7 +25,8 @@ Phase = List Statement → Statement → Option CheckKind
 
 -- the phase finds nothing at the first n statements
 abbrev pub IsClean : Phase → List Statement → ℕ → Type 0
-IsClean f ss n = (j : ℕ) → j < n → (s : Statement) → slice_get ss j ≡ Some s → f (take j ss) s ≡ None
+IsClean f ss n = (j : ℕ) → j < n → (s : Statement) → slice_get ss j ≡ Some s
+    → f (take j ss) s ≡ None
 
 -- the phase finds nothing
 pub record Passes (f : Phase) (ss : List Statement) : Type 0 where
@@ -43,8 +45,8 @@ pub record IsFirst (f : Phase) (ss : List Statement) (place : ℕ) (kind : Check
 abbrev pub in_itself : Phase
 in_itself before s = word_of s
 
-abbrev pub known : List Statement → Phase
-known ss before s = lost_among (events_in ss) (engines_in ss) s
+abbrev pub finds_undeclared : List Statement → Phase
+finds_undeclared ss before s = undeclared_among (events_in ss) (engines_in ss) s
 
 -- the event of that number is an upset
 pub record IsUpset (events : List Declared) (u : ℕ) : Type 0 where
@@ -106,11 +108,10 @@ pub record IsTripFree (ss : List Statement) : Type 0 where
 -- the place of an event statement
 abbrev pub event_place : Statement → Option ℕ
 event_place (statements.Event place d attrs) = Some place
-event_place (statements.Engine place d attrs) = None
-event_place (statements.Prop place left n k right) = None
+event_place _ = None
 
--- the events of these numbers are a shortest way from the first event that reaches itself back to it, and
--- the statement of that event has this place
+-- the events of these numbers are a shortest way from the first event that reaches itself back to
+-- it, and the statement of that event has this place
 pub record IsCycleFault (ss : List Statement) (place : ℕ) (members : List Declared) : Type 0 where
   pub numbers : List ℕ
   pub cycle : IsFirstCycle (causes_in ss) (effects_in ss) numbers
@@ -118,7 +119,8 @@ pub record IsCycleFault (ss : List Statement) (place : ℕ) (members : List Decl
   pub begins : slice_get (filter_map event_place ss) (slice_index numbers 0) ≡ Some place
 
 abbrev pub IsCycleAnswer : List Statement → ℕ → CheckKind → Type 0
-IsCycleAnswer ss place kind = (members : List Declared) × IsCycleFault ss place members × (kind ≡ Cycle members)
+IsCycleAnswer ss place kind = (members : List Declared) × IsCycleFault ss place members
+    × (kind ≡ Cycle members)
 
 -- no event reaches itself
 pub record IsAcyclic (ss : List Statement) : Type 0 where
@@ -126,22 +128,25 @@ pub record IsAcyclic (ss : List Statement) : Type 0 where
 
 -- the fault that the fourth phase finds, or the fifth
 abbrev pub IsArrowAnswer : List Statement → ℕ → CheckKind → Type 0
-IsArrowAnswer ss place kind = IsTripAnswer ss place kind ⊎ (IsTripFree ss × IsCycleAnswer ss place kind)
+IsArrowAnswer ss place kind = IsTripAnswer ss place kind
+    ⊎ (IsTripFree ss × IsCycleAnswer ss place kind)
 
 -- no phase finds a fault
 pub record IsChecked (ss : List Statement) : Type 0 where
   pub words : Passes in_itself ss
   pub once : Passes twice_after ss
-  pub declared : Passes (known ss) ss
+  pub declared : Passes (finds_undeclared ss) ss
   pub trips : IsTripFree ss
   pub acyclic : IsAcyclic ss
 
 -- the first fault, by the phase that finds it
-pub data IsFault (ss : List Statement) (place : ℕ) (kind : CheckKind) : Type 0 where
-  InItself : IsFirst in_itself ss place kind → IsFault ss place kind
-  IsTwice : Passes in_itself ss → IsFirst twice_after ss place kind → IsFault ss place kind
-  IsLost : Passes in_itself ss → Passes twice_after ss → IsFirst (known ss) ss place kind → IsFault ss place kind
-  IsDrawn : Passes in_itself ss → Passes twice_after ss → Passes (known ss) ss → IsArrowAnswer ss place kind → IsFault ss place kind
+pub data IsCheckFault (ss : List Statement) (place : ℕ) (kind : CheckKind) : Type 0 where
+  InItself : IsFirst in_itself ss place kind → IsCheckFault ss place kind
+  IsTwice : Passes in_itself ss → IsFirst twice_after ss place kind → IsCheckFault ss place kind
+  NotDeclared : Passes in_itself ss → Passes twice_after ss
+      → IsFirst (finds_undeclared ss) ss place kind → IsCheckFault ss place kind
+  IsDrawn : Passes in_itself ss → Passes twice_after ss → Passes (finds_undeclared ss) ss
+      → IsArrowAnswer ss place kind → IsCheckFault ss place kind
 
 -- what `check` answers where it doesn't take the file
 abbrev pub IsAnswer : (ℕ → CheckKind → Type 0) → CheckFault → Type 0

@@ -4,8 +4,9 @@ pub mod Attributes
 pub mod Iterators
 pub mod Words
 pub mod Declarations
-pub mod Firsts
+pub mod Defaults
 pub mod Drawn
 pub mod Faults
-pub mod Book
+pub mod CheckedFile
 pub mod Sound
+pub mod Lawful

@@ -1,6 +1,7 @@
 -- The operands in a condition, in order.
 use Rattle.std.specs.Prelude.{List, [], ◌++◌, Option, Some, None}
-use Rattle.ev_tree.specs.Condition.{Condition, Conditions, Any, All, Negated, Defined, Compares, Nothing, Also}
+use Rattle.ev_tree.specs.Condition.{Condition, Conditions, Any, All, Negated, Defined, Compares}
+use Rattle.ev_tree.specs.Condition.{Nothing, Also}
 use Rattle.ev_tree.specs.Pattern.{view_option}
 use Rattle.ev_tree.specs.declared.tree.SidePattern.{SidePattern}
 use Rattle.ev_tree.specs.declared.tree.Operand.{Operand}

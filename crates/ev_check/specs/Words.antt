@@ -1,5 +1,6 @@
 -- What is wrong with a statement in itself: the first word of the table that holds of it.
-use Rattle.std.specs.Prelude.{ℕ, Bool, true, false, not, ◌||◌, Option, Some, None, if◌then◌else◌}
+use Rattle.std.specs.Prelude.{ℕ, Bool, true, false, not, ◌&&◌, ◌||◌, Option, Some, None}
+use Rattle.std.specs.Prelude.{if◌then◌else◌}
 use Rattle.std.specs.List.{list_any}
 use Rattle.fm_name.specs.Category.{category_of}
 use Rattle.ev_tree.specs.declared.tree.At.{At}
@@ -13,53 +14,63 @@ use Rattle.ev_tree.specs.declared.tree.SidePattern.{SidePattern}
 use Rattle.ev_tree.specs.declared.tree.Statement.{Statement}
 use Rattle.ev_tree.specs.declared.tree.Statement.TheVariants as statements
 use Rattle.ev_check.specs.declared.kinds.CheckKind.{CheckKind}
-use Rattle.ev_check.specs.declared.kinds.CheckKind.TheVariants.{BadKind, Twice, Missing, BadCount, BadTime, FreeIterator}
-use Rattle.ev_check.specs.Attributes.{is_fit, is_retire, is_engine, is_within, is_n, is_t, is_trip, is_misplaced, is_odd_trip, is_from, is_odd_number, is_odd_size, is_odd_window, is_odd_time, repeats}
-use Rattle.ev_check.specs.Categories.{is_event, is_serd, is_side}
+use Rattle.ev_check.specs.declared.kinds.CheckKind.TheVariants.{BadKind, Twice, Missing, BadCount}
+use Rattle.ev_check.specs.declared.kinds.CheckKind.TheVariants.{BadTime, FreeIterator}
+use Rattle.ev_check.specs.Attributes.{fit_value, retire_value, engine_value, within_value, n_value}
+use Rattle.ev_check.specs.Attributes.{t_value, trip_value, is_misplaced, is_odd_trip, is_from}
+use Rattle.ev_check.specs.Attributes.{is_odd_number, is_odd_size, is_odd_window, is_odd_time}
+use Rattle.ev_check.specs.Attributes.{repeats, lacks}
+use Rattle.ev_check.specs.Categories.{is_event, is_report, is_serd, is_side}
 use Rattle.ev_check.specs.Iterators.{is_long, is_vertical, has_odd_name}
 use Rattle.ev_check.specs.Operands.{operands_at}
 
 -- the operand is a property of the payload
 abbrev pub is_payload : Operand → Bool
-is_payload (operands.Int n) = false
-is_payload (operands.Name v) = false
-is_payload (operands.Text t) = false
-is_payload (operands.Confprop t) = false
 is_payload (operands.Payloadprop t) = true
+is_payload _ = false
 
--- the pattern may not stand on that side, or its condition asks the payload
+-- the condition of the pattern asks the payload, and it stands on the left or is of no report
+abbrev pub asks_oddly : Bool → SidePattern → Bool
+asks_oddly left p = list_any is_payload (operands_at p) &&
+    (left || not (is_report (category_of p.class)))
+
+-- the pattern may not stand on that side, or may not ask the payload there
 abbrev pub is_odd_side : Bool → SidePattern → Bool
-is_odd_side left p = not (is_side left (category_of p.class)) || list_any is_payload (operands_at p)
+is_odd_side left p = not (is_side left (category_of p.class)) || asks_oddly left p
 
+-- a class, an attribute or a property of the payload may not stand where it does
 abbrev pub has_bad_kind : Statement → Bool
-has_bad_kind (statements.Event place d attrs) = not (is_event (category_of d.class)) || list_any (is_misplaced (category_of d.class)) attrs
-has_bad_kind (statements.Engine place d attrs) = not (is_serd (category_of d.class)) || list_any is_odd_trip attrs
-has_bad_kind (statements.Prop place left n k right) = list_any (is_odd_side true) left || list_any (is_odd_side false) right
+has_bad_kind (statements.Event place d attrs) =
+    not (is_event (category_of d.class)) || list_any (is_misplaced (category_of d.class)) attrs
+has_bad_kind (statements.Engine place d attrs) =
+    not (is_serd (category_of d.class)) || list_any is_odd_trip attrs
+has_bad_kind (statements.Prop place left n k right) =
+    list_any (is_odd_side true) left || list_any (is_odd_side false) right
 
 -- an attribute stands twice
 abbrev pub has_twice : Statement → Bool
-has_twice (statements.Event place d attrs) = (repeats is_fit attrs || repeats is_retire attrs) || (repeats is_engine attrs || repeats is_within attrs)
-has_twice (statements.Engine place d attrs) = repeats is_n attrs || (repeats is_t attrs || repeats is_trip attrs)
-has_twice (statements.Prop place left n k right) = false
+has_twice (statements.Event place d attrs) =
+    (repeats fit_value attrs || repeats retire_value attrs)
+    || (repeats engine_value attrs || repeats within_value attrs)
+has_twice (statements.Engine place d attrs) =
+    repeats n_value attrs || (repeats t_value attrs || repeats trip_value attrs)
+has_twice _ = false
 
 -- an engine lacks N, T or trip
 abbrev pub is_missing : Statement → Bool
-is_missing (statements.Event place d attrs) = false
-is_missing (statements.Engine place d attrs) = not (list_any is_n attrs) || (not (list_any is_t attrs) || not (list_any is_trip attrs))
-is_missing (statements.Prop place left n k right) = false
+is_missing (statements.Engine place d attrs) =
+    lacks n_value attrs || (lacks t_value attrs || lacks trip_value attrs)
+is_missing _ = false
 
 -- a number at an arrow is out of range
 abbrev pub is_odd_count : ℕ → Option Count → Bool
-is_odd_count least None = false
-is_odd_count least (Some counts.All) = false
 is_odd_count least (Some (counts.Number n)) = not (is_from least 65536 n)
+is_odd_count least _ = false
 
 -- a constant instance is out of range
 abbrev pub is_odd_at : At → Bool
-is_odd_at ats.Bare = false
-is_odd_at (ats.Down v) = false
 is_odd_at (ats.Number n) = not (is_from 0 4294967295 n)
-is_odd_at (ats.Across v) = false
+is_odd_at _ = false
 
 abbrev pub is_odd_part : Part → Bool
 is_odd_part p = is_odd_at p.at
@@ -67,20 +78,27 @@ is_odd_part p = is_odd_at p.at
 abbrev pub has_odd_part : SidePattern → Bool
 has_odd_part p = list_any is_odd_part p.parts
 
+-- a number of the statement is out of range
 abbrev pub has_bad_count : Statement → Bool
 has_bad_count (statements.Event place d attrs) = list_any is_odd_number attrs
 has_bad_count (statements.Engine place d attrs) = list_any is_odd_size attrs
-has_bad_count (statements.Prop place left n k right) = (is_odd_count 0 n || is_odd_count 1 k) || (list_any has_odd_part left || list_any has_odd_part right)
+has_bad_count (statements.Prop place left n k right) =
+    (is_odd_count 0 n || is_odd_count 1 k) ||
+    (list_any has_odd_part left || list_any has_odd_part right)
 
+-- a time of the statement is out of range
 abbrev pub has_bad_time : Statement → Bool
 has_bad_time (statements.Event place d attrs) = list_any is_odd_window attrs
 has_bad_time (statements.Engine place d attrs) = list_any is_odd_time attrs
-has_bad_time (statements.Prop place left n k right) = false
+has_bad_time _ = false
 
+-- a name is too long, or no iterator where it stands, or one of both kinds
 abbrev pub has_free_iterator : Statement → Bool
 has_free_iterator (statements.Event place d attrs) = list_any is_long d.names
 has_free_iterator (statements.Engine place d attrs) = list_any is_long d.names
-has_free_iterator (statements.Prop place left n k right) = list_any (has_odd_name (is_vertical left right)) left || list_any (has_odd_name (is_vertical left right)) right
+has_free_iterator (statements.Prop place left n k right) =
+    list_any (has_odd_name (is_vertical left right)) left
+    || list_any (has_odd_name (is_vertical left right)) right
 
 -- the first word that holds
 abbrev pub word_of : Statement → Option CheckKind

@@ -1,24 +1,28 @@
-ghost use Rattle.std.specs.Prelude.{◌≡◌, ◌<◌, ◌≤◌, ◌+◌, ◌^◌, ◌++◌, length, OnOk, IfOk, option_to_list, filter_map};
+//! The arrows between the declared events.
+ghost use Rattle.std.specs.Prelude.{◌≡◌, ◌<◌, ◌≤◌, ◌+◌, ◌^◌, ◌++◌, length, OnOk, IfOk};
+ghost use Rattle.std.specs.Prelude.{option_to_list, filter_map};
 ghost use Rattle.ev_ways.specs.Lists.{AllBelow};
 ghost use Rattle.ev_check.specs.Declarations.{events_in};
-ghost use Rattle.ev_check.specs.Drawn.{causes_in, causes_of, effects_in, effects_of, numbered, side_numbers};
+ghost use Rattle.ev_check.specs.Drawn.{causes_in, causes_of, effects_in, effects_of, numbered};
+ghost use Rattle.ev_check.specs.Drawn.{side_numbers};
 
-use crate::lost::subject_of;
-use crate::no_memory::NoMemory;
-use crate::roll::Roll;
+use crate::declared_set::DeclaredSet;
+use crate::undeclared::subject_of;
 use ev_tree::{SidePattern, Statement};
-use ev_ways::{Arrows, Numbers};
+use ev_ways::Arrows;
+use fm_bytes::{Items, NoMemory};
 use std::alloc::Global;
 
 /// Puts the number of the event that a pattern is of at the end.
 fn add(
     alloc: Global,
-    events: &Roll,
+    events: &DeclaredSet,
     pattern: &SidePattern,
-    found: &mut Numbers,
+    found: &mut Items<u32>,
 ) -> Result<(), NoMemory>
     requires { AllBelow (length events.now) found.old }
-    ensures found { OnOk result (found.new ≡ found.old ++ option_to_list (numbered events.now pattern.now)) }
+    ensures found { OnOk result
+        (found.new ≡ found.old ++ option_to_list (numbered events.now pattern.now)) }
     ensures below { OnOk result (AllBelow (length events.now) found.new) }
 {
     let subject = subject_of(alloc, pattern)?;
@@ -32,11 +36,15 @@ fn add(
 }
 
 /// The numbers of the events on a side.
-fn side_numbers(alloc: Global, events: &Roll, side: &[SidePattern]) -> Result<Numbers, NoMemory>
+fn side_numbers(
+    alloc: Global,
+    events: &DeclaredSet,
+    side: &[SidePattern],
+) -> Result<Items<u32>, NoMemory>
     ensures numbers { IfOk result (λ found. found ≡ side_numbers events.now side.now) }
     ensures below { IfOk result (AllBelow (length events.now)) }
 {
-    let mut found = Numbers::new(alloc);
+    let mut found = Items::new(Vec::new(alloc));
     for pattern in side {
         add(alloc, events, pattern, &mut found)?;
     }
@@ -46,47 +54,36 @@ fn side_numbers(alloc: Global, events: &Roll, side: &[SidePattern]) -> Result<Nu
 /// Draws the arrow of a statement, if it has one.
 fn draw_one(
     alloc: Global,
-    events: &Roll,
+    events: &DeclaredSet,
     statement: &Statement,
     arrows: &mut Arrows,
 ) -> Result<(), NoMemory>
     requires nodes { arrows.old.nodes ≡ length events.now }
     requires few { length arrows.old.causes + 1 < 2 ^ 32 }
     ensures nodes { OnOk result (arrows.new.nodes ≡ length events.now) }
-    ensures causes { OnOk result (arrows.new.causes ≡ arrows.old.causes ++ option_to_list (causes_of events.now statement.now)) }
-    ensures effects { OnOk result (arrows.new.effects ≡ arrows.old.effects ++ option_to_list (effects_of events.now statement.now)) }
+    ensures causes { OnOk result
+        (arrows.new.causes ≡ arrows.old.causes
+        ++ option_to_list (causes_of events.now statement.now)) }
+    ensures effects { OnOk result
+        (arrows.new.effects ≡ arrows.old.effects
+        ++ option_to_list (effects_of events.now statement.now)) }
     ensures few { OnOk result (length arrows.new.causes ≤ length arrows.old.causes + 1) }
 {
     match statement {
-        Statement::Event {
-            place: _,
-            event: _,
-            attrs: _,
-        } => Ok(()),
-        Statement::Engine {
-            place: _,
-            engine: _,
-            attrs: _,
-        } => Ok(()),
-        Statement::Prop {
-            place: _,
-            left,
-            n: _,
-            k: _,
-            right,
-        } => {
+        Statement::Prop { left, right, .. } => {
             let causes = side_numbers(alloc, events, left.as_slice())?;
             let effects = side_numbers(alloc, events, right.as_slice())?;
             arrows.push(causes, effects)?;
             Ok(())
         }
+        _ => Ok(()),
     }
 }
 
 /// The arrows of a file; more statements than a `u32` counts are too many for memory.
 pub(crate) fn draw(
     alloc: Global,
-    events: &Roll,
+    events: &DeclaredSet,
     statements: &[Statement],
 ) -> Result<Arrows, NoMemory>
     requires { events.now ≡ events_in statements.now }

@@ -1,7 +1,13 @@
-ghost use Rattle.std.specs.Prelude.{◌≡◌, ◌||◌, not, ◌*◌, nat_lt, count_by};
+//! The attributes of an event or an engine statement: which stands twice, which is lacking, and
+//! which is misplaced or out of range.
+ghost use Rattle.std.specs.Prelude.{◌≡◌, ◌&&◌, ◌||◌, not, ◌*◌, nat_lt, count_by, is_some};
 ghost use Rattle.std.specs.List.{list_any};
 ghost use Rattle.fm_name.specs.Category.{category_of};
-ghost use Rattle.ev_check.specs.Attributes.{is_fit, is_retire, is_engine, is_within, is_n, is_t, is_trip, is_misplaced, is_odd_trip, is_from, is_odd_number, is_odd_size, unit_length, nanoseconds, is_odd_window, is_odd_time, repeats};
+ghost use Rattle.ev_check.specs.Attributes.{fit_value, retire_value, engine_value, within_value};
+ghost use Rattle.ev_check.specs.Attributes.{n_value, t_value, trip_value, repeats, lacks};
+ghost use Rattle.ev_check.specs.Attributes.{is_misplaced, is_odd_trip, is_from, is_odd_number};
+ghost use Rattle.ev_check.specs.Attributes.{is_odd_size, unit_length, nanoseconds, is_odd_window};
+ghost use Rattle.ev_check.specs.Attributes.{is_odd_time};
 
 use crate::categories::{is_fault, is_report, is_serd, is_upset};
 use ev_tree::{EngineAttr, EventAttr, TimeWord, Unit};
@@ -14,111 +20,136 @@ pub(crate) fn either(one: bool, other: bool) -> bool
     one || other
 }
 
+/// One and the other.
+pub(crate) fn both(one: bool, other: bool) -> bool
+    ensures { result ≡ (one && other) }
+{
+    one && other
+}
+
+/// Whether it is the attribute `FITrate`.
 fn is_fit(attr: &EventAttr) -> bool
-    ensures { result ≡ is_fit attr.now }
+    ensures { result ≡ is_some (fit_value attr.now) }
 {
     matches!(attr, EventAttr::Fit(_))
 }
 
+/// Whether it is the attribute `retire`.
 fn is_retire(attr: &EventAttr) -> bool
-    ensures { result ≡ is_retire attr.now }
+    ensures { result ≡ is_some (retire_value attr.now) }
 {
     matches!(attr, EventAttr::Retire(_))
 }
 
+/// Whether it is the attribute `engine`.
 fn is_engine(attr: &EventAttr) -> bool
-    ensures { result ≡ is_engine attr.now }
+    ensures { result ≡ is_some (engine_value attr.now) }
 {
     matches!(attr, EventAttr::Engine(_))
 }
 
+/// Whether it is the attribute `within`.
 fn is_within(attr: &EventAttr) -> bool
-    ensures { result ≡ is_within attr.now }
+    ensures { result ≡ is_some (within_value attr.now) }
 {
     matches!(attr, EventAttr::Within(_))
 }
 
+/// Whether it is the attribute `N`.
 fn is_n(attr: &EngineAttr) -> bool
-    ensures { result ≡ is_n attr.now }
+    ensures { result ≡ is_some (n_value attr.now) }
 {
     matches!(attr, EngineAttr::N(_))
 }
 
+/// Whether it is the attribute `T`.
 fn is_t(attr: &EngineAttr) -> bool
-    ensures { result ≡ is_t attr.now }
+    ensures { result ≡ is_some (t_value attr.now) }
 {
     matches!(attr, EngineAttr::T(_))
 }
 
+/// Whether it is the attribute `trip`.
 fn is_trip(attr: &EngineAttr) -> bool
-    ensures { result ≡ is_trip attr.now }
+    ensures { result ≡ is_some (trip_value attr.now) }
 {
     matches!(attr, EngineAttr::Trip(_))
 }
 
+/// Whether the attribute `FITrate` stands twice.
 fn repeats_fit(attrs: &[EventAttr]) -> bool
-    ensures { result ≡ repeats is_fit attrs.now }
+    ensures { result ≡ repeats fit_value attrs.now }
 {
     attrs.iter().filter(|attr| is_fit(*attr)).count() > 1
 }
 
+/// Whether the attribute `retire` stands twice.
 fn repeats_retire(attrs: &[EventAttr]) -> bool
-    ensures { result ≡ repeats is_retire attrs.now }
+    ensures { result ≡ repeats retire_value attrs.now }
 {
     attrs.iter().filter(|attr| is_retire(*attr)).count() > 1
 }
 
+/// Whether the attribute `engine` stands twice.
 fn repeats_engine(attrs: &[EventAttr]) -> bool
-    ensures { result ≡ repeats is_engine attrs.now }
+    ensures { result ≡ repeats engine_value attrs.now }
 {
     attrs.iter().filter(|attr| is_engine(*attr)).count() > 1
 }
 
+/// Whether the attribute `within` stands twice.
 fn repeats_within(attrs: &[EventAttr]) -> bool
-    ensures { result ≡ repeats is_within attrs.now }
+    ensures { result ≡ repeats within_value attrs.now }
 {
     attrs.iter().filter(|attr| is_within(*attr)).count() > 1
 }
 
+/// Whether the attribute `N` stands twice.
 fn repeats_n(attrs: &[EngineAttr]) -> bool
-    ensures { result ≡ repeats is_n attrs.now }
+    ensures { result ≡ repeats n_value attrs.now }
 {
     attrs.iter().filter(|attr| is_n(*attr)).count() > 1
 }
 
+/// Whether the attribute `T` stands twice.
 fn repeats_t(attrs: &[EngineAttr]) -> bool
-    ensures { result ≡ repeats is_t attrs.now }
+    ensures { result ≡ repeats t_value attrs.now }
 {
     attrs.iter().filter(|attr| is_t(*attr)).count() > 1
 }
 
+/// Whether the attribute `trip` stands twice.
 fn repeats_trip(attrs: &[EngineAttr]) -> bool
-    ensures { result ≡ repeats is_trip attrs.now }
+    ensures { result ≡ repeats trip_value attrs.now }
 {
     attrs.iter().filter(|attr| is_trip(*attr)).count() > 1
 }
 
-fn any_n(attrs: &[EngineAttr]) -> bool
-    ensures { result ≡ list_any is_n attrs.now }
+/// Whether the attribute `N` is given.
+fn has_n(attrs: &[EngineAttr]) -> bool
+    ensures { result ≡ list_any (λ a. is_some (n_value a)) attrs.now }
 {
     attrs.iter().any(|attr| is_n(attr))
 }
 
-fn any_t(attrs: &[EngineAttr]) -> bool
-    ensures { result ≡ list_any is_t attrs.now }
+/// Whether the attribute `T` is given.
+fn has_t(attrs: &[EngineAttr]) -> bool
+    ensures { result ≡ list_any (λ a. is_some (t_value a)) attrs.now }
 {
     attrs.iter().any(|attr| is_t(attr))
 }
 
-fn any_trip(attrs: &[EngineAttr]) -> bool
-    ensures { result ≡ list_any is_trip attrs.now }
+/// Whether the attribute `trip` is given.
+fn has_trip(attrs: &[EngineAttr]) -> bool
+    ensures { result ≡ list_any (λ a. is_some (trip_value a)) attrs.now }
 {
     attrs.iter().any(|attr| is_trip(attr))
 }
 
-/// An attribute of an event stands twice.
+/// Whether an attribute of an event stands twice.
 pub(crate) fn repeats_in_event(attrs: &[EventAttr]) -> bool
-    ensures { result ≡ ((repeats is_fit attrs.now || repeats is_retire attrs.now) || (repeats is_engine attrs.now || repeats is_within attrs.now)) }
+    ensures { result ≡ ((repeats fit_value attrs.now || repeats retire_value attrs.now)
+        || (repeats engine_value attrs.now || repeats within_value attrs.now)) }
 {
     let fit = repeats_fit(attrs);
     let retire = repeats_retire(attrs);
@@ -127,9 +158,10 @@ pub(crate) fn repeats_in_event(attrs: &[EventAttr]) -> bool
     either(either(fit, retire), either(engine, within))
 }
 
-/// An attribute of an engine stands twice.
+/// Whether an attribute of an engine stands twice.
 pub(crate) fn repeats_in_engine(attrs: &[EngineAttr]) -> bool
-    ensures { result ≡ (repeats is_n attrs.now || (repeats is_t attrs.now || repeats is_trip attrs.now)) }
+    ensures { result ≡ (repeats n_value attrs.now
+        || (repeats t_value attrs.now || repeats trip_value attrs.now)) }
 {
     let n = repeats_n(attrs);
     let t = repeats_t(attrs);
@@ -137,90 +169,95 @@ pub(crate) fn repeats_in_engine(attrs: &[EngineAttr]) -> bool
     either(n, either(t, trip))
 }
 
-/// An engine lacks one of its attributes.
-pub(crate) fn lacks(attrs: &[EngineAttr]) -> bool
-    ensures { result ≡ (not (list_any is_n attrs.now) || (not (list_any is_t attrs.now) || not (list_any is_trip attrs.now))) }
+/// Whether an engine lacks one of its attributes.
+pub(crate) fn lacks_one(attrs: &[EngineAttr]) -> bool
+    ensures { result ≡ (lacks n_value attrs.now ||
+        (lacks t_value attrs.now || lacks trip_value attrs.now)) }
 {
-    let n = any_n(attrs);
-    let t = any_t(attrs);
-    let trip = any_trip(attrs);
+    let n = has_n(attrs);
+    let t = has_t(attrs);
+    let trip = has_trip(attrs);
     either(!n, either(!t, !trip))
 }
 
-/// The attribute may not stand at an event of this class.
+/// Whether the attribute may not stand at an event of this class, or names an engine that is none.
 fn is_misplaced(class: &Class, attr: &EventAttr) -> bool
     ensures { result ≡ is_misplaced (category_of class.now) attr.now }
 {
     match attr {
-        EventAttr::Fit(_) => !is_fault(class),
-        EventAttr::Retire(_) => !is_fault(class),
         EventAttr::Engine(engine) => !(is_upset(class) && is_serd(engine)),
         EventAttr::Within(_) => !is_report(class),
+        _ => !is_fault(class),
     }
 }
 
+/// Whether one of the attributes may not stand at an event of this class.
 pub(crate) fn any_misplaced(class: &Class, attrs: &[EventAttr]) -> bool
     ensures { result ≡ list_any (is_misplaced (category_of class.now)) attrs.now }
 {
     attrs.iter().any(|attr| is_misplaced(class, attr))
 }
 
+/// Whether the attribute names a trip that is no report.
 fn is_odd_trip(attr: &EngineAttr) -> bool
     ensures { result ≡ is_odd_trip attr.now }
 {
     match attr {
-        EngineAttr::N(_) => false,
-        EngineAttr::T(_) => false,
         EngineAttr::Trip(trip) => !is_report(trip),
+        _ => false,
     }
 }
 
+/// Whether one of the attributes names a trip that is no report.
 pub(crate) fn any_odd_trip(attrs: &[EngineAttr]) -> bool
     ensures { result ≡ list_any is_odd_trip attrs.now }
 {
     attrs.iter().any(|attr| is_odd_trip(attr))
 }
 
-/// The number is from the one to the other.
+/// Whether the number is from the one to the other, both included.
 pub(crate) fn is_from(least: u128, most: u128, number: u128) -> bool
     ensures { result ≡ is_from least most number }
 {
     least <= number && number <= most
 }
 
+/// Whether a FIT rate is not from 1 to 4,294,967,295, or a retire flag neither 0 nor 1.
 fn is_odd_number(attr: &EventAttr) -> bool
     ensures { result ≡ is_odd_number attr.now }
 {
     match attr {
         EventAttr::Fit(rate) => !is_from(1, 4_294_967_295, u128::from(*rate)),
         EventAttr::Retire(flag) => !is_from(0, 1, u128::from(*flag)),
-        EventAttr::Engine(_) => false,
-        EventAttr::Within(_) => false,
+        _ => false,
     }
 }
 
+/// Whether a FIT rate or a retire flag is out of range.
 pub(crate) fn any_odd_number(attrs: &[EventAttr]) -> bool
     ensures { result ≡ list_any is_odd_number attrs.now }
 {
     attrs.iter().any(|attr| is_odd_number(attr))
 }
 
+/// Whether the number of events of an engine is not from 1 to 1,024.
 fn is_odd_size(attr: &EngineAttr) -> bool
     ensures { result ≡ is_odd_size attr.now }
 {
     match attr {
         EngineAttr::N(size) => !is_from(1, 1024, u128::from(*size)),
-        EngineAttr::T(_) => false,
-        EngineAttr::Trip(_) => false,
+        _ => false,
     }
 }
 
+/// Whether a number of events of an engine is out of range.
 pub(crate) fn any_odd_size(attrs: &[EngineAttr]) -> bool
     ensures { result ≡ list_any is_odd_size attrs.now }
 {
     attrs.iter().any(|attr| is_odd_size(attr))
 }
 
+/// The nanoseconds of a unit.
 fn unit_length(unit: Unit) -> u64
     ensures { result ≡ unit_length unit }
 {
@@ -242,33 +279,34 @@ pub(crate) fn nanoseconds(word: &TimeWord) -> u128
     u128::from(word.number) * u128::from(unit_length(word.unit))
 }
 
+/// Whether a window is longer than 2^50 nanoseconds.
 fn is_odd_window(attr: &EventAttr) -> bool
     ensures { result ≡ is_odd_window attr.now }
 {
     match attr {
-        EventAttr::Fit(_) => false,
-        EventAttr::Retire(_) => false,
-        EventAttr::Engine(_) => false,
         EventAttr::Within(window) => !is_from(0, 1_125_899_906_842_624, nanoseconds(window)),
+        _ => false,
     }
 }
 
+/// Whether a window is out of range.
 pub(crate) fn any_odd_window(attrs: &[EventAttr]) -> bool
     ensures { result ≡ list_any is_odd_window attrs.now }
 {
     attrs.iter().any(|attr| is_odd_window(attr))
 }
 
+/// Whether the time of an engine is not from 1 to 2^60 nanoseconds.
 fn is_odd_time(attr: &EngineAttr) -> bool
     ensures { result ≡ is_odd_time attr.now }
 {
     match attr {
-        EngineAttr::N(_) => false,
         EngineAttr::T(time) => !is_from(1, 1_152_921_504_606_846_976, nanoseconds(time)),
-        EngineAttr::Trip(_) => false,
+        _ => false,
     }
 }
 
+/// Whether a time of an engine is out of range.
 pub(crate) fn any_odd_time(attrs: &[EngineAttr]) -> bool
     ensures { result ≡ list_any is_odd_time attrs.now }
 {

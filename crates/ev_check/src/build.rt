@@ -1,66 +1,36 @@
-ghost use Rattle.std.specs.Prelude.{◌≡◌, ◌++◌, ◌==◌, min, map, IfOk, OnOk, option_to_list, filter_map};
+//! The checked file that the statements give: their defaults filled in and their numbers resolved.
+ghost use Rattle.std.specs.Prelude.{◌≡◌, ◌++◌, map, IfOk, OnOk, option_to_list, filter_map};
 ghost use Rattle.std.specs.Option.{unwrap_or};
 ghost use Rattle.fm_name.specs.Category.{category_of};
-ghost use Rattle.ev_check.specs.Book.{IsBookOf, event_spec, fit_of, kind_of, linking, retire_of, serd_spec, view_prop, within_of};
+ghost use Rattle.ev_check.specs.Attributes.{engine_value};
+ghost use Rattle.ev_check.specs.CheckedFile.{IsFileOf, event_spec, kind_of, linking, serd_spec};
+ghost use Rattle.ev_check.specs.CheckedFile.{view_prop};
 ghost use Rattle.ev_tree.specs.Pattern.{view_pattern};
 ghost use Rattle.ev_check.specs.Declarations.{engines_in, events_in};
+ghost use Rattle.ev_check.specs.Defaults.{first_by};
 ghost use Rattle.ev_check.specs.Drawn.{number_at};
 ghost use Rattle.ev_check.specs.Faults.{IsChecked};
-ghost use Rattle.ev_check.specs.Firsts.{engine_value, first_by, n_value, t_value};
 
 use crate::checked::{Checked, DeclKind, EventSpec, PropSpec, SerdSpec};
-use crate::firsts::{first_engine, first_fit, first_n, first_retire, first_t, first_within};
-use crate::lost::declared_at;
-use crate::no_memory::NoMemory;
-use crate::roll::Roll;
+use crate::declared_set::DeclaredSet;
+use crate::defaults::{first_engine, fit_of, n_of, retire_of, t_of, within_of};
 use crate::trips::trip_among;
-use ev_tree::{Count, Declared, EngineAttr, EventAttr, Patterns, Statement};
+use crate::undeclared::declared_at;
+use ev_tree::{Count, Declared, EventAttr, Patterns, Statement, copy_patterns};
+use fm_bytes::{Copies, NoMemory};
 use fm_name::Category;
 use std::alloc::Global;
-
-/// The FIT rate.
-fn fit_of(attrs: &[EventAttr]) -> u32
-    ensures { result ≡ fit_of attrs.now }
-{
-    first_fit(attrs).unwrap_or(1).min(4_294_967_295) as u32
-}
-
-/// Whether to retire.
-fn retire_of(attrs: &[EventAttr]) -> bool
-    ensures { result ≡ retire_of attrs.now }
-{
-    first_retire(attrs).unwrap_or(1) == 1
-}
-
-/// The time within which reports come, in nanoseconds.
-fn within_of(attrs: &[EventAttr]) -> u64
-    ensures { result ≡ within_of attrs.now }
-{
-    first_within(attrs)
-        .unwrap_or(5_000_000_000)
-        .min(1_125_899_906_842_624) as u64
-}
-
-fn n_of(attrs: &[EngineAttr]) -> u32
-    ensures { result ≡ min (unwrap_or (first_by n_value attrs.now) 1) 1024 }
-{
-    first_n(attrs).unwrap_or(1).min(1024) as u32
-}
-
-fn t_of(attrs: &[EngineAttr]) -> u64
-    ensures { result ≡ min (unwrap_or (first_by t_value attrs.now) 1) 1152921504606846976 }
-{
-    first_t(attrs).unwrap_or(1).min(1_152_921_504_606_846_976) as u64
-}
 
 /// The number of the engine of an upset.
 fn engine_of(
     alloc: Global,
-    engines: &Roll,
+    engines: &DeclaredSet,
     event: &Declared,
     attrs: &[EventAttr],
 ) -> Result<Option<u32>, NoMemory>
-    ensures { IfOk result (λ number. number ≡ number_at engines.now event.now.names (first_by engine_value attrs.now)) }
+    ensures { IfOk result
+        (λ number. number ≡ number_at engines.now event.now.names
+        (first_by engine_value attrs.now)) }
 {
     match first_engine(attrs) {
         Some(class) => {
@@ -74,17 +44,17 @@ fn engine_of(
 /// What a declared event is.
 fn kind_of(
     alloc: Global,
-    engines: &Roll,
+    engines: &DeclaredSet,
     event: &Declared,
     attrs: &[EventAttr],
 ) -> Result<DeclKind, NoMemory>
-    ensures { IfOk result (λ kind. kind ≡ kind_of engines.now event.now attrs.now (category_of event.now.class)) }
+    ensures { IfOk result
+        (λ kind. kind ≡ kind_of engines.now event.now attrs.now (category_of event.now.class)) }
 {
     match event.class.category() {
         Some(Category::Ereport) => Ok(DeclKind::Report {
             within: within_of(attrs),
         }),
-        Some(Category::Error) => Ok(DeclKind::Inner),
         Some(Category::Fault) => Ok(DeclKind::Fault {
             fit: fit_of(attrs),
             retire: retire_of(attrs),
@@ -97,82 +67,56 @@ fn kind_of(
             let engine = engine_of(alloc, engines, event, attrs)?;
             Ok(DeclKind::Upset { engine })
         }
-        Some(Category::List) => Ok(DeclKind::Inner),
-        Some(Category::Serd) => Ok(DeclKind::Inner),
-        None => Ok(DeclKind::Inner),
+        _ => Ok(DeclKind::Inner),
     }
 }
 
+/// Puts what an event statement gives at the end.
 fn add_event(
     alloc: Global,
-    engines: &Roll,
+    engines: &DeclaredSet,
     statement: &Statement,
     specs: &mut Vec<EventSpec>,
 ) -> Result<(), NoMemory>
-    ensures { OnOk result (specs.new.items ≡ specs.old.items ++ option_to_list (event_spec engines.now statement.now)) }
+    ensures { OnOk result
+        (specs.new.items ≡ specs.old.items
+        ++ option_to_list (event_spec engines.now statement.now)) }
 {
     match statement {
-        Statement::Event {
-            place: _,
-            event,
-            attrs,
-        } => {
+        Statement::Event { event, attrs, .. } => {
             let kind = kind_of(alloc, engines, event, attrs.as_slice())?;
             let event = event.copy(alloc)?;
             specs.push(EventSpec { event, kind })?;
             Ok(())
         }
-        Statement::Engine {
-            place: _,
-            engine: _,
-            attrs: _,
-        } => Ok(()),
-        Statement::Prop {
-            place: _,
-            left: _,
-            n: _,
-            k: _,
-            right: _,
-        } => Ok(()),
+        _ => Ok(()),
     }
 }
 
+/// Puts what an engine statement gives at the end.
 fn add_engine(
     alloc: Global,
-    events: &Roll,
+    events: &DeclaredSet,
     statement: &Statement,
     specs: &mut Vec<SerdSpec>,
 ) -> Result<(), NoMemory>
-    ensures { OnOk result (specs.new.items ≡ specs.old.items ++ option_to_list (serd_spec events.now statement.now)) }
+    ensures { OnOk result
+        (specs.new.items ≡ specs.old.items ++ option_to_list (serd_spec events.now statement.now)) }
 {
     let trip = trip_among(alloc, events, statement)?.unwrap_or(0);
     match statement {
-        Statement::Event {
-            place: _,
-            event: _,
-            attrs: _,
-        } => Ok(()),
-        Statement::Engine {
-            place: _,
-            engine,
-            attrs,
-        } => {
+        Statement::Engine { engine, attrs, .. } => {
             let engine = engine.copy(alloc)?;
             let n = n_of(attrs.as_slice());
             let t = t_of(attrs.as_slice());
             specs.push(SerdSpec { engine, n, t, trip })?;
             Ok(())
         }
-        Statement::Prop {
-            place: _,
-            left: _,
-            n: _,
-            k: _,
-            right: _,
-        } => Ok(()),
+        _ => Ok(()),
     }
 }
 
+/// A propagation of copies of these sides, with N `A` and K 1 where they are not given.
 fn prop_of(
     alloc: Global,
     left: &Patterns,
@@ -180,10 +124,15 @@ fn prop_of(
     k: Option<Count>,
     right: &Patterns,
 ) -> Result<PropSpec, NoMemory>
-    ensures { IfOk result (λ p. view_prop p ≡ record { left = map view_pattern left.now; right = map view_pattern right.now; n = unwrap_or n Count.All; k = unwrap_or k (Count.Number 1) }) }
+    ensures { IfOk result (λ p. view_prop p ≡ record {
+      left = map view_pattern left.now;
+      right = map view_pattern right.now;
+      n = unwrap_or n Count.All;
+      k = unwrap_or k (Count.Number 1);
+    }) }
 {
-    let left = left.copy(alloc)?;
-    let right = right.copy(alloc)?;
+    let left = copy_patterns(alloc, left)?;
+    let right = copy_patterns(alloc, right)?;
     Ok(PropSpec {
         left,
         right,
@@ -192,40 +141,36 @@ fn prop_of(
     })
 }
 
+/// Puts what a propagation statement gives at the end.
 fn add_prop(alloc: Global, statement: &Statement, specs: &mut Vec<PropSpec>) -> Result<(), NoMemory>
-    ensures { OnOk result (map view_prop specs.new.items ≡ map view_prop specs.old.items ++ option_to_list (linking statement.now)) }
+    ensures { OnOk result
+        (map view_prop specs.new.items ≡ map view_prop specs.old.items
+        ++ option_to_list (linking statement.now)) }
 {
     match statement {
-        Statement::Event {
-            place: _,
-            event: _,
-            attrs: _,
-        } => Ok(()),
-        Statement::Engine {
-            place: _,
-            engine: _,
-            attrs: _,
-        } => Ok(()),
         Statement::Prop {
-            place: _,
             left,
             n,
             k,
             right,
+            ..
         } => {
             let prop = prop_of(alloc, left, *n, *k, right)?;
             specs.push(prop)?;
             Ok(())
         }
+        _ => Ok(()),
     }
 }
 
+/// The events of the file.
 fn event_specs(
     alloc: Global,
-    engines: &Roll,
+    engines: &DeclaredSet,
     statements: &[Statement],
 ) -> Result<Vec<EventSpec>, NoMemory>
-    ensures { IfOk result (λ specs. specs.items ≡ filter_map (event_spec engines.now) statements.now) }
+    ensures { IfOk result
+        (λ specs. specs.items ≡ filter_map (event_spec engines.now) statements.now) }
 {
     let mut specs = Vec::new(alloc);
     for statement in statements {
@@ -234,12 +179,14 @@ fn event_specs(
     Ok(specs)
 }
 
+/// The engines of the file.
 fn serd_specs(
     alloc: Global,
-    events: &Roll,
+    events: &DeclaredSet,
     statements: &[Statement],
 ) -> Result<Vec<SerdSpec>, NoMemory>
-    ensures { IfOk result (λ specs. specs.items ≡ filter_map (serd_spec events.now) statements.now) }
+    ensures { IfOk result
+        (λ specs. specs.items ≡ filter_map (serd_spec events.now) statements.now) }
 {
     let mut specs = Vec::new(alloc);
     for statement in statements {
@@ -248,6 +195,7 @@ fn serd_specs(
     Ok(specs)
 }
 
+/// The propagations of the file.
 fn prop_specs(alloc: Global, statements: &[Statement]) -> Result<Vec<PropSpec>, NoMemory>
     ensures { IfOk result (λ specs. map view_prop specs.items ≡ filter_map linking statements.now) }
 {
@@ -262,13 +210,13 @@ fn prop_specs(alloc: Global, statements: &[Statement]) -> Result<Vec<PropSpec>, 
 pub(crate) fn build(
     alloc: Global,
     statements: &[Statement],
-    events: &Roll,
-    engines: &Roll,
+    events: &DeclaredSet,
+    engines: &DeclaredSet,
 ) -> Result<Checked, NoMemory>
     requires events { events.now ≡ events_in statements.now }
     requires engines { engines.now ≡ engines_in statements.now }
     requires checked { IsChecked statements.now }
-    ensures { IfOk result (IsBookOf statements.now) }
+    ensures { IfOk result (IsFileOf statements.now) }
 {
     let event_list = event_specs(alloc, engines, statements)?;
     let engine_list = serd_specs(alloc, events, statements)?;

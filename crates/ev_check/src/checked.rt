@@ -1,14 +1,16 @@
+//! The checked file, and what its lists hold.
 ghost use Rattle.std.specs.Prelude.{◌≡◌, IfOk, map};
-ghost use Rattle.ev_check.specs.Book.{IsCopyOf, view_prop};
+ghost use Rattle.ev_check.specs.CheckedFile.{IsCopyOf, view_prop};
+ghost use Rattle.ev_check.specs.Lawful.{IsLawfulFile};
 ghost use Rattle.ev_check.specs.Sound.{IsSound};
 
-use crate::no_memory::NoMemory;
-use ev_tree::{Count, Declared, Patterns};
+use ev_tree::{Count, Declared, Patterns, copy_patterns};
+use fm_bytes::{Copies, NoMemory};
 use std::alloc::Global;
 use std::marker::Model;
 
-/// What a declared event is, with its defaults: the FIT rate and whether to retire, the number of its engine,
-/// or the nanoseconds within which its reports come.
+/// What a declared event is, with its defaults: the FIT rate and whether to retire, the number of
+/// its engine, or the nanoseconds within which its reports come.
 #[derive(Clone, Copy, Debug, PartialEq, Eq)]
 pub enum DeclKind {
     Fault { fit: u32, retire: bool },
@@ -25,7 +27,8 @@ pub struct EventSpec {
     pub kind: DeclKind,
 }
 
-/// A declared engine: it fires at `n` events within `t` nanoseconds, and the event number `trip` comes of it.
+/// A declared engine: it fires at `n` events within `t` nanoseconds, and the event number `trip`
+/// comes of it.
 #[derive(Drop)]
 pub struct SerdSpec {
     pub engine: Declared,
@@ -43,8 +46,9 @@ pub struct PropSpec {
     pub k: Count,
 }
 
-/// A checked rule file, in order of statements: the place of an event or an engine in its list is its number. Each one
-/// is that of statements at which no phase finds a fault, so its events are declared once and none reaches itself.
+/// A checked rule file, in order of statements: the place of an event or an engine in its list is
+/// its number. Each one is that of statements at which no phase finds a fault, so its events are
+/// declared once and none reaches itself.
 #[derive(Drop)]
 pub struct Checked {
     events: Vec<EventSpec>,
@@ -53,19 +57,30 @@ pub struct Checked {
 }
 
 impl Model for Checked {
-    ghost use Rattle.ev_check.specs.Book.{Book};
+    ghost use Rattle.ev_check.specs.CheckedFile.{CheckedFile};
     ghost use Rattle.ev_tree.specs.contracts.tree.Cond as cond;
     ghost use Rattle.std.specs.Coded.{codes};
 
-    ghost Value = { Book };
+    ghost Value = { CheckedFile };
 
     ghost coded = { Prim.hlevel (codes, cond.the_row.coded) };
 
-    ghost view = { λ c. record { events = c.events.items; engines = c.engines.items; props = c.props.items } };
+    ghost view = { λ c. record {
+      events = c.events.items;
+      engines = c.engines.items;
+      props =
+          c.props.items;
+    } };
 
     ghost use Rattle.ev_check.specs.Sound.{IsSound};
 
-    ghost invariant = { λ c. IsSound (record { events = c.events.items; engines = c.engines.items; props = c.props.items }) };
+    ghost invariant = { λ c.
+        IsSound (record {
+          events = c.events.items;
+          engines = c.engines.items;
+          props =
+              c.props.items;
+        }) };
 }
 
 impl EventSpec {
@@ -101,8 +116,8 @@ impl PropSpec {
     pub fn copy(&self, alloc: Global) -> Result<PropSpec, NoMemory>
         ensures { IfOk result (λ p. view_prop p ≡ view_prop self.now) }
     {
-        let left = self.left.copy(alloc)?;
-        let right = self.right.copy(alloc)?;
+        let left = copy_patterns(alloc, &self.left)?;
+        let right = copy_patterns(alloc, &self.right)?;
         Ok(PropSpec {
             left,
             right,
@@ -112,6 +127,7 @@ impl PropSpec {
     }
 }
 
+/// Equal events.
 fn copy_events(alloc: Global, events: &[EventSpec]) -> Result<Vec<EventSpec>, NoMemory>
     ensures { IfOk result (λ copies. copies.items ≡ events.now) }
 {
@@ -122,6 +138,7 @@ fn copy_events(alloc: Global, events: &[EventSpec]) -> Result<Vec<EventSpec>, No
     Ok(copies)
 }
 
+/// Equal engines.
 fn copy_engines(alloc: Global, engines: &[SerdSpec]) -> Result<Vec<SerdSpec>, NoMemory>
     ensures { IfOk result (λ copies. copies.items ≡ engines.now) }
 {
@@ -132,6 +149,7 @@ fn copy_engines(alloc: Global, engines: &[SerdSpec]) -> Result<Vec<SerdSpec>, No
     Ok(copies)
 }
 
+/// Propagations that are equal but for where their conditions lie in memory.
 fn copy_props(alloc: Global, props: &[PropSpec]) -> Result<Vec<PropSpec>, NoMemory>
     ensures { IfOk result (λ copies. map view_prop copies.items ≡ map view_prop props.now) }
 {
@@ -149,8 +167,18 @@ impl Checked {
         engines: Vec<SerdSpec>,
         props: Vec<PropSpec>,
     ) -> Checked
-        requires { IsSound (record { events = events.items; engines = engines.items; props = props.items }) }
-        ensures { result ≡ record { events = events.items; engines = engines.items; props = props.items } }
+        requires { IsSound (record {
+          events = events.items;
+          engines = engines.items;
+          props =
+              props.items;
+        }) }
+        ensures { result ≡ record {
+          events = events.items;
+          engines = engines.items;
+          props =
+              props.items;
+        } }
     {
         Checked {
             events,
@@ -175,10 +203,13 @@ impl Checked {
         self.engines.as_slice()
     }
 
-    /// The propagations, in order of statements.
+    /// The propagations, in order of statements. Each one's patterns are of declared events and
+    /// stand on their side, its constants are below 2^32, no name is vertical and horizontal in it,
+    /// and no event reaches itself along them.
     pub fn props(&self) -> &[PropSpec]
         ensures items { result.now ≡ self.now.props }
         ensures sound { IsSound self.now }
+        ensures lawful { IsLawfulFile self.now }
     {
         self.props.as_slice()
     }

@@ -1,25 +1,29 @@
+//! The iterators of a propagation statement, and the names that are none.
 ghost use Rattle.std.specs.Prelude.{◌≡◌, ◌||◌, OnOk, IfOk, nat_eq};
 ghost use Rattle.std.specs.List.{list_any};
 ghost use Rattle.indexmap.specs.IndexSet.{contains_text};
-ghost use Rattle.ev_check.specs.Iterators.{Adds, same, goes_down, goes_across, is_down, is_vertical, is_horizontal, is_long, is_free, is_mixed, has_odd_name};
+ghost use Rattle.ev_check.specs.Iterators.{Adds, same_name, goes_down, goes_across, is_down};
+ghost use Rattle.ev_check.specs.Iterators.{is_vertical, is_horizontal, is_long, is_free, is_mixed};
+ghost use Rattle.ev_check.specs.Iterators.{has_odd_name};
 
 use crate::attributes::either;
-use crate::no_memory::NoMemory;
 use crate::operands::operands_at;
 use ev_tree::{At, Operand, Part, SidePattern, TreeText};
+use fm_bytes::NoMemory;
 use indexmap::IndexSet;
 use std::alloc::Global;
 
-/// The two names are the same.
+/// Whether the two names are the same.
 pub(crate) fn is_same(name: &TreeText, other: &TreeText) -> bool
-    ensures { result ≡ same name.now other.now }
+    ensures { result ≡ same_name name.now other.now }
 {
     name.get().as_bytes() == other.get().as_bytes()
 }
 
 /// Puts a name into a set.
 fn add_name(alloc: Global, name: &TreeText, names: &mut IndexSet<String>) -> Result<(), NoMemory>
-    ensures { OnOk result (Adds (contains_text names.old) (contains_text names.new) (λ v. same v name.now)) }
+    ensures { OnOk result
+        (Adds (contains_text names.old) (contains_text names.new) (λ v. same_name v name.now)) }
 {
     let name = String::from_str(alloc, name.get())?;
     names.insert(name)?;
@@ -28,30 +32,32 @@ fn add_name(alloc: Global, name: &TreeText, names: &mut IndexSet<String>) -> Res
 
 /// Puts the vertical iterator of a part into a set, if it has one.
 fn add_down(alloc: Global, part: &Part, names: &mut IndexSet<String>) -> Result<(), NoMemory>
-    ensures { OnOk result (Adds (contains_text names.old) (contains_text names.new) (λ v. goes_down v part.now)) }
+    ensures { OnOk result
+        (Adds (contains_text names.old) (contains_text names.new) (λ v. goes_down v part.now)) }
 {
     match &part.at {
         At::Bare => add_name(alloc, &part.name, names),
         At::Down(name) => add_name(alloc, name, names),
-        At::Number(_) => Ok(()),
-        At::Across(_) => Ok(()),
+        _ => Ok(()),
     }
 }
 
 /// Puts the horizontal iterator of a part into a set, if it has one.
 fn add_across(alloc: Global, part: &Part, names: &mut IndexSet<String>) -> Result<(), NoMemory>
-    ensures { OnOk result (Adds (contains_text names.old) (contains_text names.new) (λ v. goes_across v part.now)) }
+    ensures { OnOk result
+        (Adds (contains_text names.old) (contains_text names.new) (λ v. goes_across v part.now)) }
 {
     match &part.at {
-        At::Bare => Ok(()),
-        At::Down(_) => Ok(()),
-        At::Number(_) => Ok(()),
         At::Across(name) => add_name(alloc, name, names),
+        _ => Ok(()),
     }
 }
 
+/// Puts the vertical iterators of the parts into a set.
 fn add_downs(alloc: Global, parts: &[Part], names: &mut IndexSet<String>) -> Result<(), NoMemory>
-    ensures { OnOk result (Adds (contains_text names.old) (contains_text names.new) (λ v. list_any (goes_down v) parts.now)) }
+    ensures { OnOk result
+        (Adds (contains_text names.old) (contains_text names.new)
+        (λ v. list_any (goes_down v) parts.now)) }
 {
     for part in parts {
         add_down(alloc, part, names)?;
@@ -59,8 +65,11 @@ fn add_downs(alloc: Global, parts: &[Part], names: &mut IndexSet<String>) -> Res
     Ok(())
 }
 
+/// Puts the horizontal iterators of the parts into a set.
 fn add_acrosses(alloc: Global, parts: &[Part], names: &mut IndexSet<String>) -> Result<(), NoMemory>
-    ensures { OnOk result (Adds (contains_text names.old) (contains_text names.new) (λ v. list_any (goes_across v) parts.now)) }
+    ensures { OnOk result
+        (Adds (contains_text names.old) (contains_text names.new)
+        (λ v. list_any (goes_across v) parts.now)) }
 {
     for part in parts {
         add_across(alloc, part, names)?;
@@ -74,7 +83,9 @@ fn add_side(
     side: &[SidePattern],
     names: &mut IndexSet<String>,
 ) -> Result<(), NoMemory>
-    ensures { OnOk result (Adds (contains_text names.old) (contains_text names.new) (λ v. list_any (is_down v) side.now)) }
+    ensures { OnOk result
+        (Adds (contains_text names.old) (contains_text names.new)
+        (λ v. list_any (is_down v) side.now)) }
 {
     for pattern in side {
         add_downs(alloc, pattern.parts.as_slice(), names)?;
@@ -105,68 +116,71 @@ fn horizontals(alloc: Global, pattern: &SidePattern) -> Result<IndexSet<String>,
     Ok(names)
 }
 
-/// The name is in the set.
+/// Whether the name is in the set.
 fn has_name(names: &IndexSet<String>, name: &TreeText) -> bool
     ensures { result ≡ contains_text names.now name.now }
 {
     names.contains(name.get())
 }
 
+/// Whether the name has over 32 bytes.
 fn is_long(name: &TreeText) -> bool
     ensures { result ≡ is_long name.now }
 {
     name.get().len() > 32
 }
 
+/// Whether one of the names has.
 pub(crate) fn any_long(names: &[TreeText]) -> bool
     ensures { result ≡ list_any is_long names.now }
 {
     names.iter().any(|name| is_long(name))
 }
 
+/// Whether the operand is a name that is too long, or in neither of the sets of iterators.
 fn is_free(down: &IndexSet<String>, across: &IndexSet<String>, operand: &Operand) -> bool
     ensures { result ≡ is_free (contains_text down.now) (contains_text across.now) operand.now }
 {
     match operand {
-        Operand::Int(_) => false,
         Operand::Name(name) => {
             let bound = either(has_name(down, name), has_name(across, name));
             either(is_long(name), !bound)
         }
-        Operand::Text(_) => false,
-        Operand::Confprop(_) => false,
-        Operand::Payloadprop(_) => false,
+        _ => false,
     }
 }
 
+/// Whether a name of the part is too long, or a horizontal iterator that is a vertical one too.
 fn is_mixed(down: &IndexSet<String>, part: &Part) -> bool
     ensures { result ≡ is_mixed (contains_text down.now) part.now }
 {
     let behind = match &part.at {
-        At::Bare => false,
         At::Down(name) => is_long(name),
-        At::Number(_) => false,
         At::Across(name) => either(is_long(name), has_name(down, name)),
+        _ => false,
     };
     either(is_long(&part.name), behind)
 }
 
+/// Whether one of the operands is such a name.
 fn any_free(down: &IndexSet<String>, across: &IndexSet<String>, operands: &[Operand]) -> bool
-    ensures { result ≡ list_any (is_free (contains_text down.now) (contains_text across.now)) operands.now }
+    ensures { result ≡ list_any (is_free (contains_text down.now) (contains_text across.now))
+        operands.now }
 {
     operands
         .iter()
         .any(|operand| is_free(down, across, operand))
 }
 
+/// Whether one of the parts has such a name.
 fn any_mixed(down: &IndexSet<String>, parts: &[Part]) -> bool
     ensures { result ≡ list_any (is_mixed (contains_text down.now)) parts.now }
 {
     parts.iter().any(|part| is_mixed(down, part))
 }
 
-/// Some name of the pattern is too long, no iterator, or an iterator of both kinds, where those are the
-/// vertical iterators of its statement.
+/// Whether some name of the pattern is too long, no iterator, or an iterator of both kinds, where
+/// those are the vertical iterators of its statement.
 fn has_odd_name(
     alloc: Global,
     down: &IndexSet<String>,
@@ -181,7 +195,7 @@ fn has_odd_name(
     Ok(either(free, mixed))
 }
 
-/// Some pattern of one side has such a name.
+/// Whether some pattern of a side has such a name.
 pub(crate) fn any_odd_name(
     alloc: Global,
     down: &IndexSet<String>,

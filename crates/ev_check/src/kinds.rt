@@ -1,47 +1,21 @@
+//! The faults of a rule file.
 ghost use Rattle.std.specs.Prelude.{◌≡◌};
 ghost use Rattle.ev_check.specs.declared.kinds.CheckFault.TheVariants.{NoMemory as WantsMemory};
 
-use crate::no_memory;
 use ev_tree::Declared;
-use std::marker::Model;
+use fm_bytes::Items;
 
-/// The members of a cycle, in order: each leads to the next, and the last to the first. Contracts see the list.
-#[derive(Debug, Drop)]
-pub struct Members {
-    items: Vec<Declared>,
-}
-
-impl Model for Members {
-    ghost use Rattle.std.specs.Prelude.{List};
-    ghost use Rattle.ev_tree.specs.declared.tree.Declared.{Declared};
-
-    ghost Value = { List Declared };
-
-    ghost view = { λ m. m.items.items };
-}
-
-impl Members {
-    /// The list of these members.
-    pub fn new(items: Vec<Declared>) -> Self
-        ensures { result ≡ items.items }
-    {
-        Members { items }
-    }
-
-    /// The members, to look at.
-    pub fn as_slice(&self) -> &[Declared]
-        ensures { result.now ≡ self.now }
-    {
-        self.items.as_slice()
-    }
-}
+/// The members of a cycle, in order: each leads to the next, and the last to the first.
+pub type Members = Items<Declared>;
 
 /// What is wrong with a rule file.
 #[derive(Debug, Drop)]
 pub enum CheckKind {
-    /// A class or an attribute of a category that may not stand there, or a property of the payload.
+    /// A class or an attribute of a category that may not stand there, or a property of the
+    /// payload elsewhere than in a right pattern of a report.
     BadKind,
-    /// An attribute that stands twice in its statement, or a statement that declares what an earlier one did.
+    /// An attribute that stands twice in its statement, or a statement that declares what an
+    /// earlier one did.
     Twice,
     /// An engine that lacks `N`, `T` or `trip`.
     Missing,
@@ -68,10 +42,10 @@ pub enum CheckFault {
     NoMemory,
 }
 
-impl From<no_memory::NoMemory> for CheckFault {
+impl From<fm_bytes::NoMemory> for CheckFault {
     ghost from_gives = { λ _ e. e ≡ WantsMemory };
 
-    fn from(_error: no_memory::NoMemory) -> CheckFault {
+    fn from(_error: fm_bytes::NoMemory) -> CheckFault {
         CheckFault::NoMemory
     }
 }

@@ -1,19 +1,22 @@
+//! Events and engines as a set looks for them: by class and names.
 ghost use Rattle.std.specs.Prelude.{◌≡◌, ◌&&◌, ◌++◌, nat_eq, fold, zip};
 ghost use Rattle.std.specs.Cmp.{on_per, on_equiv, partial_equiv_from_equiv};
-ghost use Rattle.std.specs.Cmp.Lexicographic.{pointwise, lists_equiv, nat_list_eq_equiv, bytes_decides};
+ghost use Rattle.std.specs.Cmp.Lexicographic.{pointwise, lists_equiv, nat_list_eq_equiv};
+ghost use Rattle.std.specs.Cmp.Lexicographic.{bytes_decides};
 ghost use Rattle.std.specs.Hash as fed;
 ghost use Rattle.std.specs.Hash.{and-Alike, on_Alike, items_Alike, same_Alike};
 ghost use Rattle.std.specs.List.{flat_map, list_all};
-ghost use Rattle.ev_check.specs.Iterators.{same};
-ghost use Rattle.ev_check.specs.Declarations.{is_alike, words_of};
+ghost use Rattle.ev_check.specs.Iterators.{same_name};
+ghost use Rattle.ev_check.specs.Declarations.{is_alike, class_names};
 
+use crate::attributes::both;
 use crate::iterators::is_same;
 use ev_tree::{Declared, TreeText};
 use std::hash::{Hash, Hasher};
 use std::marker::Model;
 
-/// An event or an engine that is known by its class and its names, so that a set can look for it. Contracts
-/// see what is declared.
+/// An event or an engine that is known by its class and its names, so that a set can look for it.
+/// Contracts see what is declared.
 #[derive(Drop)]
 pub(crate) struct Known {
     item: Declared,
@@ -43,16 +46,9 @@ impl Known {
     }
 }
 
-/// One and the other.
-fn both(one: bool, other: bool) -> bool
-    ensures { result ≡ (one && other) }
-{
-    one && other
-}
-
-/// Each pair of names is the same.
+/// Whether each pair of names is the same, as far as both lists go.
 fn all_same(names: &[TreeText], others: &[TreeText]) -> bool
-    ensures { result ≡ list_all (λ p. same p.0 p.1) (zip names.now others.now) }
+    ensures { result ≡ list_all (λ p. same_name p.0 p.1) (zip names.now others.now) }
 {
     names
         .iter()
@@ -60,16 +56,16 @@ fn all_same(names: &[TreeText], others: &[TreeText]) -> bool
         .all(|(name, other)| is_same(name, other))
 }
 
-/// The names are as many, and each pair is the same.
+/// Whether the names are as many, and each pair is the same.
 #[tactic(auto, using(crate::proofs::Pairing::pairs_same))]
 fn same_names(names: &[TreeText], others: &[TreeText]) -> bool
-    ensures { result ≡ pointwise same names.now others.now }
+    ensures { result ≡ pointwise same_name names.now others.now }
 {
     let paired = all_same(names, others);
     both(names.len() == others.len(), paired)
 }
 
-/// Both have the same class and the same names.
+/// Whether both have the same class and the same names.
 fn is_alike(one: &Declared, other: &Declared) -> bool
     ensures { result ≡ is_alike one.now other.now }
 {
@@ -78,7 +74,7 @@ fn is_alike(one: &Declared, other: &Declared) -> bool
     both(class, names)
 }
 
-/// Feeds each name.
+/// Feeds each name to the hasher.
 fn hash_each<H: Hasher>(names: &[TreeText], state: &mut H)
     ensures { state.new ≡ fold H.write state.old (flat_map fed.str names.now) }
 {
@@ -87,7 +83,7 @@ fn hash_each<H: Hasher>(names: &[TreeText], state: &mut H)
     }
 }
 
-/// Feeds the names, after their number.
+/// Feeds the names to the hasher, after their number.
 fn hash_names<H: Hasher>(names: &[TreeText], state: &mut H)
     ensures { state.new ≡ fold H.write state.old (fed.slice fed.str names.now) }
 {
@@ -98,7 +94,7 @@ fn hash_names<H: Hasher>(names: &[TreeText], state: &mut H)
 impl PartialEq for Known {
     ghost eq = { is_alike };
 
-    ghost laws = { on_per words_of (partial_equiv_from_equiv (lists_equiv nat_list_eq_equiv)) };
+    ghost laws = { on_per class_names (partial_equiv_from_equiv (lists_equiv nat_list_eq_equiv)) };
 
     fn eq(&self, other: &Known) -> bool {
         is_alike(&self.item, &other.item)
@@ -106,13 +102,14 @@ impl PartialEq for Known {
 }
 
 impl Eq for Known {
-    ghost laws = { on_equiv words_of (lists_equiv nat_list_eq_equiv) };
+    ghost laws = { on_equiv class_names (lists_equiv nat_list_eq_equiv) };
 }
 
 impl Hash for Known {
     ghost hash_input = { λ d. fed.str d.class ++ fed.slice fed.str d.names };
 
-    ghost respects_eq = { (and-Alike (on_Alike (λ d. d.class) (same_Alike fed.str bytes_decides)) (on_Alike (λ d. d.names) (items_Alike (same_Alike fed.str bytes_decides)))).fed };
+    ghost respects_eq = { (and-Alike (on_Alike (λ d. d.class) (same_Alike fed.str bytes_decides))
+        (on_Alike (λ d. d.names) (items_Alike (same_Alike fed.str bytes_decides)))).fed };
 
     fn hash<H: Hasher>(&self, state: &mut H) {
         self.item.class.hash(state);

@@ -1,9 +1,10 @@
+//! The operands in a condition, in order.
 ghost use Rattle.std.specs.Prelude.{◌≡◌, ◌++◌, IfOk, OnOk, map};
 ghost use Rattle.ev_tree.specs.Condition.{conditions, view_cond};
 ghost use Rattle.ev_check.specs.Operands.{operands_in, operands_of, operands_at};
 
-use crate::no_memory::NoMemory;
 use ev_tree::{Cond, Operand, SidePattern};
+use fm_bytes::{Copies, NoMemory};
 use std::alloc::Global;
 
 /// Puts a copy of each operand at the end.
@@ -16,9 +17,11 @@ fn gather_sum(alloc: Global, sum: &[Operand], found: &mut Vec<Operand>) -> Resul
     Ok(())
 }
 
+/// Puts a copy of each operand of the conditions at the end, in order.
 #[cycle(gather)]
 fn gather_each(alloc: Global, conds: &[Cond], found: &mut Vec<Operand>) -> Result<(), NoMemory>
-    ensures { OnOk result (found.new.items ≡ found.old.items ++ operands_in (conditions (map view_cond conds.now))) }
+    ensures { let added = operands_in (conditions (map view_cond conds.now)) in
+        OnOk result (found.new.items ≡ found.old.items ++ added) }
 {
     for cond in conds {
         gather(alloc, cond, found)?;
@@ -36,11 +39,7 @@ fn gather(alloc: Global, cond: &Cond, found: &mut Vec<Operand>) -> Result<(), No
         Cond::All(members) => gather_each(alloc, members.as_slice(), found),
         Cond::Not(inner) => gather(alloc, inner, found),
         Cond::Defined(_) => Ok(()),
-        Cond::Compares {
-            left,
-            how: _,
-            right,
-        } => {
+        Cond::Compares { left, right, .. } => {
             gather_sum(alloc, left.as_slice(), found)?;
             gather_sum(alloc, right.as_slice(), found)
         }

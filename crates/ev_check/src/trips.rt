@@ -1,27 +1,31 @@
-ghost use Rattle.std.specs.Prelude.{◌≡◌, ◌<◌, ◌^◌, ◌++◌, ◌∷◌, [], if◌then◌else◌, length, ℕ, Some, IsTrue, false, IfOk, OnOk, IfErr};
+//! The fourth phase: no trip of an engine is reached from an upset.
+ghost use Rattle.std.specs.Prelude.{◌≡◌, ◌<◌, ◌^◌, ◌++◌, ◌∷◌, [], if◌then◌else◌, length, ℕ, Some};
+ghost use Rattle.std.specs.Prelude.{IsTrue, false, IfOk, OnOk, IfErr};
 ghost use Rattle.fm_name.specs.Category.{category_of};
 ghost use Rattle.ev_check.specs.Categories.{is_upset};
 ghost use Rattle.ev_ways.specs.Lists.{AllBelow};
 ghost use Rattle.ev_ways.specs.Search.{AreDistances, far};
 ghost use Rattle.ev_check.specs.Declarations.{events_in};
 ghost use Rattle.ev_check.specs.Drawn.{causes_in, effects_in, trip_among};
-ghost use Rattle.ev_check.specs.Faults.{AreUpsets, IsAnswer, IsTripAnswer, IsTripFree, has_far, IsTripped};
+ghost use Rattle.ev_check.specs.Faults.{AreUpsets, IsAnswer, IsTripAnswer, IsTripFree, has_far};
+ghost use Rattle.ev_check.specs.Faults.{IsTripped};
 
 use crate::categories::is_upset;
-use crate::firsts::first_trip;
+use crate::declared_set::DeclaredSet;
+use crate::defaults::first_trip;
 use crate::kinds::{CheckFault, CheckKind};
 use crate::known::Known;
-use crate::lost::declared_at;
-use crate::no_memory::NoMemory;
-use crate::phases::place_of;
-use crate::roll::Roll;
+use crate::undeclared::declared_at;
 use ev_tree::Statement;
 use ev_ways::Arrows;
+use fm_bytes::NoMemory;
 use std::alloc::Global;
 
 /// Puts the number of an event at the end, if it is an upset.
 fn add_upset(event: &Known, number: u32, starts: &mut Vec<u32>) -> Result<(), NoMemory>
-    ensures { OnOk result (starts.new.items ≡ (if is_upset (category_of event.now.class) then starts.old.items ++ number ∷ [] else starts.old.items)) }
+    ensures { OnOk result
+        (starts.new.items ≡ (if is_upset (category_of event.now.class) then starts.old.items
+        ++ number ∷ [] else starts.old.items)) }
 {
     if is_upset(&event.get().class) {
         starts.push(number)?;
@@ -45,38 +49,24 @@ fn upsets(alloc: Global, events: &[Known]) -> Result<Vec<u32>, NoMemory>
 /// The number of the trip of an engine statement.
 pub(crate) fn trip_among(
     alloc: Global,
-    events: &Roll,
+    events: &DeclaredSet,
     statement: &Statement,
 ) -> Result<Option<u32>, NoMemory>
     ensures { IfOk result (λ trip. trip ≡ trip_among events.now statement.now) }
 {
     match statement {
-        Statement::Event {
-            place: _,
-            event: _,
-            attrs: _,
-        } => Ok(None),
-        Statement::Engine {
-            place: _,
-            engine,
-            attrs,
-        } => match first_trip(attrs.as_slice()) {
+        Statement::Engine { engine, attrs, .. } => match first_trip(attrs.as_slice()) {
             Some(class) => {
                 let wanted = declared_at(alloc, class, &engine.names)?;
                 Ok(events.find(&wanted))
             }
             None => Ok(None),
         },
-        Statement::Prop {
-            place: _,
-            left: _,
-            n: _,
-            k: _,
-            right: _,
-        } => Ok(None),
+        _ => Ok(None),
     }
 }
 
+/// The distance of a node, where it has one.
 fn distance_of(distance: &[Option<u32>], node: u32) -> Option<u32>
     ensures { result ≡ far distance.now node }
 {
@@ -86,7 +76,7 @@ fn distance_of(distance: &[Option<u32>], node: u32) -> Option<u32>
     }
 }
 
-/// The node is there, and has a distance.
+/// Whether the node is there, and has a distance.
 fn has_distance(distance: &[Option<u32>], node: Option<u32>) -> bool
     ensures { result ≡ has_far distance.now node }
 {
@@ -100,13 +90,14 @@ fn has_distance(distance: &[Option<u32>], node: Option<u32>) -> bool
 fn find_trip(
     alloc: Global,
     statements: &[Statement],
-    events: &Roll,
+    events: &DeclaredSet,
     starts: &[u32],
     distance: &[Option<u32>],
 ) -> Result<(), CheckFault>
     requires events { events.now ≡ events_in statements.now }
     requires starts { AreUpsets events.now starts.now }
-    requires distance { AreDistances (causes_in statements.now) (effects_in statements.now) starts.now distance.now }
+    requires distance { AreDistances (causes_in statements.now) (effects_in statements.now)
+        starts.now distance.now }
     ensures ok { OnOk result (IsTripFree statements.now) }
     ensures err { IfErr result (IsAnswer (IsTripAnswer statements.now)) }
 {
@@ -114,7 +105,7 @@ fn find_trip(
         let trip = trip_among(alloc, events, statement)?;
         if has_distance(distance, trip) {
             return Err(CheckFault::At {
-                place: place_of(statement),
+                place: statement.place(),
                 kind: CheckKind::UpsetTrips,
             });
         }
@@ -126,7 +117,7 @@ fn find_trip(
 pub(crate) fn check_trips(
     alloc: Global,
     statements: &[Statement],
-    events: &Roll,
+    events: &DeclaredSet,
     arrows: &Arrows,
 ) -> Result<(), CheckFault>
     requires events { events.now ≡ events_in statements.now }
@@ -137,10 +128,7 @@ pub(crate) fn check_trips(
     ensures err { IfErr result (IsAnswer (IsTripAnswer statements.now)) }
 {
     let starts = upsets(alloc, events.as_slice())?;
-    let distance = match arrows.distances(alloc, starts.as_slice()) {
-        Ok(distance) => distance,
-        Err(_) => return Err(CheckFault::NoMemory),
-    };
+    let distance = arrows.distances(alloc, starts.as_slice())?;
     find_trip(
         alloc,
         statements,

@@ -1,20 +1,26 @@
 -- A piece has one byte at least, and no more than the text.
-use Rattle.std.proofs.Common.{◌≡◌, ℕ, ◌+◌, ◌^◌, ◌<◌, ◌≤◌, ◌&&◌, ◌==◌, List, [], ◌∷◌, length, take, drop, Bool, true, false, nat_le, if◌then◌else◌, Option, Some, None, arith, length-drop, subst, refl}
+use Rattle.std.proofs.Common.{◌≡◌, ℕ, ◌+◌, ◌^◌, ◌<◌, ◌≤◌, ◌&&◌, ◌==◌, List, [], ◌∷◌, length, take}
+use Rattle.std.proofs.Common.{drop, Bool, true, false, nat_le, if◌then◌else◌, Option, Some, None}
+use Rattle.std.proofs.Common.{arith, length-drop, subst, refl}
 use Rattle.std.specs.Char.{is_ascii_alphabetic, is_ascii_digit}
 use Rattle.std.specs.List.{prefix_len}
-use Rattle.std.specs.Option.{option_map}
+use Rattle.std.specs.Option.{option_map, is_none}
 use Rattle.std.proofs.lemmas.List.Sums.{prefix_len-le-length}
 use Rattle.std.proofs.lemmas.List.Folds.{length-prefix_len}
 use Rattle.std.proofs.lemmas.Option.{same_Some}
 use Rattle.std.proofs.lemmas.Bool.Decides.{nat_tests}
-use Rattle.ev_lex.specs.Bytes.{count_while, opens, is_word_byte, is_text_byte, is_in_line, is_blank, number_of}
-use Rattle.ev_lex.specs.Pieces.{goes_on, word_length, word_piece, number_piece, text_piece, punct_piece, comment_piece, parts_fit, is_unit, opens_pair, opens_single, closing, piece, size}
+use Rattle.ev_lex.specs.Bytes.{count_while, opens, is_word_byte, is_text_byte, is_in_line, is_blank}
+use Rattle.ev_lex.specs.Bytes.{int_value}
+use Rattle.ev_lex.specs.Pieces.{goes_on, word_length, word_piece, number_piece, text_piece}
+use Rattle.ev_lex.specs.Pieces.{punct_piece, comment_piece, parts_fit, is_unit, opens_pair}
+use Rattle.ev_lex.specs.Pieces.{opens_single, closing, piece, size}
 use Rattle.ev_lex.specs.declared.piece.Piece.{Piece}
 use Rattle.ev_lex.specs.declared.piece.Piece.TheVariants as pieces
 use Rattle.ev_lex.specs.declared.token.Kind.TheVariants as kinds
 
 -- either way of a choice gives P
-pub choose : {A P : Type 0} (b : Bool) (x y z : A) → (if b then x else y) ≡ z → (b ≡ true → x ≡ z → P) → (b ≡ false → y ≡ z → P) → P
+pub choose : {A P : Type 0} (b : Bool) (x y z : A) → (if b then x else y) ≡ z
+    → (b ≡ true → x ≡ z → P) → (b ≡ false → y ≡ z → P) → P
 choose true x y z e yes' no' = yes' refl e
 choose false x y z e yes' no' = no' refl e
 
@@ -30,9 +36,11 @@ it_is n x p e some most =
     record { some = subst (λ q. 0 < size q) same some; most = subst (λ q. size q ≤ n) same most }
 
 pub count_while-le : (test : ℕ → Bool) (bytes : List ℕ) → count_while test bytes ≤ length bytes
-count_while-le test bytes = omega (arith, length-prefix_len test bytes, prefix_len-le-length test bytes)
+count_while-le test bytes =
+    omega (arith, length-prefix_len test bytes, prefix_len-le-length test bytes)
 
-pub count_while-cons : (test : ℕ → Bool) (b : ℕ) (bs : List ℕ) → test b ≡ true → 0 < count_while test (b ∷ bs)
+pub count_while-cons : (test : ℕ → Bool) (b : ℕ) (bs : List ℕ) → test b ≡ true
+    → 0 < count_while test (b ∷ bs)
 count_while-cons test b bs e =
     let first : prefix_len test (b ∷ bs) ≡ 1 + prefix_len test bs = rw e refl in
     omega (arith, length-prefix_len test (b ∷ bs), first)
@@ -47,7 +55,8 @@ both_open : (b : ℕ) (bs : List ℕ) → (b == 42 && opens 47 bs) ≡ true → 
 both_open b [] t = grind (arith, nat_tests)
 both_open b (c ∷ cs) t = omega arith
 
-closing_more : (b : ℕ) (bs : List ℕ) (o : Option ℕ) (n : ℕ) → ((k : ℕ) → o ≡ Some k → k ≤ length bs) → option_map (λ k. 1 + k) o ≡ Some n → n ≤ length (b ∷ bs)
+closing_more : (b : ℕ) (bs : List ℕ) (o : Option ℕ) (n : ℕ) → ((k : ℕ) → o ≡ Some k → k ≤ length bs)
+    → option_map (λ k. 1 + k) o ≡ Some n → n ≤ length (b ∷ bs)
 closing_more b bs None n most e = grind arith
 closing_more b bs (Some k) n most e = omega (arith, most k refl, same_Some (1 + k) n e)
 
@@ -69,15 +78,19 @@ word_first b bs t =
     let more : word_length (b ∷ bs) ≡ 1 + word_length bs = rw on refl in
     omega (arith, more)
 
-word_fits : (b : ℕ) (bs : List ℕ) (p : Piece) → is_ascii_alphabetic b ≡ true → word_piece (b ∷ bs) ≡ Some p → Within (length (b ∷ bs)) p
+word_fits : (b : ℕ) (bs : List ℕ) (p : Piece) → is_ascii_alphabetic b ≡ true
+    → word_piece (b ∷ bs) ≡ Some p → Within (length (b ∷ bs)) p
 unfolding word_piece
 word_fits b bs p t e =
     let n = word_length (b ∷ bs) in
-    choose (nat_le n 255 && parts_fit (take n (b ∷ bs))) (Some (pieces.Lexeme kinds.Word n)) None (Some p) e
-    (λ _ h. it_is (length (b ∷ bs)) (pieces.Lexeme kinds.Word n) p h (word_first b bs t) (word_length-le (b ∷ bs)))
+    choose (nat_le n 255 && parts_fit (take n (b ∷ bs))) (Some (pieces.Lexeme kinds.Word n)) None
+    (Some p) e
+    (λ _ h. it_is (length (b ∷ bs)) (pieces.Lexeme kinds.Word n) p h (word_first b bs t)
+    (word_length-le (b ∷ bs)))
     (λ _ h. absurd (grind arith))
 
-number_fits : (b : ℕ) (bs : List ℕ) (p : Piece) → is_ascii_digit b ≡ true → number_piece (b ∷ bs) ≡ Some p → Within (length (b ∷ bs)) p
+number_fits : (b : ℕ) (bs : List ℕ) (p : Piece) → is_ascii_digit b ≡ true
+    → number_piece (b ∷ bs) ≡ Some p → Within (length (b ∷ bs)) p
 unfolding number_piece
 number_fits b bs p t e =
     let text = b ∷ bs in
@@ -87,11 +100,12 @@ number_fits b bs p t e =
     let most : n ≤ length text = count_while-le is_ascii_digit text in
     let after : m ≤ length (drop n text) = count_while-le is_word_byte (drop n text) in
     let both : n + m ≤ length text = omega (arith, length-drop n text) in
-    choose (nat_le (2 ^ 64) (number_of (take n text))) None _ (Some p) e
+    choose (is_none (int_value (take n text))) None _ (Some p) e
     (λ _ h. absurd (grind arith))
     (λ _ h. choose (m == 0) (Some (pieces.Lexeme kinds.Int n)) _ (Some p) h
     (λ _ i. it_is (length text) (pieces.Lexeme kinds.Int n) p i some most)
-    (λ _ i. choose (is_unit (take m (drop n text))) (Some (pieces.Lexeme kinds.Time (n + m))) None (Some p) i
+    (λ _ i. choose (is_unit (take m (drop n text))) (Some (pieces.Lexeme kinds.Time (n + m))) None
+    (Some p) i
     (λ _ j. it_is (length text) (pieces.Lexeme kinds.Time (n + m)) p j (omega arith) both)
     (λ _ j. absurd (grind arith))))
 
@@ -113,24 +127,29 @@ opens_pair_two [] t = grind arith
 opens_pair_two (a ∷ []) t = grind arith
 opens_pair_two (a ∷ b ∷ others) t = omega arith
 
-punct_fits : (b : ℕ) (bs : List ℕ) (p : Piece) → punct_piece (b ∷ bs) ≡ Some p → Within (length (b ∷ bs)) p
+punct_fits : (b : ℕ) (bs : List ℕ) (p : Piece) → punct_piece (b ∷ bs) ≡ Some p
+    → Within (length (b ∷ bs)) p
 unfolding punct_piece
 punct_fits b bs p e =
     choose (opens_pair (b ∷ bs)) (Some (pieces.Lexeme kinds.Punct 2)) _ (Some p) e
-    (λ t h. it_is (length (b ∷ bs)) (pieces.Lexeme kinds.Punct 2) p h (omega arith) (opens_pair_two (b ∷ bs) t))
+    (λ t h. it_is (length (b ∷ bs)) (pieces.Lexeme kinds.Punct 2) p h (omega arith)
+    (opens_pair_two (b ∷ bs) t))
     (λ _ h. choose (opens_single (b ∷ bs)) (Some (pieces.Lexeme kinds.Punct 1)) None (Some p) h
     (λ _ i. it_is (length (b ∷ bs)) (pieces.Lexeme kinds.Punct 1) p i (omega arith) (omega arith))
     (λ _ i. absurd (grind arith)))
 
-comment_at : (n : ℕ) (bytes : List ℕ) (o : Option ℕ) (p : Piece) → closing bytes ≡ o → length bytes + 2 ≤ n → option_map (λ k. pieces.Comment (k + 2)) o ≡ Some p → Within n p
+comment_at : (n : ℕ) (bytes : List ℕ) (o : Option ℕ) (p : Piece) → closing bytes ≡ o
+    → length bytes + 2 ≤ n → option_map (λ k. pieces.Comment (k + 2)) o ≡ Some p → Within n p
 comment_at n bytes None p is room e = absurd (grind arith)
 comment_at n bytes (Some k) p is room e =
     it_is n (pieces.Comment (k + 2)) p e (omega arith) (omega (arith, closing-le bytes k is))
 
-comment_fits : (b : ℕ) (bs : List ℕ) (p : Piece) → opens 42 bs ≡ true → comment_piece (drop 1 bs) ≡ Some p → Within (length (b ∷ bs)) p
+comment_fits : (b : ℕ) (bs : List ℕ) (p : Piece) → opens 42 bs ≡ true
+    → comment_piece (drop 1 bs) ≡ Some p → Within (length (b ∷ bs)) p
 unfolding comment_piece
 comment_fits b bs p t e =
-    comment_at (length (b ∷ bs)) (drop 1 bs) (closing (drop 1 bs)) p refl (omega (arith, length-drop 1 bs, opens_some 42 bs t)) e
+    comment_at (length (b ∷ bs)) (drop 1 bs) (closing (drop 1 bs)) p refl
+    (omega (arith, length-drop 1 bs, opens_some 42 bs t)) e
 
 skipped_first : (line : Bool) (b : ℕ) → (line && b == 35) ≡ true → is_in_line b ≡ true
 skipped_first line b t = grind (arith, nat_tests)
@@ -138,24 +157,45 @@ skipped_first line b t = grind (arith, nat_tests)
 opens_second : (b : ℕ) (bs : List ℕ) → (b == 47 && opens 42 bs) ≡ true → opens 42 bs ≡ true
 opens_second b bs t = grind (arith, nat_tests)
 
+-- what begins a text, by what its first byte is
+pub by_piece : {P : Type 0} (line : Bool) (b : ℕ) (bs : List ℕ) (p : Piece)
+    → piece line (b ∷ bs) ≡ Some p
+    → (Some pieces.Newline ≡ Some p → P)
+    → (Some pieces.Blank ≡ Some p → P)
+    → ((line && b == 35) ≡ true → Some (pieces.Skipped (count_while is_in_line (b ∷ bs))) ≡ Some p
+    → P)
+    → (opens 42 bs ≡ true → comment_piece (drop 1 bs) ≡ Some p → P)
+    → (is_ascii_alphabetic b ≡ true → word_piece (b ∷ bs) ≡ Some p → P)
+    → (is_ascii_digit b ≡ true → number_piece (b ∷ bs) ≡ Some p → P)
+    → ((b == 34) ≡ true → text_piece bs ≡ Some p → P)
+    → (punct_piece (b ∷ bs) ≡ Some p → P) → P
+unfolding piece
+by_piece line b bs p e newline blank skipped comment word number text punct =
+    choose (b == 10) (Some pieces.Newline) _ (Some p) e (λ _ h. newline h)
+    (λ _ h. choose (is_blank b) (Some pieces.Blank) _ (Some p) h (λ _ i. blank i)
+    (λ _ i. choose (line && b == 35) (Some (pieces.Skipped (count_while is_in_line (b ∷ bs)))) _
+    (Some p) i
+    (λ t j. skipped t j)
+    (λ _ j. choose (b == 47 && opens 42 bs) (comment_piece (drop 1 bs)) _ (Some p) j
+    (λ t k. comment (opens_second b bs t) k)
+    (λ _ k. choose (is_ascii_alphabetic b) (word_piece (b ∷ bs)) _ (Some p) k (λ t l. word t l)
+    (λ _ l. choose (is_ascii_digit b) (number_piece (b ∷ bs)) _ (Some p) l (λ t m. number t m)
+    (λ _ m. choose (b == 34) (text_piece bs) (punct_piece (b ∷ bs)) (Some p) m (λ t o. text t o)
+    (λ _ o. punct o)))))))
+
 -- what begins a text has one byte at least, and no more than the text
-pub piece_fits : (line : Bool) (text : List ℕ) (p : Piece) → piece line text ≡ Some p → Within (length text) p
+pub piece_fits : (line : Bool) (text : List ℕ) (p : Piece) → piece line text ≡ Some p
+    → Within (length text) p
 unfolding piece
 piece_fits line [] p e = absurd (grind arith)
-piece_fits line (b ∷ bs) p e =
-    choose (b == 10) (Some pieces.Newline) _ (Some p) e
-    (λ _ h. it_is (length (b ∷ bs)) pieces.Newline p h (omega arith) (omega arith))
-    (λ _ h. choose (is_blank b) (Some pieces.Blank) _ (Some p) h
-    (λ _ i. it_is (length (b ∷ bs)) pieces.Blank p i (omega arith) (omega arith))
-    (λ _ i. choose (line && b == 35) (Some (pieces.Skipped (count_while is_in_line (b ∷ bs)))) _ (Some p) i
-    (λ t j. it_is (length (b ∷ bs)) (pieces.Skipped (count_while is_in_line (b ∷ bs))) p j
-    (count_while-cons is_in_line b bs (skipped_first line b t)) (count_while-le is_in_line (b ∷ bs)))
-    (λ _ j. choose (b == 47 && opens 42 bs) (comment_piece (drop 1 bs)) _ (Some p) j
-    (λ t k. comment_fits b bs p (opens_second b bs t) k)
-    (λ _ k. choose (is_ascii_alphabetic b) (word_piece (b ∷ bs)) _ (Some p) k
-    (λ t l. word_fits b bs p t l)
-    (λ _ l. choose (is_ascii_digit b) (number_piece (b ∷ bs)) _ (Some p) l
-    (λ t m. number_fits b bs p t m)
-    (λ _ m. choose (b == 34) (text_piece bs) (punct_piece (b ∷ bs)) (Some p) m
-    (λ _ o. text_fits b bs p o)
-    (λ _ o. punct_fits b bs p o)))))))
+piece_fits line (b ∷ bs) p e = by_piece line b bs p e
+    (λ h. it_is (length (b ∷ bs)) pieces.Newline p h (omega arith) (omega arith))
+    (λ h. it_is (length (b ∷ bs)) pieces.Blank p h (omega arith) (omega arith))
+    (λ t h. it_is (length (b ∷ bs)) (pieces.Skipped (count_while is_in_line (b ∷ bs))) p h
+    (count_while-cons is_in_line b bs (skipped_first line b t))
+    (count_while-le is_in_line (b ∷ bs)))
+    (λ t h. comment_fits b bs p t h)
+    (λ t h. word_fits b bs p t h)
+    (λ t h. number_fits b bs p t h)
+    (λ t h. text_fits b bs p h)
+    (λ h. punct_fits b bs p h)

@@ -1,3 +1,3 @@
-pub mod Numbers
 pub mod Fits
 pub mod Reach
+mod Shapes

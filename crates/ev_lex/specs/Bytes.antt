@@ -1,7 +1,8 @@
 -- The bytes of a rule text, by what they may stand in.
-use Rattle.std.specs.Prelude.{ℕ, Bool, false, ◌&&◌, ◌||◌, ◌==◌, ◌-◌, not, List, [], ◌∷◌, length, map, nat_le}
+use Rattle.std.specs.Prelude.{ℕ, Bool, false, ◌&&◌, ◌||◌, ◌==◌, not, List, [], ◌∷◌, length, nat_le}
+use Rattle.std.specs.Prelude.{Option}
 use Rattle.std.specs.Char.{is_ascii_alphanumeric}
-use Rattle.std.specs.Int.Digits.{number_from_digits}
+use Rattle.fm_bytes.specs.Decimals.{digits_within}
 use Rattle.std.specs.List.{take_while}
 
 -- how many bytes from the front on pass a test
@@ -34,6 +35,6 @@ is_in_line b = not (b == 10)
 abbrev pub is_blank : ℕ → Bool
 is_blank b = (b == 32 || b == 9) || b == 13
 
--- the number that a run of decimal digits writes; it may begin with zeros
-abbrev pub number_of : List ℕ → ℕ
-number_of digits = number_from_digits 10 (map (λ d. d - 48) digits)
+-- the number that a run of decimal digits writes, where it is below 2 ^ 64; it may begin with zeros
+abbrev pub int_value : List ℕ → Option ℕ
+int_value digits = digits_within 18446744073709551615 digits

@@ -1,5 +1,6 @@
 -- A rule text cut into its pieces, its tokens, and the place at which nothing begins.
-use Rattle.std.specs.Prelude.{◌≡◌, ◌≢◌, ℕ, Bool, true, ◌+◌, ◌<◌, ◌≤◌, List, [], ◌∷◌, ◌++◌, drop, Some, None}
+use Rattle.std.specs.Prelude.{◌≡◌, ◌≢◌, ℕ, Bool, true, ◌+◌, ◌<◌, ◌≤◌, List, [], ◌∷◌, ◌++◌, drop}
+use Rattle.std.specs.Prelude.{Some, None}
 use Rattle.ev_lex.specs.Pieces.{piece, size, line_after}
 use Rattle.ev_lex.specs.declared.piece.Piece.{Piece}
 use Rattle.ev_lex.specs.declared.piece.Piece.TheVariants as pieces
@@ -10,7 +11,8 @@ use Rattle.ev_lex.specs.declared.fault.LexFault.TheVariants as faults
 -- the text is cut into these pieces, one after another, and the rest
 abbrev pub IsCut : Bool → List ℕ → List Piece → List ℕ → Type 0
 IsCut line text [] rest = text ≡ rest
-IsCut line text (p ∷ ps) rest = (piece line text ≡ Some p) × IsCut (line_after line p) (drop (size p) text) ps rest
+IsCut line text (p ∷ ps) rest = (piece line text ≡ Some p)
+    × IsCut (line_after line p) (drop (size p) text) ps rest
 
 -- the token of a piece at this place, where it is one
 abbrev pub lexeme : ℕ → Piece → List Token

@@ -1,14 +1,19 @@
--- The pieces of a rule text: tokens, blanks, comments and skipped lines, each by what begins a text.
-use Rattle.std.specs.Prelude.{ℕ, Bool, true, false, ◌&&◌, ◌||◌, ◌==◌, ◌+◌, ◌^◌, nat_le, if◌then◌else◌, List, [], ◌∷◌, length, take, drop, Option, Some, None, codes}
+-- The pieces of a rule text: tokens, blanks, comments and skipped lines, each by what begins a
+-- text.
+use Rattle.std.specs.Prelude.{ℕ, Bool, true, false, ◌&&◌, ◌||◌, ◌==◌, ◌+◌, ◌^◌, nat_le}
+use Rattle.std.specs.Prelude.{if◌then◌else◌, List, [], ◌∷◌, length, take, drop, Option, Some, None}
+use Rattle.std.specs.Prelude.{codes}
 use Rattle.std.specs.Char.{is_ascii_alphabetic, is_ascii_digit}
 use Rattle.std.specs.List.{list_all, slice_split}
-use Rattle.std.specs.Option.{option_map}
-use Rattle.ev_lex.specs.Bytes.{count_while, opens, is_word_byte, opens_word, is_text_byte, is_in_line, is_blank, number_of}
+use Rattle.std.specs.Option.{option_map, is_none}
+use Rattle.ev_lex.specs.Bytes.{count_while, opens, is_word_byte, opens_word, is_text_byte}
+use Rattle.ev_lex.specs.Bytes.{is_in_line, is_blank, int_value}
 use Rattle.ev_lex.specs.declared.token.Kind.TheVariants as kinds
 use Rattle.ev_lex.specs.declared.piece.Piece.{Piece}
 use Rattle.ev_lex.specs.declared.piece.Piece.TheVariants as pieces
 
--- The byte belongs to a word, of which bs follow: a letter, a digit or `_`, or a `-` or `.` before one of these.
+-- The byte belongs to a word, of which bs follow: a letter, a digit or `_`, or a `-` or `.` before
+-- one of these.
 abbrev pub goes_on : ℕ → List ℕ → Bool
 goes_on b bs = is_word_byte b || ((b == 45 || b == 46) && opens_word bs)
 
@@ -28,25 +33,26 @@ word_piece text =
     if nat_le n 255 && parts_fit (take n text) then Some (pieces.Lexeme kinds.Word n) else None
 
 -- the two byte strings are the same
-abbrev pub same : List ℕ → List ℕ → Bool
-same [] [] = true
-same [] (b ∷ bs) = false
-same (a ∷ as') [] = false
-same (a ∷ as') (b ∷ bs) = a == b && same as' bs
+abbrev pub same_bytes : List ℕ → List ℕ → Bool
+same_bytes [] [] = true
+same_bytes [] (b ∷ bs) = false
+same_bytes (a ∷ as') [] = false
+same_bytes (a ∷ as') (b ∷ bs) = a == b && same_bytes as' bs
 
 -- a unit of time
 abbrev pub is_unit : List ℕ → Bool
 is_unit bs =
-    (((((same bs (codes "ns") || same bs (codes "us")) || same bs (codes "ms")) || same bs (codes "s"))
-    || same bs (codes "m")) || same bs (codes "h")) || same bs (codes "d")
+    (((((same_bytes bs (codes "ns") || same_bytes bs (codes "us")) || same_bytes bs (codes "ms"))
+    || same_bytes bs (codes "s")) || same_bytes bs (codes "m")) || same_bytes bs (codes "h"))
+    || same_bytes bs (codes "d")
 
--- An Int or a Time: digits, then nothing or a unit, as far as letters, digits and `_` follow; the digits
--- write a number below 2 ^ 64.
+-- An Int or a Time: digits, then nothing or a unit, as far as letters, digits and `_` follow; the
+-- digits write a number below 2 ^ 64.
 unfoldable pub number_piece : List ℕ → Option Piece
 number_piece text =
     let n = count_while is_ascii_digit text in
     let m = count_while is_word_byte (drop n text) in
-    if nat_le (2 ^ 64) (number_of (take n text)) then None
+    if is_none (int_value (take n text)) then None
     else (if m == 0 then Some (pieces.Lexeme kinds.Int n)
     else (if is_unit (take m (drop n text)) then Some (pieces.Lexeme kinds.Time (n + m))
     else None))
@@ -60,13 +66,15 @@ text_piece rest =
 -- punctuation of two bytes
 abbrev pub is_pair : ℕ → ℕ → Bool
 is_pair a b =
-    ((((((a == 45 && b == 62) || (a == 60 && b == 61)) || (a == 62 && b == 61)) || (a == 61 && b == 61))
+    ((((((a == 45 && b == 62) || (a == 60 && b == 61)) || (a == 62 && b == 61)) ||
+    (a == 61 && b == 61))
     || (a == 33 && b == 61)) || (a == 38 && b == 38)) || (a == 124 && b == 124)
 
 -- punctuation of one byte: `@` `/` `,` `;` `=` `(` `)` `[` `]` `{` `}` `<` `>` `!` `+`
 abbrev pub is_single : ℕ → Bool
 is_single a =
-    ((((((((((((((a == 64 || a == 47) || a == 44) || a == 59) || a == 61) || a == 40) || a == 41) || a == 91)
+    ((((((((((((((a == 64 || a == 47) || a == 44) || a == 59) || a == 61) || a == 40) || a == 41) ||
+    a == 91)
     || a == 93) || a == 123) || a == 125) || a == 60) || a == 62) || a == 33) || a == 43)
 
 -- the first two bytes are punctuation of two bytes
@@ -96,7 +104,8 @@ closing (b ∷ bs) = if b == 42 && opens 47 bs then Some 2 else option_map (λ n
 unfoldable pub comment_piece : List ℕ → Option Piece
 comment_piece rest = option_map (λ n. pieces.Comment (n + 2)) (closing rest)
 
--- What begins the text, or None where nothing does; line says whether only blanks stand before it in its line.
+-- What begins the text, or None where nothing does; line says whether only blanks stand before it
+-- in its line.
 unfoldable pub piece : Bool → List ℕ → Option Piece
 piece line [] = None
 piece line (b ∷ bs) =

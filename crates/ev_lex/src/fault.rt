@@ -1,3 +1,5 @@
+//! Why a text has no tokens.
+
 use std::alloc::{AllocError, AllocFailed};
 
 /// Why a text has no tokens: at the byte `place` nothing begins, or memory ran out.

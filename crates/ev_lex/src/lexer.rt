@@ -1,4 +1,6 @@
-ghost use Rattle.std.specs.Prelude.{◌≡◌, ◌+◌, ◌≤◌, ◌++◌, List, length, IfErr, IfOk, OnOk, MatchResult};
+//! The lexer: the loop that cuts a text into its pieces.
+ghost use Rattle.std.specs.Prelude.{◌≡◌, ◌+◌, ◌≤◌, ◌++◌, List, length, IfErr, IfOk, OnOk};
+ghost use Rattle.std.specs.Prelude.{MatchResult};
 ghost use Rattle.ev_lex.specs.Cut.{AreTokens, AreSlices, Faults, lexeme};
 ghost use Rattle.ev_lex.specs.Pieces.{size as size_of};
 ghost use Rattle.ev_lex.specs.declared.token.Token.{Token};
@@ -24,14 +26,15 @@ fn push_token(tokens: &mut Vec<Token>, at: u32, piece: Piece) -> Result<(), LexF
     }
 }
 
-/// The tokens of a rule text: the pieces that are no blanks, no comments and no skipped lines, each as a
-/// slice of the text, in order. `At` has the place of the first byte that begins none. The text has at most
-/// 1,048,576 bytes.
+/// The tokens of a rule text: the pieces that are no blanks, no comments and no skipped lines, each
+/// as a slice of the text, in order. `At` has the place of the first byte that begins none. The
+/// text has at most 1,048,576 bytes.
 pub fn lex(alloc: Global, text: &[u8]) -> Result<Vec<Token>, LexFault>
     requires { length text.now ≤ 1048576 }
     ensures found { IfOk result (λ tokens. AreTokens text.now tokens.items) }
     ensures slices { IfOk result (λ tokens. AreSlices 0 tokens.items (length text.now)) }
-    ensures only { (ts : List Token) → AreTokens text.now ts → MatchResult result (λ tokens. tokens.items ≡ ts) (λ e. e ≡ LexFault.NoMemory) }
+    ensures only { (ts : List Token) → AreTokens text.now ts
+        → MatchResult result (λ tokens. tokens.items ≡ ts) (λ e. e ≡ LexFault.NoMemory) }
     ensures fault { MatchResult result (λ _. Unit {0}) (Faults text.now) }
 {
     let mut tokens = Vec::new(alloc);

@@ -1,15 +1,17 @@
+//! The pieces of a rule text, each by what begins a text.
 ghost use Rattle.std.specs.Prelude.{◌≡◌, ◌≤◌, length, drop, IfSome};
 ghost use Rattle.std.specs.Char.{is_ascii_alphabetic, is_ascii_digit};
 ghost use Rattle.ev_lex.specs.Pieces as spec;
 
 use crate::bytes::{
     count_digits, count_line_bytes, count_text_bytes, count_word_bytes, is_blank, is_word_byte,
-    number_of, opens, opens_word,
+    opens, opens_word,
 };
 use crate::token::Kind;
+use fm_bytes::read_digits;
 
-/// A piece of a text: a newline, another blank, a line from its `#` on, a comment, or a token, with the
-/// number of its bytes where it isn't one.
+/// A piece of a text: a newline, another blank, a line from its `#` on, a comment, or a token, with
+/// the number of its bytes where it isn't one.
 #[derive(Clone, Copy, Debug, PartialEq, Eq)]
 pub enum Piece {
     Newline,
@@ -19,12 +21,14 @@ pub enum Piece {
     Lexeme(Kind, usize),
 }
 
+/// Whether the byte belongs to a word, before these others.
 fn goes_on(first: u8, others: &[u8]) -> bool
     ensures { result ≡ spec.goes_on first others.now }
 {
     is_word_byte(first) || ((first == b'-' || first == b'.') && opens_word(others))
 }
 
+/// How many bytes from the front on belong to a word.
 fn word_length(text: &[u8]) -> usize
     ensures count { result ≡ spec.word_length text.now }
     ensures within { result ≤ length text.now }
@@ -41,12 +45,14 @@ fn word_length(text: &[u8]) -> usize
     n
 }
 
+/// Whether no part between dots has over 32 bytes.
 fn parts_fit(word: &[u8]) -> bool
     ensures { result ≡ spec.parts_fit word.now }
 {
     word.split(|b| *b == b'.').all(|part| part.len() <= 32)
 }
 
+/// A word, if the text begins with one within the limits.
 #[tactic(auto, unfolding(crate::specs::Pieces::word_piece))]
 fn word_piece(text: &[u8]) -> Option<Piece>
     ensures { result ≡ spec.word_piece text.now }
@@ -59,12 +65,14 @@ fn word_piece(text: &[u8]) -> Option<Piece>
     }
 }
 
+/// Whether the two byte strings are the same.
 fn is(bytes: &[u8], word: &[u8]) -> bool
-    ensures { result ≡ spec.same bytes.now word.now }
+    ensures { result ≡ spec.same_bytes bytes.now word.now }
 {
     bytes == word
 }
 
+/// Whether the bytes are a unit of time.
 fn is_unit(bytes: &[u8]) -> bool
     ensures { result ≡ spec.is_unit bytes.now }
 {
@@ -77,6 +85,7 @@ fn is_unit(bytes: &[u8]) -> bool
         || is(bytes, b"d")
 }
 
+/// An Int or a Time, if the text begins with one.
 #[tactic(auto, unfolding(crate::specs::Pieces::number_piece))]
 fn number_piece(text: &[u8]) -> Option<Piece>
     ensures { result ≡ spec.number_piece text.now }
@@ -84,7 +93,7 @@ fn number_piece(text: &[u8]) -> Option<Piece>
     let n = count_digits(text);
     let after = &text[n..];
     let m = count_word_bytes(after);
-    if number_of(&text[..n]).is_none() {
+    if read_digits(&text[..n], u64::MAX).is_none() {
         None
     } else if m == 0 {
         Some(Piece::Lexeme(Kind::Int, n))
@@ -95,6 +104,7 @@ fn number_piece(text: &[u8]) -> Option<Piece>
     }
 }
 
+/// A Text, of which the opening quote is taken off.
 #[tactic(auto, unfolding(crate::specs::Pieces::text_piece))]
 fn text_piece(rest: &[u8]) -> Option<Piece>
     ensures { result ≡ spec.text_piece rest.now }
@@ -107,6 +117,7 @@ fn text_piece(rest: &[u8]) -> Option<Piece>
     }
 }
 
+/// Whether the two bytes are punctuation.
 fn is_pair(a: u8, b: u8) -> bool
     ensures { result ≡ spec.is_pair a b }
 {
@@ -119,6 +130,7 @@ fn is_pair(a: u8, b: u8) -> bool
         || (a == b'|' && b == b'|')
 }
 
+/// Whether the byte is punctuation by itself.
 fn is_single(a: u8) -> bool
     ensures { result ≡ spec.is_single a }
 {
@@ -139,6 +151,7 @@ fn is_single(a: u8) -> bool
         || a == b'+'
 }
 
+/// Whether the first two bytes are punctuation.
 fn opens_pair(text: &[u8]) -> bool
     ensures { result ≡ spec.opens_pair text.now }
 {
@@ -148,6 +161,7 @@ fn opens_pair(text: &[u8]) -> bool
     }
 }
 
+/// Whether the first byte is punctuation by itself.
 fn opens_single(text: &[u8]) -> bool
     ensures { result ≡ spec.opens_single text.now }
 {
@@ -157,6 +171,7 @@ fn opens_single(text: &[u8]) -> bool
     }
 }
 
+/// Punctuation, the longest that fits.
 #[tactic(auto, unfolding(crate::specs::Pieces::punct_piece))]
 fn punct_piece(text: &[u8]) -> Option<Piece>
     ensures { result ≡ spec.punct_piece text.now }
@@ -170,6 +185,7 @@ fn punct_piece(text: &[u8]) -> Option<Piece>
     }
 }
 
+/// How many bytes there are up to and with the first `*/`.
 fn closing(text: &[u8]) -> Option<usize>
     ensures count { result ≡ spec.closing text.now }
     ensures within { IfSome result (λ n. n ≤ length text.now) }
@@ -186,6 +202,7 @@ fn closing(text: &[u8]) -> Option<usize>
     None
 }
 
+/// A comment, of which `/*` is taken off.
 #[tactic(auto, unfolding(crate::specs::Pieces::comment_piece))]
 fn comment_piece(rest: &[u8]) -> Option<Piece>
     ensures { result ≡ spec.comment_piece rest.now }

@@ -1,3 +1,5 @@
+//! The lexer on the texts and the limits of the format.
+
 use crate::fault::LexFault;
 use crate::lexer::lex;
 use crate::token::{Kind, Token};
@@ -16,8 +18,8 @@ fn letter(kind: Kind) -> &'static str {
     }
 }
 
-/// The tokens of a text, each as the letter of its kind, its two places and a space; of a text that has none, where
-/// its fault is.
+/// The tokens of a text, each as the letter of its kind, its two places and a space; of a text that
+/// has none, where its fault is.
 fn told(alloc: Global, text: &[u8]) -> Result<String, Fail> {
     if text.len() > 1048576 {
         return Ok(String::new(alloc));

@@ -1,3 +1,5 @@
+//! Tokens.
+
 /// What a token is.
 #[derive(Clone, Copy, Debug, PartialEq, Eq)]
 pub enum Kind {
@@ -8,8 +10,8 @@ pub enum Kind {
     Punct,
 }
 
-/// A token: the slice of the text from the byte `from` on, up to and without the byte `to`. The slice of a
-/// `Text` has its quotes.
+/// A token: the slice of the text from the byte `from` on, up to and without the byte `to`. The
+/// slice of a `Text` has its quotes.
 #[derive(Clone, Copy, Debug, PartialEq, Eq)]
 pub struct Token {
     pub kind: Kind,

@@ -5,8 +5,8 @@ use Rattle.ev_tree.specs.Grammar.{file}
 use Rattle.ev_tree.specs.Rule.{Rule}
 use Rattle.ev_tree.specs.Tok.{Tok}
 use Rattle.ev_parse.specs.Toks.{toks}
-use Rattle.ev_parse.specs.declared.stop.Stop.{Stop}
-use Rattle.ev_parse.specs.declared.stop.Stop.TheVariants as stops
+use Rattle.ev_parse.specs.declared.stop.ParseStop.{ParseStop}
+use Rattle.ev_parse.specs.declared.stop.ParseStop.TheVariants as stops
 use Rattle.ev_parse.specs.declared.fault.ParseFault.{ParseFault}
 use Rattle.ev_parse.specs.declared.fault.ParseFault.TheVariants as faults
 
@@ -16,9 +16,9 @@ pub record BeginsFile (ts : List Tok) : Type 0 where
   pub more : List Tok
   pub spelled : file rules (ts ++ more)
 
--- Some rule file begins with the tokens before the one of this number, none with that one too, and the tokens are
--- no rule file.
-pub record IsFault (ts : List Tok) (number : ℕ) : Type 0 where
+-- Some rule file begins with the tokens before the one of this number, none with that one too, and
+-- the tokens are no rule file.
+pub record IsParseFault (ts : List Tok) (number : ℕ) : Type 0 where
   pub within : number ≤ length ts
   pub before : BeginsFile (take number ts)
   pub refused : number < length ts → BeginsFile (take (number + 1) ts) → ⊥
@@ -29,10 +29,11 @@ abbrev pub place_from : ℕ → List Token → ℕ
 place_from end [] = end
 place_from end (t ∷ ts) = t.from
 
--- at this byte is the token at which the tokens cease to begin a rule file, or the text ends there too early
+-- at this byte is the token at which the tokens cease to begin a rule file, or the text ends there
+-- too early
 pub record FaultAt (text : List ℕ) (tokens : List Token) (place : ℕ) : Type 0 where
   pub number : ℕ
-  pub fault : IsFault (toks text tokens) number
+  pub fault : IsParseFault (toks text tokens) number
   pub stands : place ≡ place_from (length text) (drop number tokens)
 
 -- what a fault says of the tokens of a text
@@ -41,6 +42,7 @@ Faults text tokens (faults.At place) = FaultAt text tokens place
 Faults text tokens faults.NoMemory = Unit {0}
 
 -- the fault that a stop is: at the first of the tokens that are left
-abbrev pub fault_from : ℕ → List Token → Stop → ParseFault
+abbrev pub fault_from : ℕ → List Token → ParseStop → ParseFault
 fault_from end tokens stops.NoMemory = faults.NoMemory
-fault_from end tokens (stops.At rest) = faults.At (place_from end (drop (length tokens - length rest.now) tokens))
+fault_from end tokens (stops.At rest) =
+    faults.At (place_from end (drop (length tokens - length rest.now) tokens))

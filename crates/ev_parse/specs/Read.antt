@@ -1,7 +1,8 @@
--- Reading functions over lists of tokens. A reader answers a value and the tokens after it, or the tokens from
--- the first one on that it can't take.
-use Rattle.std.specs.Prelude.{ℕ, zero, suc, Bool, false, List, [], ◌∷◌, length, Option, Some, None, Result, Ok, Err, if◌then◌else◌}
-use Rattle.ev_tree.specs.Tok.{Tok, Sign, Name, Class, Int, Time, Text, Odd, same}
+-- Reading functions over lists of tokens. A reader answers a value and the tokens after it, or the
+-- tokens from the first one on that it can't take.
+use Rattle.std.specs.Prelude.{ℕ, zero, suc, Bool, false, List, [], ◌∷◌, length, Option, Some, None}
+use Rattle.std.specs.Prelude.{Result, Ok, Err, if◌then◌else◌}
+use Rattle.ev_tree.specs.Tok.{Tok, Sign, Name, Class, Int, Time, Text, Odd, same_bytes}
 
 abbrev pub Read : Type 0 → Type 0
 Read A = Result (A × List Tok) (List Tok)
@@ -29,27 +30,18 @@ abbrev pub map_at : {A B : Type 0} → (A → B) → (List Tok → Read A) → L
 map_at f p ts = bind (p ts) (λ a rest. Ok (f a, rest))
 
 -- a value and then another
-abbrev pub both_at : {A B : Type 0} → (List Tok → Read A) → (List Tok → Read B) → List Tok → Read (A × B)
+abbrev pub both_at : {A B : Type 0} → (List Tok → Read A) → (List Tok → Read B) → List Tok
+    → Read (A × B)
 both_at p q ts = bind (p ts) (λ a rest. bind (q rest) (λ b end. Ok ((a, b), end)))
 
 -- this sign or this word
 abbrev pub is : List ℕ → Tok → Bool
-is bytes (Sign b) = same b bytes
-is bytes (Name b) = false
-is bytes (Class b) = false
-is bytes (Int n) = false
-is bytes (Time w) = false
-is bytes (Text b) = false
-is bytes Odd = false
+is bytes (Sign b) = same_bytes b bytes
+is bytes _ = false
 
 abbrev pub is_word : List ℕ → Tok → Bool
-is_word bytes (Sign b) = false
-is_word bytes (Name b) = same b bytes
-is_word bytes (Class b) = false
-is_word bytes (Int n) = false
-is_word bytes (Time w) = false
-is_word bytes (Text b) = false
-is_word bytes Odd = false
+is_word bytes (Name b) = same_bytes b bytes
+is_word bytes _ = false
 
 abbrev pub passed : (Tok → Bool) → Tok → Option (Unit {0})
 passed test t = if test t then Some tt else None
@@ -71,24 +63,30 @@ abbrev pub closed_at : {A : Type 0} → (List Tok → Read A) → List ℕ → L
 closed_at p bytes ts = bind (p ts) (λ a rest. bind (sign_at bytes rest) (λ _ end. Ok (a, end)))
 
 -- the first reader where the first token passes the test, else the second
-abbrev pub either_at : {A : Type 0} → (Tok → Bool) → (List Tok → Read A) → (List Tok → Read A) → List Tok → Read A
+abbrev pub either_at : {A : Type 0} → (Tok → Bool) → (List Tok → Read A) → (List Tok → Read A)
+    → List Tok → Read A
 either_at test p q ts = if opens_at test ts then p ts else q ts
 
 -- no token
 abbrev pub pure_at : {A : Type 0} → A → List Tok → Read A
 pure_at a ts = Ok (a, ts)
 
-abbrev pub optional_at : {A : Type 0} → (Tok → Bool) → (List Tok → Read A) → List Tok → Read (Option A)
+abbrev pub optional_at : {A : Type 0} → (Tok → Bool) → (List Tok → Read A) → List Tok
+    → Read (Option A)
 optional_at test p ts = if opens_at test ts then map_at Some p ts else Ok (None, ts)
 
 -- values as long as the first token passes the test, at most n
-abbrev pub many_up_at : {A : Type 0} → (Tok → Bool) → (List Tok → Read A) → ℕ → List Tok → Read (List A)
+abbrev pub many_up_at : {A : Type 0} → (Tok → Bool) → (List Tok → Read A) → ℕ → List Tok
+    → Read (List A)
 many_up_at test p zero ts = Ok ([], ts)
 many_up_at test p (suc n) ts =
-    if opens_at test ts then bind (p ts) (λ a rest. bind (many_up_at test p n rest) (λ more end. Ok (a ∷ more, end))) else Ok ([], ts)
+    if opens_at test ts then bind (p ts)
+    (λ a rest. bind (many_up_at test p n rest) (λ more end. Ok (a ∷ more, end))) else Ok
+    ([], ts)
 
 -- as many as there are: each takes a token at least
-unfoldable pub many_at : {A : Type 0} → (Tok → Bool) → (List Tok → Read A) → List Tok → Read (List A)
+unfoldable pub many_at : {A : Type 0} → (Tok → Bool) → (List Tok → Read A) → List Tok
+    → Read (List A)
 many_at test p ts = many_up_at test p (length ts) ts
 
 -- more values, each behind a sign
@@ -97,4 +95,5 @@ more_at bytes p ts = many_at (is bytes) (after_at bytes p) ts
 
 -- one value, and more behind signs
 abbrev pub separated_at : {A : Type 0} → List ℕ → (List Tok → Read A) → List Tok → Read (List A)
-separated_at bytes p ts = bind (p ts) (λ a rest. bind (more_at bytes p rest) (λ more end. Ok (a ∷ more, end)))
+separated_at bytes p ts =
+    bind (p ts) (λ a rest. bind (more_at bytes p rest) (λ more end. Ok (a ∷ more, end)))

@@ -1,13 +1,16 @@
 -- What the tokens of a text mean.
-use Rattle.std.specs.Prelude.{ℕ, ◌-◌, ◌^◌, nat_lt, if◌then◌else◌, List, length, take, drop, map, Option, Some, None, codes}
+use Rattle.std.specs.Prelude.{ℕ, ◌-◌, if◌then◌else◌, List, length, take, drop, map}
+use Rattle.std.specs.Prelude.{Option, Some, None, is_some, codes}
+use Rattle.std.specs.Option.{unwrap_or}
 use Rattle.std.specs.Char.{is_ascii_digit}
 use Rattle.std.specs.List.{list_all}
 use Rattle.fm_name.specs.Class.{is_class}
-use Rattle.ev_lex.specs.Bytes.{count_while, is_text_byte, number_of}
+use Rattle.ev_lex.specs.Bytes.{count_while, is_text_byte, int_value}
 use Rattle.ev_lex.specs.declared.token.Kind.{Kind}
 use Rattle.ev_lex.specs.declared.token.Kind.TheVariants as kinds
 use Rattle.ev_lex.specs.declared.token.Token.{Token}
-use Rattle.ev_tree.specs.Tok.{Tok, Sign, Name, Class, Int, Time, Text, Odd, same, is_reserved, is_name_byte}
+use Rattle.ev_tree.specs.Tok.{Tok, Sign, Name, Class, Int, Time, Text, Odd, same_bytes, is_reserved}
+use Rattle.ev_tree.specs.Tok.{is_name_byte}
 use Rattle.ev_tree.specs.declared.tree.Unit as the_unit
 use Rattle.ev_tree.specs.declared.tree.Unit.TheVariants as units
 
@@ -26,25 +29,28 @@ word_meaning b =
 -- the unit of these letters
 abbrev pub unit_of : List ℕ → Option the_unit.Unit
 unit_of b =
-    if same b (codes "ns") then Some units.Ns
-    else (if same b (codes "us") then Some units.Us
-    else (if same b (codes "ms") then Some units.Ms
-    else (if same b (codes "s") then Some units.S
-    else (if same b (codes "m") then Some units.M
-    else (if same b (codes "h") then Some units.H
-    else (if same b (codes "d") then Some units.D
+    if same_bytes b (codes "ns") then Some units.Ns
+    else (if same_bytes b (codes "us") then Some units.Us
+    else (if same_bytes b (codes "ms") then Some units.Ms
+    else (if same_bytes b (codes "s") then Some units.S
+    else (if same_bytes b (codes "m") then Some units.M
+    else (if same_bytes b (codes "h") then Some units.H
+    else (if same_bytes b (codes "d") then Some units.D
     else None))))))
 
-abbrev pub number_meaning : ℕ → Tok
-number_meaning n = if nat_lt n (2 ^ 64) then Int n else Odd
+-- a number, where there is one
+abbrev pub number_meaning : Option ℕ → Tok
+number_meaning o = if is_some o then Int (unwrap_or o 0) else Odd
 
-abbrev pub timed : ℕ → Option the_unit.Unit → Tok
-timed n None = Odd
-timed n (Some u) = if nat_lt n (2 ^ 64) then Time (record { number = n; unit = u }) else Odd
+-- a number and a unit, where there are both
+abbrev pub timed : Option ℕ → Option the_unit.Unit → Tok
+timed o None = Odd
+timed o (Some u) = if is_some o then Time (record { number = unwrap_or o 0; unit = u }) else Odd
 
 -- digits and a unit
 unfoldable pub time_meaning : List ℕ → Tok
-time_meaning b = let n = count_while is_ascii_digit b in timed (number_of (take n b)) (unit_of (drop n b))
+time_meaning b = let n = count_while is_ascii_digit b in
+    timed (int_value (take n b)) (unit_of (drop n b))
 
 -- what stands between the quotes
 abbrev pub inner : List ℕ → List ℕ
@@ -55,7 +61,7 @@ text_meaning b = if list_all is_text_byte (inner b) then Text (inner b) else Odd
 
 abbrev pub meaning : Kind → List ℕ → Tok
 meaning kinds.Word b = word_meaning b
-meaning kinds.Int b = number_meaning (number_of b)
+meaning kinds.Int b = number_meaning (int_value b)
 meaning kinds.Time b = time_meaning b
 meaning kinds.Text b = text_meaning b
 meaning kinds.Punct b = Sign b

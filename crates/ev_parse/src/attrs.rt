@@ -1,10 +1,11 @@
+//! The attributes of events and engines.
 ghost use Rattle.std.specs.Prelude.{◌≡◌, codes};
 ghost use Rattle.ev_parse.specs.Gives.{Gives};
 ghost use Rattle.ev_parse.specs.Read.{after_at, more_at};
 ghost use Rattle.ev_parse.specs.Reading.{event_attr_at, engine_attr_at};
 ghost use Rattle.ev_parse.specs.Toks.{toks};
 
-use crate::stop::Stop;
+use crate::stop::ParseStop;
 use crate::tokens::{class, int, next_is, next_is_word, sign, time, word};
 use ev_lex::Token;
 use ev_tree::{EngineAttr, EngineAttrs, EventAttr, EventAttrs};
@@ -15,7 +16,7 @@ fn event_attr<'a>(
     alloc: Global,
     text: &[u8],
     tokens: &'a [Token],
-) -> Result<(EventAttr, &'a [Token]), Stop<'a>>
+) -> Result<(EventAttr, &'a [Token]), ParseStop<'a>>
     ensures { Gives text.now (λ x. x) result (event_attr_at (toks text.now tokens.now)) }
 {
     if next_is_word(text, tokens, b"FITrate") {
@@ -46,7 +47,7 @@ fn engine_attr<'a>(
     alloc: Global,
     text: &[u8],
     tokens: &'a [Token],
-) -> Result<(EngineAttr, &'a [Token]), Stop<'a>>
+) -> Result<(EngineAttr, &'a [Token]), ParseStop<'a>>
     ensures { Gives text.now (λ x. x) result (engine_attr_at (toks text.now tokens.now)) }
 {
     if next_is_word(text, tokens, b"N") {
@@ -71,8 +72,9 @@ fn comma_event_attr<'a>(
     alloc: Global,
     text: &[u8],
     tokens: &'a [Token],
-) -> Result<(EventAttr, &'a [Token]), Stop<'a>>
-    ensures { Gives text.now (λ x. x) result (after_at (codes ",") event_attr_at (toks text.now tokens.now)) }
+) -> Result<(EventAttr, &'a [Token]), ParseStop<'a>>
+    ensures { Gives text.now (λ x. x) result
+        (after_at (codes ",") event_attr_at (toks text.now tokens.now)) }
 {
     let rest = sign(text, tokens, b",")?;
     event_attr(alloc, text, rest)
@@ -83,8 +85,9 @@ pub(crate) fn event_attrs<'a>(
     alloc: Global,
     text: &[u8],
     tokens: &'a [Token],
-) -> Result<(EventAttrs, &'a [Token]), Stop<'a>>
-    ensures { Gives text.now (λ x. x) result (more_at (codes ",") event_attr_at (toks text.now tokens.now)) }
+) -> Result<(EventAttrs, &'a [Token]), ParseStop<'a>>
+    ensures { Gives text.now (λ x. x) result
+        (more_at (codes ",") event_attr_at (toks text.now tokens.now)) }
 {
     let mut items = Vec::new(alloc);
     let mut rest = tokens;
@@ -100,8 +103,9 @@ fn comma_engine_attr<'a>(
     alloc: Global,
     text: &[u8],
     tokens: &'a [Token],
-) -> Result<(EngineAttr, &'a [Token]), Stop<'a>>
-    ensures { Gives text.now (λ x. x) result (after_at (codes ",") engine_attr_at (toks text.now tokens.now)) }
+) -> Result<(EngineAttr, &'a [Token]), ParseStop<'a>>
+    ensures { Gives text.now (λ x. x) result
+        (after_at (codes ",") engine_attr_at (toks text.now tokens.now)) }
 {
     let rest = sign(text, tokens, b",")?;
     engine_attr(alloc, text, rest)
@@ -112,8 +116,9 @@ pub(crate) fn engine_attrs<'a>(
     alloc: Global,
     text: &[u8],
     tokens: &'a [Token],
-) -> Result<(EngineAttrs, &'a [Token]), Stop<'a>>
-    ensures { Gives text.now (λ x. x) result (more_at (codes ",") engine_attr_at (toks text.now tokens.now)) }
+) -> Result<(EngineAttrs, &'a [Token]), ParseStop<'a>>
+    ensures { Gives text.now (λ x. x) result
+        (more_at (codes ",") engine_attr_at (toks text.now tokens.now)) }
 {
     let mut items = Vec::new(alloc);
     let mut rest = tokens;

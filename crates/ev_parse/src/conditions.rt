@@ -1,3 +1,4 @@
+//! Conditions.
 ghost use Rattle.std.specs.Prelude.{◌≡◌, ◌∷◌, [], suc, map, codes};
 ghost use Rattle.ev_tree.specs.Condition.{view_cond, any, all};
 ghost use Rattle.ev_tree.specs.Grammar.{gather};
@@ -6,7 +7,7 @@ ghost use Rattle.ev_parse.specs.Read.{after_at, more_at};
 ghost use Rattle.ev_parse.specs.Reading.{unary_at, all_of_at, any_of_at, condition_at};
 ghost use Rattle.ev_parse.specs.Toks.{toks};
 
-use crate::stop::Stop;
+use crate::stop::ParseStop;
 use crate::sums::atom;
 use crate::tokens::{next_is, sign};
 use ev_lex::Token;
@@ -52,8 +53,9 @@ fn and_unary<'a>(
     text: &[u8],
     tokens: &'a [Token],
     depth: u32,
-) -> Result<(Cond, &'a [Token]), Stop<'a>>
-    ensures { Gives text.now view_cond result (after_at (codes "&&") (unary_at depth) (toks text.now tokens.now)) }
+) -> Result<(Cond, &'a [Token]), ParseStop<'a>>
+    ensures { Gives text.now view_cond result
+        (after_at (codes "&&") (unary_at depth) (toks text.now tokens.now)) }
 {
     let rest = sign(text, tokens, b"&&")?;
     unary(alloc, text, rest, depth)
@@ -66,8 +68,10 @@ fn more_all<'a>(
     first: Cond,
     tokens: &'a [Token],
     depth: u32,
-) -> Result<(Vec<Cond>, &'a [Token]), Stop<'a>>
-    ensures { Gives text.now (λ x. map view_cond x.items) result (onto (view_cond first ∷ []) (more_at (codes "&&") (unary_at depth) (toks text.now tokens.now))) }
+) -> Result<(Vec<Cond>, &'a [Token]), ParseStop<'a>>
+    ensures { Gives text.now (λ x. map view_cond x.items) result
+        (onto (view_cond first ∷ [])
+        (more_at (codes "&&") (unary_at depth) (toks text.now tokens.now))) }
 {
     let mut items = vec![in alloc; first]?;
     let mut rest = tokens;
@@ -86,8 +90,9 @@ fn all_of<'a>(
     text: &[u8],
     tokens: &'a [Token],
     depth: u32,
-) -> Result<(Cond, &'a [Token]), Stop<'a>>
-    ensures { Gives text.now view_cond result (all_of_at (unary_at depth) (toks text.now tokens.now)) }
+) -> Result<(Cond, &'a [Token]), ParseStop<'a>>
+    ensures { Gives text.now view_cond result
+        (all_of_at (unary_at depth) (toks text.now tokens.now)) }
 {
     let (first, rest) = unary(alloc, text, tokens, depth)?;
     let (members, rest) = more_all(alloc, text, first, rest, depth)?;
@@ -100,8 +105,9 @@ fn or_all<'a>(
     text: &[u8],
     tokens: &'a [Token],
     depth: u32,
-) -> Result<(Cond, &'a [Token]), Stop<'a>>
-    ensures { Gives text.now view_cond result (after_at (codes "||") (all_of_at (unary_at depth)) (toks text.now tokens.now)) }
+) -> Result<(Cond, &'a [Token]), ParseStop<'a>>
+    ensures { Gives text.now view_cond result
+        (after_at (codes "||") (all_of_at (unary_at depth)) (toks text.now tokens.now)) }
 {
     let rest = sign(text, tokens, b"||")?;
     all_of(alloc, text, rest, depth)
@@ -114,8 +120,10 @@ fn more_any<'a>(
     first: Cond,
     tokens: &'a [Token],
     depth: u32,
-) -> Result<(Vec<Cond>, &'a [Token]), Stop<'a>>
-    ensures { Gives text.now (λ x. map view_cond x.items) result (onto (view_cond first ∷ []) (more_at (codes "||") (all_of_at (unary_at depth)) (toks text.now tokens.now))) }
+) -> Result<(Vec<Cond>, &'a [Token]), ParseStop<'a>>
+    ensures { Gives text.now (λ x. map view_cond x.items) result
+        (onto (view_cond first ∷ [])
+        (more_at (codes "||") (all_of_at (unary_at depth)) (toks text.now tokens.now))) }
 {
     let mut items = vec![in alloc; first]?;
     let mut rest = tokens;
@@ -134,8 +142,9 @@ fn any_of<'a>(
     text: &[u8],
     tokens: &'a [Token],
     depth: u32,
-) -> Result<(Cond, &'a [Token]), Stop<'a>>
-    ensures { Gives text.now view_cond result (any_of_at (unary_at depth) (toks text.now tokens.now)) }
+) -> Result<(Cond, &'a [Token]), ParseStop<'a>>
+    ensures { Gives text.now view_cond result
+        (any_of_at (unary_at depth) (toks text.now tokens.now)) }
 {
     let (first, rest) = all_of(alloc, text, tokens, depth)?;
     let (members, rest) = more_any(alloc, text, first, rest, depth)?;
@@ -150,7 +159,7 @@ fn nested<'a>(
     text: &[u8],
     tokens: &'a [Token],
     depth: u32,
-) -> Result<(Cond, &'a [Token]), Stop<'a>>
+) -> Result<(Cond, &'a [Token]), ParseStop<'a>>
     ensures { Gives text.now view_cond result (unary_at (suc depth) (toks text.now tokens.now)) }
 {
     if next_is(text, tokens, b"!") {
@@ -175,7 +184,7 @@ fn unary<'a>(
     text: &[u8],
     tokens: &'a [Token],
     depth: u32,
-) -> Result<(Cond, &'a [Token]), Stop<'a>>
+) -> Result<(Cond, &'a [Token]), ParseStop<'a>>
     ensures { Gives text.now view_cond result (unary_at depth (toks text.now tokens.now)) }
 {
     if depth == 0 {
@@ -191,7 +200,7 @@ pub(crate) fn condition<'a>(
     alloc: Global,
     text: &[u8],
     tokens: &'a [Token],
-) -> Result<(Cond, &'a [Token]), Stop<'a>>
+) -> Result<(Cond, &'a [Token]), ParseStop<'a>>
     ensures { Gives text.now view_cond result (condition_at (toks text.now tokens.now)) }
 {
     any_of(alloc, text, tokens, DEPTH)

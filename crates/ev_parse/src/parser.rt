@@ -1,3 +1,4 @@
+//! The call that parses a whole rule file.
 ghost use Rattle.std.specs.Prelude.{◌≡◌, ◌≤◌, List, length, map, IfOk, MatchResult};
 ghost use Rattle.ev_lex.specs.Cut.{AreTokens};
 ghost use Rattle.ev_tree.specs.Grammar.{file};
@@ -10,7 +11,7 @@ ghost use Rattle.ev_parse.specs.Toks.{toks};
 
 use crate::fault::ParseFault;
 use crate::statements::statement;
-use crate::stop::Stop;
+use crate::stop::ParseStop;
 use ev_lex::Token;
 use ev_tree::{Statements, Tree};
 use std::alloc::Global;
@@ -27,13 +28,13 @@ fn place_of(text: &[u8], tokens: &[Token]) -> u32
 }
 
 /// The fault that a stop is.
-fn fault_at(text: &[u8], tokens: &[Token], stop: Stop<'_>) -> ParseFault
+fn fault_at(text: &[u8], tokens: &[Token], stop: ParseStop<'_>) -> ParseFault
     requires { length text.now ≤ 1048576 }
     ensures { result ≡ fault_from (length text.now) tokens.now stop.entry }
 {
     match stop {
-        Stop::NoMemory => ParseFault::NoMemory,
-        Stop::At(rest) => {
+        ParseStop::NoMemory => ParseFault::NoMemory,
+        ParseStop::At(rest) => {
             let number = tokens.len().saturating_sub(rest.len());
             let place = place_of(text, &tokens[number..]);
             ParseFault::At { place }
@@ -42,9 +43,14 @@ fn fault_at(text: &[u8], tokens: &[Token], stop: Stop<'_>) -> ParseFault
 }
 
 /// All statements.
-fn statements<'a>(alloc: Global, text: &[u8], tokens: &'a [Token]) -> Result<Statements, Stop<'a>>
+fn statements<'a>(
+    alloc: Global,
+    text: &[u8],
+    tokens: &'a [Token],
+) -> Result<Statements, ParseStop<'a>>
     requires { length text.now ≤ 1048576 }
-    ensures gives { GivesAll text.now (λ x. map view_statement x) result (file_at (toks text.now tokens.now)) }
+    ensures gives { GivesAll text.now (λ x. map view_statement x) result
+        (file_at (toks text.now tokens.now)) }
     ensures placed { IfOk result (λ x. StandFrom text.now tokens.now 0 x (length tokens.now)) }
 {
     let mut items = Vec::new(alloc);
@@ -59,15 +65,18 @@ fn statements<'a>(alloc: Global, text: &[u8], tokens: &'a [Token]) -> Result<Sta
     Ok(Statements::new(items))
 }
 
-/// The tree of a rule file, of which these are the tokens as `lex` answers them. `At` has the place of the first
-/// token such that no rule file begins with the tokens up to and with it, or the length of the text where only the
-/// end is missing. `!` and the parentheses of conditions nest at most 64 deep. The text has at most 1,048,576 bytes.
+/// The tree of a rule file, of which these are the tokens as `lex` answers them. `At` has the place
+/// of the first token such that no rule file begins with the tokens up to and with it, or the
+/// length of the text where only the end is missing. `!` and the parentheses of conditions nest at
+/// most 64 deep. The text has at most 1,048,576 bytes.
 pub fn parse(alloc: Global, text: &[u8], tokens: &[Token]) -> Result<Tree, ParseFault>
     requires short { length text.now ≤ 1048576 }
     requires lexed { AreTokens text.now tokens.now }
     ensures found { IfOk result (λ tree. file (view_tree tree) (toks text.now tokens.now)) }
-    ensures placed { IfOk result (λ tree. StandFrom text.now tokens.now 0 tree.statements (length tokens.now)) }
-    ensures only { (rules : List Rule) → file rules (toks text.now tokens.now) → MatchResult result (λ tree. view_tree tree ≡ rules) (λ e. e ≡ ParseFault.NoMemory) }
+    ensures placed { IfOk result
+        (λ tree. StandFrom text.now tokens.now 0 tree.statements (length tokens.now)) }
+    ensures only { (rules : List Rule) → file rules (toks text.now tokens.now)
+        → MatchResult result (λ tree. view_tree tree ≡ rules) (λ e. e ≡ ParseFault.NoMemory) }
     ensures fault { MatchResult result (λ _. Unit {0}) (Faults text.now tokens.now) }
 {
     match statements(alloc, text, tokens) {

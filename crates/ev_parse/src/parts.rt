@@ -1,10 +1,12 @@
+//! Names and parts, joined by slashes.
 ghost use Rattle.std.specs.Prelude.{◌≡◌, ◌∷◌, [], codes};
 ghost use Rattle.ev_parse.specs.Gives.{Gives, onto};
 ghost use Rattle.ev_parse.specs.Read.{after_at, more_at};
-ghost use Rattle.ev_parse.specs.Reading.{name_at, names_at, declared_at, index_at, at_at, part_at, parts_at};
+ghost use Rattle.ev_parse.specs.Reading.{name_at, names_at, declared_at, index_at, at_at, part_at};
+ghost use Rattle.ev_parse.specs.Reading.{parts_at};
 ghost use Rattle.ev_parse.specs.Toks.{toks};
 
-use crate::stop::Stop;
+use crate::stop::ParseStop;
 use crate::tokens::{class, int, name, next_is, next_is_name, sign};
 use ev_lex::Token;
 use ev_tree::{At, Declared, Names, Part, Parts, TreeText};
@@ -14,8 +16,9 @@ fn slash_name<'a>(
     alloc: Global,
     text: &[u8],
     tokens: &'a [Token],
-) -> Result<(TreeText, &'a [Token]), Stop<'a>>
-    ensures { Gives text.now (λ x. x) result (after_at (codes "/") name_at (toks text.now tokens.now)) }
+) -> Result<(TreeText, &'a [Token]), ParseStop<'a>>
+    ensures { Gives text.now (λ x. x) result
+        (after_at (codes "/") name_at (toks text.now tokens.now)) }
 {
     let rest = sign(text, tokens, b"/")?;
     name(alloc, text, rest)
@@ -26,8 +29,9 @@ fn more_names<'a>(
     text: &[u8],
     first: TreeText,
     tokens: &'a [Token],
-) -> Result<(Names, &'a [Token]), Stop<'a>>
-    ensures { Gives text.now (λ x. x) result (onto (first ∷ []) (more_at (codes "/") name_at (toks text.now tokens.now))) }
+) -> Result<(Names, &'a [Token]), ParseStop<'a>>
+    ensures { Gives text.now (λ x. x) result
+        (onto (first ∷ []) (more_at (codes "/") name_at (toks text.now tokens.now))) }
 {
     let mut items = vec![in alloc; first]?;
     let mut rest = tokens;
@@ -44,7 +48,7 @@ fn names<'a>(
     alloc: Global,
     text: &[u8],
     tokens: &'a [Token],
-) -> Result<(Names, &'a [Token]), Stop<'a>>
+) -> Result<(Names, &'a [Token]), ParseStop<'a>>
     ensures { Gives text.now (λ x. x) result (names_at (toks text.now tokens.now)) }
 {
     let (first, rest) = name(alloc, text, tokens)?;
@@ -57,7 +61,7 @@ pub(crate) fn declared<'a>(
     alloc: Global,
     text: &[u8],
     tokens: &'a [Token],
-) -> Result<(Declared, &'a [Token]), Stop<'a>>
+) -> Result<(Declared, &'a [Token]), ParseStop<'a>>
     ensures { Gives text.now (λ x. x) result (declared_at (toks text.now tokens.now)) }
 {
     let (class, rest) = class(alloc, text, tokens)?;
@@ -67,7 +71,11 @@ pub(crate) fn declared<'a>(
 }
 
 #[tactic(auto, unfolding(crate::specs::Reading::index_at))]
-fn index<'a>(alloc: Global, text: &[u8], tokens: &'a [Token]) -> Result<(At, &'a [Token]), Stop<'a>>
+fn index<'a>(
+    alloc: Global,
+    text: &[u8],
+    tokens: &'a [Token],
+) -> Result<(At, &'a [Token]), ParseStop<'a>>
     ensures { Gives text.now (λ x. x) result (index_at (toks text.now tokens.now)) }
 {
     if next_is_name(text, tokens) {
@@ -80,7 +88,11 @@ fn index<'a>(alloc: Global, text: &[u8], tokens: &'a [Token]) -> Result<(At, &'a
 }
 
 #[tactic(auto, unfolding(crate::specs::Reading::at_at))]
-fn at<'a>(alloc: Global, text: &[u8], tokens: &'a [Token]) -> Result<(At, &'a [Token]), Stop<'a>>
+fn at<'a>(
+    alloc: Global,
+    text: &[u8],
+    tokens: &'a [Token],
+) -> Result<(At, &'a [Token]), ParseStop<'a>>
     ensures { Gives text.now (λ x. x) result (at_at (toks text.now tokens.now)) }
 {
     if next_is(text, tokens, b"[") {
@@ -103,7 +115,7 @@ fn part<'a>(
     alloc: Global,
     text: &[u8],
     tokens: &'a [Token],
-) -> Result<(Part, &'a [Token]), Stop<'a>>
+) -> Result<(Part, &'a [Token]), ParseStop<'a>>
     ensures { Gives text.now (λ x. x) result (part_at (toks text.now tokens.now)) }
 {
     let (name, rest) = name(alloc, text, tokens)?;
@@ -115,8 +127,9 @@ fn slash_part<'a>(
     alloc: Global,
     text: &[u8],
     tokens: &'a [Token],
-) -> Result<(Part, &'a [Token]), Stop<'a>>
-    ensures { Gives text.now (λ x. x) result (after_at (codes "/") part_at (toks text.now tokens.now)) }
+) -> Result<(Part, &'a [Token]), ParseStop<'a>>
+    ensures { Gives text.now (λ x. x) result
+        (after_at (codes "/") part_at (toks text.now tokens.now)) }
 {
     let rest = sign(text, tokens, b"/")?;
     part(alloc, text, rest)
@@ -127,8 +140,9 @@ fn more_parts<'a>(
     text: &[u8],
     first: Part,
     tokens: &'a [Token],
-) -> Result<(Parts, &'a [Token]), Stop<'a>>
-    ensures { Gives text.now (λ x. x) result (onto (first ∷ []) (more_at (codes "/") part_at (toks text.now tokens.now))) }
+) -> Result<(Parts, &'a [Token]), ParseStop<'a>>
+    ensures { Gives text.now (λ x. x) result
+        (onto (first ∷ []) (more_at (codes "/") part_at (toks text.now tokens.now))) }
 {
     let mut items = vec![in alloc; first]?;
     let mut rest = tokens;
@@ -146,7 +160,7 @@ pub(crate) fn parts<'a>(
     alloc: Global,
     text: &[u8],
     tokens: &'a [Token],
-) -> Result<(Parts, &'a [Token]), Stop<'a>>
+) -> Result<(Parts, &'a [Token]), ParseStop<'a>>
     ensures { Gives text.now (λ x. x) result (parts_at (toks text.now tokens.now)) }
 {
     let (first, rest) = part(alloc, text, tokens)?;

@@ -1,3 +1,4 @@
+//! Patterns, and the sides of a propagation.
 ghost use Rattle.std.specs.Prelude.{◌≡◌, ◌∷◌, [], map, codes};
 ghost use Rattle.ev_tree.specs.Pattern.{view_option, view_pattern};
 ghost use Rattle.ev_parse.specs.Gives.{Gives, onto};
@@ -7,7 +8,7 @@ ghost use Rattle.ev_parse.specs.Toks.{toks};
 
 use crate::conditions::condition;
 use crate::parts::parts;
-use crate::stop::Stop;
+use crate::stop::ParseStop;
 use crate::tokens::{class, next_is, sign};
 use ev_lex::Token;
 use ev_tree::{Cond, Patterns, SidePattern};
@@ -18,7 +19,7 @@ fn guard<'a>(
     alloc: Global,
     text: &[u8],
     tokens: &'a [Token],
-) -> Result<(Option<Cond>, &'a [Token]), Stop<'a>>
+) -> Result<(Option<Cond>, &'a [Token]), ParseStop<'a>>
     ensures { Gives text.now view_option result (guard_at (toks text.now tokens.now)) }
 {
     if next_is(text, tokens, b"{") {
@@ -36,7 +37,7 @@ fn pattern<'a>(
     alloc: Global,
     text: &[u8],
     tokens: &'a [Token],
-) -> Result<(SidePattern, &'a [Token]), Stop<'a>>
+) -> Result<(SidePattern, &'a [Token]), ParseStop<'a>>
     ensures { Gives text.now view_pattern result (pattern_at (toks text.now tokens.now)) }
 {
     let (class, rest) = class(alloc, text, tokens)?;
@@ -50,8 +51,9 @@ fn comma_pattern<'a>(
     alloc: Global,
     text: &[u8],
     tokens: &'a [Token],
-) -> Result<(SidePattern, &'a [Token]), Stop<'a>>
-    ensures { Gives text.now view_pattern result (after_at (codes ",") pattern_at (toks text.now tokens.now)) }
+) -> Result<(SidePattern, &'a [Token]), ParseStop<'a>>
+    ensures { Gives text.now view_pattern result
+        (after_at (codes ",") pattern_at (toks text.now tokens.now)) }
 {
     let rest = sign(text, tokens, b",")?;
     pattern(alloc, text, rest)
@@ -62,8 +64,10 @@ fn more_patterns<'a>(
     text: &[u8],
     first: SidePattern,
     tokens: &'a [Token],
-) -> Result<(Patterns, &'a [Token]), Stop<'a>>
-    ensures { Gives text.now (λ x. map view_pattern x) result (onto (view_pattern first ∷ []) (more_at (codes ",") pattern_at (toks text.now tokens.now))) }
+) -> Result<(Patterns, &'a [Token]), ParseStop<'a>>
+    ensures { Gives text.now (λ x. map view_pattern x) result
+        (onto (view_pattern first ∷ [])
+        (more_at (codes ",") pattern_at (toks text.now tokens.now))) }
 {
     let mut items = vec![in alloc; first]?;
     let mut rest = tokens;
@@ -81,7 +85,7 @@ pub(crate) fn side<'a>(
     alloc: Global,
     text: &[u8],
     tokens: &'a [Token],
-) -> Result<(Patterns, &'a [Token]), Stop<'a>>
+) -> Result<(Patterns, &'a [Token]), ParseStop<'a>>
     ensures { Gives text.now (λ x. map view_pattern x) result (side_at (toks text.now tokens.now)) }
 {
     let (first, rest) = pattern(alloc, text, tokens)?;

@@ -1,20 +1,22 @@
+//! Statements.
 ghost use Rattle.std.specs.Prelude.{◌≡◌, codes, length, IfOk};
 ghost use Rattle.ev_tree.specs.Rule.{place_of, view_statement};
 ghost use Rattle.ev_parse.specs.Gives.{Gives};
-ghost use Rattle.ev_parse.specs.Reading.{count_at, arrow_count_at, event_at, engine_at, prop_at, statement_at};
+ghost use Rattle.ev_parse.specs.Reading.{count_at, arrow_count_at, event_at, engine_at, prop_at};
+ghost use Rattle.ev_parse.specs.Reading.{statement_at};
 ghost use Rattle.ev_parse.specs.Toks.{toks};
 
 use crate::attrs::{engine_attrs, event_attrs};
 use crate::parts::declared;
 use crate::patterns::side;
-use crate::stop::Stop;
+use crate::stop::ParseStop;
 use crate::tokens::{int, next_is, next_is_int, sign, word};
 use ev_lex::Token;
 use ev_tree::{Count, Statement};
 use std::alloc::Global;
 
 #[tactic(auto, unfolding(crate::specs::Reading::count_at))]
-fn count<'a>(text: &[u8], tokens: &'a [Token]) -> Result<(Count, &'a [Token]), Stop<'a>>
+fn count<'a>(text: &[u8], tokens: &'a [Token]) -> Result<(Count, &'a [Token]), ParseStop<'a>>
     ensures { Gives text.now (λ x. x) result (count_at (toks text.now tokens.now)) }
 {
     if next_is_int(text, tokens) {
@@ -31,7 +33,7 @@ fn count<'a>(text: &[u8], tokens: &'a [Token]) -> Result<(Count, &'a [Token]), S
 fn arrow_count<'a>(
     text: &[u8],
     tokens: &'a [Token],
-) -> Result<(Option<Count>, &'a [Token]), Stop<'a>>
+) -> Result<(Option<Count>, &'a [Token]), ParseStop<'a>>
     ensures { Gives text.now (λ x. x) result (arrow_count_at (toks text.now tokens.now)) }
 {
     if next_is(text, tokens, b"(") {
@@ -50,7 +52,7 @@ fn event<'a>(
     text: &[u8],
     tokens: &'a [Token],
     place: u32,
-) -> Result<(Statement, &'a [Token]), Stop<'a>>
+) -> Result<(Statement, &'a [Token]), ParseStop<'a>>
     ensures gives { Gives text.now view_statement result (event_at (toks text.now tokens.now)) }
     ensures placed { IfOk result (λ x. place_of x.0 ≡ place) }
 {
@@ -74,7 +76,7 @@ fn engine<'a>(
     text: &[u8],
     tokens: &'a [Token],
     place: u32,
-) -> Result<(Statement, &'a [Token]), Stop<'a>>
+) -> Result<(Statement, &'a [Token]), ParseStop<'a>>
     ensures gives { Gives text.now view_statement result (engine_at (toks text.now tokens.now)) }
     ensures placed { IfOk result (λ x. place_of x.0 ≡ place) }
 {
@@ -98,7 +100,7 @@ fn prop<'a>(
     text: &[u8],
     tokens: &'a [Token],
     place: u32,
-) -> Result<(Statement, &'a [Token]), Stop<'a>>
+) -> Result<(Statement, &'a [Token]), ParseStop<'a>>
     ensures gives { Gives text.now view_statement result (prop_at (toks text.now tokens.now)) }
     ensures placed { IfOk result (λ x. place_of x.0 ≡ place) }
 {
@@ -128,7 +130,7 @@ pub(crate) fn statement<'a>(
     text: &[u8],
     tokens: &'a [Token],
     place: u32,
-) -> Result<(Statement, &'a [Token]), Stop<'a>>
+) -> Result<(Statement, &'a [Token]), ParseStop<'a>>
     ensures gives { Gives text.now view_statement result (statement_at (toks text.now tokens.now)) }
     ensures placed { IfOk result (λ x. place_of x.0 ≡ place) }
 {

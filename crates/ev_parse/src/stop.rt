@@ -1,53 +1,43 @@
+//! How a part of the parser stops.
 use ev_lex::Token;
 use std::alloc::{AllocError, AllocFailed};
 
 /// Why a part of the parser stopped: memory ran out, or it can't take the first of these tokens.
 #[derive(Clone, Copy)]
-pub enum Stop<'a> {
+pub enum ParseStop<'a> {
     NoMemory,
     At(&'a [Token]),
 }
 
-impl<'a> From<AllocError> for Stop<'a> {
+impl<'a> From<AllocError> for ParseStop<'a> {
     ghost use Rattle.std.specs.Prelude.{◌≡◌};
-    ghost use Rattle.ev_parse.specs.declared.stop.Stop.TheVariants.{NoMemory};
+    ghost use Rattle.ev_parse.specs.declared.stop.ParseStop.TheVariants.{NoMemory};
 
     ghost from_gives = { λ _ e. e ≡ NoMemory };
 
     fn from(_error: AllocError) -> Self {
-        Stop::NoMemory
+        ParseStop::NoMemory
     }
 }
 
-impl<'a, T: Drop> From<AllocFailed<T>> for Stop<'a> {
+impl<'a, T: Drop> From<AllocFailed<T>> for ParseStop<'a> {
     ghost use Rattle.std.specs.Prelude.{◌≡◌};
-    ghost use Rattle.ev_parse.specs.declared.stop.Stop.TheVariants.{NoMemory};
+    ghost use Rattle.ev_parse.specs.declared.stop.ParseStop.TheVariants.{NoMemory};
 
     ghost from_gives = { λ _ e. e ≡ NoMemory };
 
     fn from(_error: AllocFailed<T>) -> Self {
-        Stop::NoMemory
+        ParseStop::NoMemory
     }
 }
 
-impl<'a> From<ev_tree::NoMemory> for Stop<'a> {
+impl<'a> From<fm_bytes::NoMemory> for ParseStop<'a> {
     ghost use Rattle.std.specs.Prelude.{◌≡◌};
-    ghost use Rattle.ev_parse.specs.declared.stop.Stop.TheVariants.{NoMemory};
+    ghost use Rattle.ev_parse.specs.declared.stop.ParseStop.TheVariants.{NoMemory};
 
     ghost from_gives = { λ _ e. e ≡ NoMemory };
 
-    fn from(_error: ev_tree::NoMemory) -> Self {
-        Stop::NoMemory
-    }
-}
-
-impl<'a> From<fm_name::NoMemory> for Stop<'a> {
-    ghost use Rattle.std.specs.Prelude.{◌≡◌};
-    ghost use Rattle.ev_parse.specs.declared.stop.Stop.TheVariants.{NoMemory};
-
-    ghost from_gives = { λ _ e. e ≡ NoMemory };
-
-    fn from(_error: fm_name::NoMemory) -> Self {
-        Stop::NoMemory
+    fn from(_error: fm_bytes::NoMemory) -> Self {
+        ParseStop::NoMemory
     }
 }

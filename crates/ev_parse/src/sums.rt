@@ -1,3 +1,4 @@
+//! Sums of operands, and what compares them.
 ghost use Rattle.std.specs.Prelude.{◌≡◌, ◌∷◌, [], codes};
 ghost use Rattle.ev_tree.specs.Condition.{Defined, view_cond};
 ghost use Rattle.ev_parse.specs.Gives.{Gives, onto};
@@ -5,7 +6,7 @@ ghost use Rattle.ev_parse.specs.Read.{after_at, map_at, more_at};
 ghost use Rattle.ev_parse.specs.Reading.{call_at, operand_at, sum_at, compares_at, atom_at};
 ghost use Rattle.ev_parse.specs.Toks.{toks};
 
-use crate::stop::Stop;
+use crate::stop::ParseStop;
 use crate::tokens::{compare, int, name, next_is, next_is_int, next_is_name, quoted, sign};
 use ev_lex::Token;
 use ev_tree::{Cond, Operand, Operands, TreeText};
@@ -18,7 +19,7 @@ fn call<'a>(
     text: &[u8],
     tokens: &'a [Token],
     word: &[u8],
-) -> Result<(TreeText, &'a [Token]), Stop<'a>>
+) -> Result<(TreeText, &'a [Token]), ParseStop<'a>>
     ensures { Gives text.now (λ x. x) result (call_at word.now (toks text.now tokens.now)) }
 {
     let rest = sign(text, tokens, word)?;
@@ -33,7 +34,7 @@ fn operand<'a>(
     alloc: Global,
     text: &[u8],
     tokens: &'a [Token],
-) -> Result<(Operand, &'a [Token]), Stop<'a>>
+) -> Result<(Operand, &'a [Token]), ParseStop<'a>>
     ensures { Gives text.now (λ x. x) result (operand_at (toks text.now tokens.now)) }
 {
     if next_is_int(text, tokens) {
@@ -58,8 +59,9 @@ fn plus_operand<'a>(
     alloc: Global,
     text: &[u8],
     tokens: &'a [Token],
-) -> Result<(Operand, &'a [Token]), Stop<'a>>
-    ensures { Gives text.now (λ x. x) result (after_at (codes "+") operand_at (toks text.now tokens.now)) }
+) -> Result<(Operand, &'a [Token]), ParseStop<'a>>
+    ensures { Gives text.now (λ x. x) result
+        (after_at (codes "+") operand_at (toks text.now tokens.now)) }
 {
     let rest = sign(text, tokens, b"+")?;
     operand(alloc, text, rest)
@@ -70,8 +72,9 @@ fn more_operands<'a>(
     text: &[u8],
     first: Operand,
     tokens: &'a [Token],
-) -> Result<(Operands, &'a [Token]), Stop<'a>>
-    ensures { Gives text.now (λ x. x) result (onto (first ∷ []) (more_at (codes "+") operand_at (toks text.now tokens.now))) }
+) -> Result<(Operands, &'a [Token]), ParseStop<'a>>
+    ensures { Gives text.now (λ x. x) result
+        (onto (first ∷ []) (more_at (codes "+") operand_at (toks text.now tokens.now))) }
 {
     let mut items = vec![in alloc; first]?;
     let mut rest = tokens;
@@ -88,7 +91,7 @@ fn sum<'a>(
     alloc: Global,
     text: &[u8],
     tokens: &'a [Token],
-) -> Result<(Operands, &'a [Token]), Stop<'a>>
+) -> Result<(Operands, &'a [Token]), ParseStop<'a>>
     ensures { Gives text.now (λ x. x) result (sum_at (toks text.now tokens.now)) }
 {
     let (first, rest) = operand(alloc, text, tokens)?;
@@ -100,7 +103,7 @@ fn compares<'a>(
     alloc: Global,
     text: &[u8],
     tokens: &'a [Token],
-) -> Result<(Cond, &'a [Token]), Stop<'a>>
+) -> Result<(Cond, &'a [Token]), ParseStop<'a>>
     ensures { Gives text.now view_cond result (compares_at (toks text.now tokens.now)) }
 {
     let (left, rest) = sum(alloc, text, tokens)?;
@@ -113,8 +116,9 @@ fn defined<'a>(
     alloc: Global,
     text: &[u8],
     tokens: &'a [Token],
-) -> Result<(Cond, &'a [Token]), Stop<'a>>
-    ensures { Gives text.now view_cond result (map_at Defined (call_at (codes "confprop_defined")) (toks text.now tokens.now)) }
+) -> Result<(Cond, &'a [Token]), ParseStop<'a>>
+    ensures { Gives text.now view_cond result
+        (map_at Defined (call_at (codes "confprop_defined")) (toks text.now tokens.now)) }
 {
     let (name, rest) = call(alloc, text, tokens, b"confprop_defined")?;
     Ok((Cond::Defined(name), rest))
@@ -126,7 +130,7 @@ pub(crate) fn atom<'a>(
     alloc: Global,
     text: &[u8],
     tokens: &'a [Token],
-) -> Result<(Cond, &'a [Token]), Stop<'a>>
+) -> Result<(Cond, &'a [Token]), ParseStop<'a>>
     ensures { Gives text.now view_cond result (atom_at (toks text.now tokens.now)) }
 {
     if next_is(text, tokens, b"confprop_defined") {

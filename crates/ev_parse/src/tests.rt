@@ -1,3 +1,4 @@
+//! The parser on small files and at its limits.
 use crate::fault::ParseFault;
 use crate::parser::parse;
 use ev_lex::{LexFault, lex};

@@ -1,4 +1,5 @@
-ghost use Rattle.std.specs.Prelude.{◌≡◌, ◌^◌, nat_lt, if◌then◌else◌, Ok, IfOk, IsTrue, Some, None};
+//! The readers of one token.
+ghost use Rattle.std.specs.Prelude.{◌≡◌, if◌then◌else◌, Ok, IfOk, IsTrue, Some, None};
 ghost use Rattle.std.specs.Option.{option_copied};
 ghost use Rattle.std.specs.Str.{IsAscii};
 ghost use Rattle.std.specs.List.{list_all};
@@ -7,18 +8,23 @@ ghost use Rattle.fm_name.specs.Class.{is_class};
 ghost use Rattle.ev_lex.specs.Bytes.{count_while, is_text_byte as is_text_byte_of};
 ghost use Rattle.ev_tree.specs.Tok as tok;
 ghost use Rattle.ev_parse.specs.Gives.{Gives, GivesRest};
-ghost use Rattle.ev_parse.specs.Read.{opens_at, is as is_sign_of, is_word as is_word_of, sign_at, word_at};
-ghost use Rattle.ev_parse.specs.Reading.{is_int, is_name, pick_name, pick_class, pick_int, pick_time, pick_text, pick_compare, comparison as comparison_of, name_at, class_at, int_at, time_at, text_at, compare_at};
+ghost use Rattle.ev_parse.specs.Read.{opens_at, is as is_sign_of, is_word as is_word_of, sign_at};
+ghost use Rattle.ev_parse.specs.Read.{word_at};
+ghost use Rattle.ev_parse.specs.Reading.{is_int, opens_name, pick_name, pick_class, pick_int};
+ghost use Rattle.ev_parse.specs.Reading.{pick_time, pick_text, pick_compare};
+ghost use Rattle.ev_parse.specs.Reading.{comparison as comparison_of, name_at, class_at, int_at};
+ghost use Rattle.ev_parse.specs.Reading.{time_at, text_at, compare_at};
 ghost use Rattle.ev_parse.specs.Toks as spec;
 
-use crate::stop::Stop;
-use ev_lex::{Kind, Token, number_of};
+use crate::stop::ParseStop;
+use ev_lex::{Kind, Token};
 use ev_tree::{Compare, TimeWord, TreeText, Unit};
+use fm_bytes::{NoMemory, read_digits};
 use fm_name::{Class, read_class};
 use std::alloc::Global;
 
 fn is(bytes: &[u8], word: &[u8]) -> bool
-    ensures { result ≡ tok.same bytes.now word.now }
+    ensures { result ≡ tok.same_bytes bytes.now word.now }
 {
     bytes == word
 }
@@ -64,9 +70,7 @@ fn is_sign(text: &[u8], token: Token, sign: &[u8]) -> bool
     match token.kind {
         Kind::Punct => is(bytes, sign),
         Kind::Word => is_reserved(bytes) && is(bytes, sign),
-        Kind::Int => false,
-        Kind::Time => false,
-        Kind::Text => false,
+        _ => false,
     }
 }
 
@@ -85,16 +89,16 @@ pub(crate) fn sign<'a>(
     text: &[u8],
     tokens: &'a [Token],
     sign: &[u8],
-) -> Result<&'a [Token], Stop<'a>>
+) -> Result<&'a [Token], ParseStop<'a>>
     ensures { GivesRest text.now result (sign_at sign.now (spec.toks text.now tokens.now)) }
 {
     match tokens {
-        [] => Err(Stop::At(tokens)),
+        [] => Err(ParseStop::At(tokens)),
         [token, rest @ ..] => {
             if is_sign(text, *token, sign) {
                 Ok(rest)
             } else {
-                Err(Stop::At(tokens))
+                Err(ParseStop::At(tokens))
             }
         }
     }
@@ -107,10 +111,7 @@ fn is_word(text: &[u8], token: Token, word: &[u8]) -> bool
     let bytes = bytes_of(text, token);
     match token.kind {
         Kind::Word => !is_reserved(bytes) && is_all_name(bytes) && is(bytes, word),
-        Kind::Punct => false,
-        Kind::Int => false,
-        Kind::Time => false,
-        Kind::Text => false,
+        _ => false,
     }
 }
 
@@ -129,16 +130,16 @@ pub(crate) fn word<'a>(
     text: &[u8],
     tokens: &'a [Token],
     word: &[u8],
-) -> Result<&'a [Token], Stop<'a>>
+) -> Result<&'a [Token], ParseStop<'a>>
     ensures { GivesRest text.now result (word_at word.now (spec.toks text.now tokens.now)) }
 {
     match tokens {
-        [] => Err(Stop::At(tokens)),
+        [] => Err(ParseStop::At(tokens)),
         [token, rest @ ..] => {
             if is_word(text, *token, word) {
                 Ok(rest)
             } else {
-                Err(Stop::At(tokens))
+                Err(ParseStop::At(tokens))
             }
         }
     }
@@ -170,15 +171,12 @@ fn name_of(text: &[u8], token: Token) -> Option<&str>
                 None
             }
         }
-        Kind::Punct => None,
-        Kind::Int => None,
-        Kind::Time => None,
-        Kind::Text => None,
+        _ => None,
     }
 }
 
 /// A word as a class; `None` where it is none.
-fn read_word(alloc: Global, bytes: &[u8]) -> Result<Option<Class>, fm_name::NoMemory>
+fn read_word(alloc: Global, bytes: &[u8]) -> Result<Option<Class>, NoMemory>
     ensures { IfOk result (λ found. found ≡ (if is_class bytes.now then Some bytes.now else None)) }
 {
     match std::str::from_utf8(bytes) {
@@ -188,7 +186,7 @@ fn read_word(alloc: Global, bytes: &[u8]) -> Result<Option<Class>, fm_name::NoMe
 }
 
 #[tactic(auto, unfolding(crate::specs::Toks::tok_of, crate::specs::Toks::word_meaning, crate::specs::Toks::time_meaning, crate::specs::Toks::text_meaning), using(crate::proofs::Meanings::class_picked))]
-fn class_of(alloc: Global, text: &[u8], token: Token) -> Result<Option<Class>, fm_name::NoMemory>
+fn class_of(alloc: Global, text: &[u8], token: Token) -> Result<Option<Class>, NoMemory>
     ensures { IfOk result (λ found. found ≡ pick_class (spec.tok_of text.now token)) }
 {
     let bytes = bytes_of(text, token);
@@ -200,24 +198,19 @@ fn class_of(alloc: Global, text: &[u8], token: Token) -> Result<Option<Class>, f
                 read_word(alloc, bytes)
             }
         }
-        Kind::Punct => Ok(None),
-        Kind::Int => Ok(None),
-        Kind::Time => Ok(None),
-        Kind::Text => Ok(None),
+        _ => Ok(None),
     }
 }
 
-#[tactic(auto, unfolding(crate::specs::Toks::tok_of, crate::specs::Toks::word_meaning, crate::specs::Toks::time_meaning, crate::specs::Toks::text_meaning))]
+/// The number that the token is.
+#[tactic(auto, unfolding(crate::specs::Toks::tok_of, crate::specs::Toks::word_meaning, crate::specs::Toks::time_meaning, crate::specs::Toks::text_meaning), using(crate::proofs::Meanings::int_picked))]
 fn int_of(text: &[u8], token: Token) -> Option<u64>
     ensures { result ≡ pick_int (spec.tok_of text.now token) }
 {
     let bytes = bytes_of(text, token);
     match token.kind {
-        Kind::Int => number_of(bytes),
-        Kind::Word => None,
-        Kind::Punct => None,
-        Kind::Time => None,
-        Kind::Text => None,
+        Kind::Int => read_digits(bytes, u64::MAX),
+        _ => None,
     }
 }
 
@@ -256,7 +249,7 @@ fn time_word(bytes: &[u8]) -> Option<TimeWord>
     let n = count_digits(bytes);
     match unit_of(&bytes[n..]) {
         None => None,
-        Some(unit) => match number_of(&bytes[..n]) {
+        Some(unit) => match read_digits(&bytes[..n], u64::MAX) {
             None => None,
             Some(number) => Some(TimeWord { number, unit }),
         },
@@ -270,10 +263,7 @@ fn time_of(text: &[u8], token: Token) -> Option<TimeWord>
     let bytes = bytes_of(text, token);
     match token.kind {
         Kind::Time => time_word(bytes),
-        Kind::Word => None,
-        Kind::Punct => None,
-        Kind::Int => None,
-        Kind::Text => None,
+        _ => None,
     }
 }
 
@@ -311,10 +301,7 @@ fn text_of(text: &[u8], token: Token) -> Option<&str>
                 None
             }
         }
-        Kind::Word => None,
-        Kind::Punct => None,
-        Kind::Int => None,
-        Kind::Time => None,
+        _ => None,
     }
 }
 
@@ -352,9 +339,7 @@ fn compare_of(text: &[u8], token: Token) -> Option<Compare>
                 None
             }
         }
-        Kind::Int => None,
-        Kind::Time => None,
-        Kind::Text => None,
+        _ => None,
     }
 }
 
@@ -370,7 +355,7 @@ pub(crate) fn next_is_int(text: &[u8], tokens: &[Token]) -> bool
 
 /// Whether the first token is a name.
 pub(crate) fn next_is_name(text: &[u8], tokens: &[Token]) -> bool
-    ensures { result ≡ opens_at is_name (spec.toks text.now tokens.now) }
+    ensures { result ≡ opens_at opens_name (spec.toks text.now tokens.now) }
 {
     match tokens {
         [] => false,
@@ -384,13 +369,13 @@ pub(crate) fn name<'a>(
     alloc: Global,
     text: &[u8],
     tokens: &'a [Token],
-) -> Result<(TreeText, &'a [Token]), Stop<'a>>
+) -> Result<(TreeText, &'a [Token]), ParseStop<'a>>
     ensures { Gives text.now (λ n. n) result (name_at (spec.toks text.now tokens.now)) }
 {
     match tokens {
-        [] => Err(Stop::At(tokens)),
+        [] => Err(ParseStop::At(tokens)),
         [token, rest @ ..] => match name_of(text, *token) {
-            None => Err(Stop::At(tokens)),
+            None => Err(ParseStop::At(tokens)),
             Some(name) => {
                 let name = TreeText::new(alloc, name)?;
                 Ok((name, rest))
@@ -405,13 +390,13 @@ pub(crate) fn class<'a>(
     alloc: Global,
     text: &[u8],
     tokens: &'a [Token],
-) -> Result<(Class, &'a [Token]), Stop<'a>>
+) -> Result<(Class, &'a [Token]), ParseStop<'a>>
     ensures { Gives text.now (λ c. c) result (class_at (spec.toks text.now tokens.now)) }
 {
     match tokens {
-        [] => Err(Stop::At(tokens)),
+        [] => Err(ParseStop::At(tokens)),
         [token, rest @ ..] => match class_of(alloc, text, *token)? {
-            None => Err(Stop::At(tokens)),
+            None => Err(ParseStop::At(tokens)),
             Some(class) => Ok((class, rest)),
         },
     }
@@ -419,13 +404,13 @@ pub(crate) fn class<'a>(
 
 /// A number.
 #[tactic(auto, unfolding(crate::specs::Reading::int_at))]
-pub(crate) fn int<'a>(text: &[u8], tokens: &'a [Token]) -> Result<(u64, &'a [Token]), Stop<'a>>
+pub(crate) fn int<'a>(text: &[u8], tokens: &'a [Token]) -> Result<(u64, &'a [Token]), ParseStop<'a>>
     ensures { Gives text.now (λ n. n) result (int_at (spec.toks text.now tokens.now)) }
 {
     match tokens {
-        [] => Err(Stop::At(tokens)),
+        [] => Err(ParseStop::At(tokens)),
         [token, rest @ ..] => match int_of(text, *token) {
-            None => Err(Stop::At(tokens)),
+            None => Err(ParseStop::At(tokens)),
             Some(number) => Ok((number, rest)),
         },
     }
@@ -436,13 +421,13 @@ pub(crate) fn int<'a>(text: &[u8], tokens: &'a [Token]) -> Result<(u64, &'a [Tok
 pub(crate) fn time<'a>(
     text: &[u8],
     tokens: &'a [Token],
-) -> Result<(TimeWord, &'a [Token]), Stop<'a>>
+) -> Result<(TimeWord, &'a [Token]), ParseStop<'a>>
     ensures { Gives text.now (λ w. w) result (time_at (spec.toks text.now tokens.now)) }
 {
     match tokens {
-        [] => Err(Stop::At(tokens)),
+        [] => Err(ParseStop::At(tokens)),
         [token, rest @ ..] => match time_of(text, *token) {
-            None => Err(Stop::At(tokens)),
+            None => Err(ParseStop::At(tokens)),
             Some(time) => Ok((time, rest)),
         },
     }
@@ -454,13 +439,13 @@ pub(crate) fn quoted<'a>(
     alloc: Global,
     text: &[u8],
     tokens: &'a [Token],
-) -> Result<(TreeText, &'a [Token]), Stop<'a>>
+) -> Result<(TreeText, &'a [Token]), ParseStop<'a>>
     ensures { Gives text.now (λ t. t) result (text_at (spec.toks text.now tokens.now)) }
 {
     match tokens {
-        [] => Err(Stop::At(tokens)),
+        [] => Err(ParseStop::At(tokens)),
         [token, rest @ ..] => match text_of(text, *token) {
-            None => Err(Stop::At(tokens)),
+            None => Err(ParseStop::At(tokens)),
             Some(content) => {
                 let content = TreeText::new(alloc, content)?;
                 Ok((content, rest))
@@ -474,13 +459,13 @@ pub(crate) fn quoted<'a>(
 pub(crate) fn compare<'a>(
     text: &[u8],
     tokens: &'a [Token],
-) -> Result<(Compare, &'a [Token]), Stop<'a>>
+) -> Result<(Compare, &'a [Token]), ParseStop<'a>>
     ensures { Gives text.now (λ c. c) result (compare_at (spec.toks text.now tokens.now)) }
 {
     match tokens {
-        [] => Err(Stop::At(tokens)),
+        [] => Err(ParseStop::At(tokens)),
         [token, rest @ ..] => match compare_of(text, *token) {
-            None => Err(Stop::At(tokens)),
+            None => Err(ParseStop::At(tokens)),
             Some(compare) => Ok((compare, rest)),
         },
     }

@@ -2,7 +2,8 @@
 use Rattle.std.specs.Prelude.{◌≡◌, ℕ, suc, zero, List, [], ◌∷◌, Option, codes, IsTrue}
 use Rattle.fm_name.specs.Class.{is_class}
 use Rattle.ev_tree.specs.Condition.{Condition, Negated, Defined, Compares, any, all}
-use Rattle.ev_tree.specs.Language.{Lang, ◌·◌, ◌∣◌, Seq, nothing, one, made, always, maybe, each, separated, sign, word}
+use Rattle.ev_tree.specs.Language.{Lang, ◌·◌, ◌∣◌, Seq, nothing, one, made, always, maybe, each}
+use Rattle.ev_tree.specs.Language.{separated, sign, word}
 use Rattle.ev_tree.specs.Pattern.{Pattern}
 use Rattle.ev_tree.specs.Rule.{Rule, EventRule, EngineRule, PropRule}
 use Rattle.ev_tree.specs.Tok.{Tok, Sign, Name, Class, Int, Time, Text}
@@ -93,8 +94,10 @@ unfoldable pub operand : Operand → Lang
 operand o =
     made operands.Int int o
     ∣ made operands.Name name o
-    ∣ made operands.Confprop (λ t. sign (codes "confprop") · sign (codes "(") · text t · sign (codes ")")) o
-    ∣ made operands.Payloadprop (λ t. sign (codes "payloadprop") · sign (codes "(") · text t · sign (codes ")")) o
+    ∣ made operands.Confprop
+    (λ t. sign (codes "confprop") · sign (codes "(") · text t · sign (codes ")")) o
+    ∣ made operands.Payloadprop
+    (λ t. sign (codes "payloadprop") · sign (codes "(") · text t · sign (codes ")")) o
     ∣ made operands.Text text o
 
 -- sum = operand { "+" operand } .
@@ -114,7 +117,8 @@ comparing p = Compares p.0 p.1.0 p.1.1
 -- "confprop_defined" "(" TEXT ")" | sum compare sum
 unfoldable pub atom : Condition → Lang
 atom c =
-    made Defined (λ t. sign (codes "confprop_defined") · sign (codes "(") · text t · sign (codes ")")) c
+    made Defined (λ t. sign (codes "confprop_defined") · sign (codes "(") · text t · sign
+    (codes ")")) c
     ∣ made comparing (λ p. sum p.0 · compare p.1.0 · sum p.1.1) c
 
 -- both = unary { "&&" unary } .
@@ -125,8 +129,8 @@ both unary = made (gather all) (separated (Sign (codes "&&")) unary)
 unfoldable pub cond : (Condition → Lang) → Condition → Lang
 cond unary = made (gather any) (separated (Sign (codes "||")) (both unary))
 
--- unary = "!" unary | "(" cond ")" | "confprop_defined" "(" TEXT ")" | sum compare sum , where `!` and `(` nest
--- at most so deep
+-- unary = "!" unary | "(" cond ")" | "confprop_defined" "(" TEXT ")" | sum compare sum , where `!`
+-- and `(` nest at most so deep
 unfoldable pub unary : ℕ → Condition → Lang
 unary zero c = atom c
 unary (suc n) c =
@@ -164,9 +168,12 @@ prop_of p = PropRule p.0 p.1.0 p.1.1.0 p.1.1.1
 --           | "prop" side [ "(" count ")" ] "->" [ "(" count ")" ] side ";" .
 unfoldable pub statement : Rule → Lang
 statement r =
-    made event_of (λ p. sign (codes "event") · declared p.0 · each (λ a. sign (codes ",") · event_attr a) p.1 · sign (codes ";")) r
-    ∣ made engine_of (λ p. sign (codes "engine") · declared p.0 · each (λ a. sign (codes ",") · engine_attr a) p.1 · sign (codes ";")) r
-    ∣ made prop_of (λ p. sign (codes "prop") · side p.0 · arrow_count p.1.0 · sign (codes "->") · arrow_count p.1.1.0 · side p.1.1.1 · sign (codes ";")) r
+    made event_of (λ p. sign (codes "event") · declared p.0 · each
+    (λ a. sign (codes ",") · event_attr a) p.1 · sign (codes ";")) r
+    ∣ made engine_of (λ p. sign (codes "engine") · declared p.0 · each
+    (λ a. sign (codes ",") · engine_attr a) p.1 · sign (codes ";")) r
+    ∣ made prop_of (λ p. sign (codes "prop") · side p.0 · arrow_count p.1.0 · sign (codes "->") ·
+    arrow_count p.1.1.0 · side p.1.1.1 · sign (codes ";")) r
 
 -- file = { statement } .
 unfoldable pub file : List Rule → Lang

@@ -1,5 +1,5 @@
--- Languages over tokens, and how they are put together. A language says which lists of tokens are its words;
--- a family of languages says which words spell a value.
+-- Languages over tokens, and how they are put together. A language says which lists of tokens are
+-- its words; a family of languages says which words spell a value.
 use Rattle.std.specs.Prelude.{◌≡◌, ◌⊎◌, ℕ, List, [], ◌∷◌, ◌++◌, Option, Some, None}
 use Rattle.ev_tree.specs.Tok.{Tok, Sign, Name}
 

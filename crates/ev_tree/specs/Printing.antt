@@ -1,6 +1,7 @@
 -- The tokens that a tree is printed as: a condition stands in parentheses only where it has to.
 use Rattle.std.specs.Prelude.{ℕ, Bool, true, false, List, [], ◌∷◌, ◌++◌, Option, Some, None, codes}
-use Rattle.ev_tree.specs.Condition.{Condition, Conditions, Any, All, Negated, Defined, Compares, Nothing, Also}
+use Rattle.ev_tree.specs.Condition.{Condition, Conditions, Any, All, Negated, Defined, Compares}
+use Rattle.ev_tree.specs.Condition.{Nothing, Also}
 use Rattle.ev_tree.specs.Pattern.{Pattern}
 use Rattle.ev_tree.specs.Rule.{Rule, EventRule, EngineRule, PropRule}
 use Rattle.ev_tree.specs.Tok.{Tok, Sign, Name, Class, Int, Time, Text}
@@ -69,8 +70,10 @@ abbrev pub operand_tokens : Operand → List Tok
 operand_tokens (operands.Int n) = Int n ∷ []
 operand_tokens (operands.Name n) = Name n ∷ []
 operand_tokens (operands.Text t) = Text t ∷ []
-operand_tokens (operands.Confprop t) = Sign (codes "confprop") ∷ Sign (codes "(") ∷ Text t ∷ Sign (codes ")") ∷ []
-operand_tokens (operands.Payloadprop t) = Sign (codes "payloadprop") ∷ Sign (codes "(") ∷ Text t ∷ Sign (codes ")") ∷ []
+operand_tokens (operands.Confprop t) =
+    Sign (codes "confprop") ∷ Sign (codes "(") ∷ Text t ∷ Sign (codes ")") ∷ []
+operand_tokens (operands.Payloadprop t) =
+    Sign (codes "payloadprop") ∷ Sign (codes "(") ∷ Text t ∷ Sign (codes ")") ∷ []
 
 abbrev pub sum_tokens : List Operand → List Tok
 sum_tokens os = between (codes "+") operand_tokens os
@@ -105,7 +108,8 @@ abbrev mutual
   show l (Any cs) = wrapped (wraps_any l) (row (codes "||") InAny cs)
   show l (All cs) = wrapped (wraps_all l) (row (codes "&&") InAll cs)
   show l (Negated c) = Sign (codes "!") ∷ show InAll c
-  show l (Defined t) = Sign (codes "confprop_defined") ∷ Sign (codes "(") ∷ Text t ∷ Sign (codes ")") ∷ []
+  show l (Defined t) = Sign (codes "confprop_defined") ∷ Sign (codes "(") ∷ Text t ∷ Sign
+      (codes ")") ∷ []
   show l (Compares left how right) = sum_tokens left ++ (Sign (compare_sign how) ∷ sum_tokens right)
 
   -- conditions at a level with a sign between two
@@ -122,18 +126,25 @@ guard_tokens None = []
 guard_tokens (Some c) = Sign (codes "{") ∷ (show Whole c ++ Sign (codes "}") ∷ [])
 
 abbrev pub pattern_tokens : Pattern → List Tok
-pattern_tokens p = Class p.class ∷ Sign (codes "@") ∷ (between (codes "/") part_tokens p.parts ++ guard_tokens p.cond)
+pattern_tokens p = Class p.class ∷ Sign (codes "@") ∷
+    (between (codes "/") part_tokens p.parts ++ guard_tokens p.cond)
 
 abbrev pub side_tokens : List Pattern → List Tok
 side_tokens ps = between (codes ",") pattern_tokens ps
 
 abbrev pub rule_tokens : Rule → List Tok
 rule_tokens (EventRule d attrs) =
-    Sign (codes "event") ∷ (declared_tokens d ++ (behind (codes ",") event_attr_tokens attrs ++ Sign (codes ";") ∷ []))
+    Sign (codes "event") ∷
+    (declared_tokens d ++ (behind (codes ",") event_attr_tokens attrs ++ Sign (codes ";") ∷ []))
 rule_tokens (EngineRule d attrs) =
-    Sign (codes "engine") ∷ (declared_tokens d ++ (behind (codes ",") engine_attr_tokens attrs ++ Sign (codes ";") ∷ []))
+    Sign (codes "engine") ∷
+    (declared_tokens d ++ (behind (codes ",") engine_attr_tokens attrs
+    ++ Sign (codes ";") ∷ []))
 rule_tokens (PropRule left n k right) =
-    Sign (codes "prop") ∷ (side_tokens left ++ (arrow_count_tokens n ++ (Sign (codes "->") ∷ (arrow_count_tokens k ++ (side_tokens right ++ Sign (codes ";") ∷ [])))))
+    Sign (codes "prop") ∷
+    (side_tokens left ++ (arrow_count_tokens n
+    ++ (Sign (codes "->") ∷
+    (arrow_count_tokens k ++ (side_tokens right ++ Sign (codes ";") ∷ [])))))
 
 abbrev pub file_tokens : List Rule → List Tok
 file_tokens [] = []

@@ -9,8 +9,8 @@ use Rattle.ev_tree.specs.declared.tree.Statement.TheVariants as statements
 use Rattle.ev_tree.specs.declared.tree.Tree.{Tree}
 use Rattle.ev_tree.specs.Pattern.{Pattern, view_pattern}
 
--- an event and its attributes, an engine and its attributes, or a propagation: its left patterns, the
--- numbers N and K at the arrow, and its right patterns
+-- an event and its attributes, an engine and its attributes, or a propagation: its left patterns,
+-- the numbers N and K at the arrow, and its right patterns
 pub data Rule : Type 0 where
   EventRule : Declared → List EventAttr → Rule
   EngineRule : Declared → List EngineAttr → Rule
@@ -20,7 +20,8 @@ pub data Rule : Type 0 where
 abbrev pub view_statement : Statement → Rule
 view_statement (statements.Event at event attrs) = EventRule event attrs
 view_statement (statements.Engine at engine attrs) = EngineRule engine attrs
-view_statement (statements.Prop at left n k right) = PropRule (map view_pattern left) n k (map view_pattern right)
+view_statement (statements.Prop at left n k right) =
+    PropRule (map view_pattern left) n k (map view_pattern right)
 
 -- the place of a statement's first byte
 abbrev pub place_of : Statement → ℕ

@@ -1,7 +1,7 @@
 -- The text of tokens.
 use Rattle.std.specs.Prelude.{ℕ, List, [], ◌∷◌, ◌++◌, if◌then◌else◌, codes}
 use Rattle.std.specs.Fmt.{decimal}
-use Rattle.ev_tree.specs.Tok.{Tok, Sign, Name, Class, Int, Time, Text, Odd, same}
+use Rattle.ev_tree.specs.Tok.{Tok, Sign, Name, Class, Int, Time, Text, Odd, same_bytes}
 use Rattle.ev_tree.specs.declared.tree.TimeWord.{TimeWord}
 use Rattle.ev_tree.specs.declared.tree.Unit as the_unit
 use Rattle.ev_tree.specs.declared.tree.Unit.TheVariants as units
@@ -27,7 +27,7 @@ bytes_of Odd = []
 
 -- what follows a token: a newline after `;`, else a space
 abbrev pub gap : Tok → ℕ
-gap (Sign b) = if same b (codes ";") then 10 else 32
+gap (Sign b) = if same_bytes b (codes ";") then 10 else 32
 gap (Name b) = 32
 gap (Class b) = 32
 gap (Int n) = 32

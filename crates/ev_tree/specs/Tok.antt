@@ -4,8 +4,8 @@ use Rattle.std.specs.List.{list_all}
 use Rattle.std.specs.Char.{is_ascii_alphanumeric}
 use Rattle.ev_tree.specs.declared.tree.TimeWord.{TimeWord}
 
--- Punctuation or a reserved word, by its bytes; a name; a class; a number; a time; a quoted text without its
--- quotes. A token that has none of these meanings is Odd, and stands in no rule file.
+-- Punctuation or a reserved word, by its bytes; a name; a class; a number; a time; a quoted text
+-- without its quotes. A token that has none of these meanings is Odd, and stands in no rule file.
 pub data Tok : Type 0 where
   Sign : List ℕ → Tok
   Name : List ℕ → Tok
@@ -16,17 +16,18 @@ pub data Tok : Type 0 where
   Odd : Tok
 
 -- the two byte strings are the same
-abbrev pub same : List ℕ → List ℕ → Bool
-same [] [] = true
-same [] (b ∷ bs) = false
-same (a ∷ more) [] = false
-same (a ∷ more) (b ∷ bs) = a == b && same more bs
+abbrev pub same_bytes : List ℕ → List ℕ → Bool
+same_bytes [] [] = true
+same_bytes [] (b ∷ bs) = false
+same_bytes (a ∷ more) [] = false
+same_bytes (a ∷ more) (b ∷ bs) = a == b && same_bytes more bs
 
 -- a reserved word, which is no name
 abbrev pub is_reserved : List ℕ → Bool
 is_reserved word =
-    ((((same word (codes "event") || same word (codes "engine")) || same word (codes "prop"))
-    || same word (codes "confprop")) || same word (codes "confprop_defined")) || same word (codes "payloadprop")
+    ((((same_bytes word (codes "event") || same_bytes word (codes "engine"))
+    || same_bytes word (codes "prop")) || same_bytes word (codes "confprop"))
+    || same_bytes word (codes "confprop_defined")) || same_bytes word (codes "payloadprop")
 
 -- a byte of a name: a letter, a digit, `_` or `-`
 abbrev pub is_name_byte : ℕ → Bool

@@ -1,14 +1,15 @@
+//! Copies of trees, and of each of their parts.
 ghost use Rattle.std.specs.Prelude.{◌≡◌, IfOk, map};
 ghost use Rattle.ev_tree.specs.Condition.{view_cond};
 ghost use Rattle.ev_tree.specs.Pattern.{view_pattern};
 ghost use Rattle.ev_tree.specs.Rule.{place_of, view_statement, view_tree};
 
-use crate::lists::{EngineAttrs, EventAttrs, Names, Operands, Parts, Patterns, Statements};
-use crate::no_memory::NoMemory;
+use crate::lists::{Patterns, Statements};
 use crate::tree::{
     At, Compare, Cond, Count, Declared, EngineAttr, EventAttr, Operand, Part, SidePattern,
     Statement, TimeWord, Tree, Unit,
 };
+use fm_bytes::{Copies, NoMemory};
 use std::alloc::Global;
 
 impl Unit {
@@ -47,22 +48,16 @@ impl Count {
     }
 }
 
-impl Declared {
-    /// An equal declaration.
-    pub fn copy(&self, alloc: Global) -> Result<Self, NoMemory>
-        ensures { IfOk result (λ d. d ≡ self.now) }
-    {
+impl Copies for Declared {
+    fn copy(&self, alloc: Global) -> Result<Declared, NoMemory> {
         let class = self.class.copy()?;
         let names = self.names.copy(alloc)?;
         Ok(Declared { class, names })
     }
 }
 
-impl EventAttr {
-    /// An equal attribute.
-    pub fn copy(&self, alloc: Global) -> Result<Self, NoMemory>
-        ensures { IfOk result (λ a. a ≡ self.now) }
-    {
+impl Copies for EventAttr {
+    fn copy(&self, alloc: Global) -> Result<EventAttr, NoMemory> {
         match self {
             EventAttr::Fit(number) => Ok(EventAttr::Fit(*number)),
             EventAttr::Retire(number) => Ok(EventAttr::Retire(*number)),
@@ -72,11 +67,8 @@ impl EventAttr {
     }
 }
 
-impl EngineAttr {
-    /// An equal attribute.
-    pub fn copy(&self, alloc: Global) -> Result<Self, NoMemory>
-        ensures { IfOk result (λ a. a ≡ self.now) }
-    {
+impl Copies for EngineAttr {
+    fn copy(&self, alloc: Global) -> Result<EngineAttr, NoMemory> {
         match self {
             EngineAttr::N(number) => Ok(EngineAttr::N(*number)),
             EngineAttr::T(time) => Ok(EngineAttr::T(*time)),
@@ -85,11 +77,8 @@ impl EngineAttr {
     }
 }
 
-impl At {
-    /// An equal value.
-    pub fn copy(&self, alloc: Global) -> Result<Self, NoMemory>
-        ensures { IfOk result (λ a. a ≡ self.now) }
-    {
+impl Copies for At {
+    fn copy(&self, alloc: Global) -> Result<At, NoMemory> {
         match self {
             At::Bare => Ok(At::Bare),
             At::Down(name) => Ok(At::Down(name.copy(alloc)?)),
@@ -99,22 +88,16 @@ impl At {
     }
 }
 
-impl Part {
-    /// An equal part.
-    pub fn copy(&self, alloc: Global) -> Result<Self, NoMemory>
-        ensures { IfOk result (λ p. p ≡ self.now) }
-    {
+impl Copies for Part {
+    fn copy(&self, alloc: Global) -> Result<Part, NoMemory> {
         let name = self.name.copy(alloc)?;
         let at = self.at.copy(alloc)?;
         Ok(Part { name, at })
     }
 }
 
-impl Operand {
-    /// An equal operand.
-    pub fn copy(&self, alloc: Global) -> Result<Self, NoMemory>
-        ensures { IfOk result (λ o. o ≡ self.now) }
-    {
+impl Copies for Operand {
+    fn copy(&self, alloc: Global) -> Result<Operand, NoMemory> {
         match self {
             Operand::Int(number) => Ok(Operand::Int(*number)),
             Operand::Name(name) => Ok(Operand::Name(name.copy(alloc)?)),
@@ -125,6 +108,7 @@ impl Operand {
     }
 }
 
+/// Conditions that are equal but for where they lie in memory.
 #[cycle(copy)]
 fn copy_conds(alloc: Global, conds: &[Cond]) -> Result<Vec<Cond>, NoMemory>
     ensures { IfOk result (λ v. map view_cond v.items ≡ map view_cond conds.now) }
@@ -136,6 +120,7 @@ fn copy_conds(alloc: Global, conds: &[Cond]) -> Result<Vec<Cond>, NoMemory>
     Ok(copies)
 }
 
+/// A condition that is equal but for where it lies in memory.
 #[cycle(copy)]
 fn copy_cond(alloc: Global, cond: &Cond) -> Result<Cond, NoMemory>
     ensures { IfOk result (λ c. view_cond c ≡ view_cond cond.now) }
@@ -255,8 +240,8 @@ impl Statement {
                 k,
                 right,
             } => {
-                let left = left.copy(alloc)?;
-                let right = right.copy(alloc)?;
+                let left = copy_patterns(alloc, left)?;
+                let right = copy_patterns(alloc, right)?;
                 Ok(Statement::Prop {
                     place: *place,
                     left,
@@ -273,108 +258,33 @@ impl Tree {
     /// A tree with the same rules at the same places.
     pub fn copy(&self, alloc: Global) -> Result<Self, NoMemory>
         ensures rules { IfOk result (λ t. view_tree t ≡ view_tree self.now) }
-        ensures places { IfOk result (λ t. map place_of t.statements ≡ map place_of self.now.statements) }
+        ensures places { IfOk result
+            (λ t. map place_of t.statements ≡ map place_of self.now.statements) }
     {
-        let statements = self.statements.copy(alloc)?;
+        let statements = copy_statements(alloc, &self.statements)?;
         Ok(Tree { statements })
     }
 }
 
-impl Names {
-    /// An equal list.
-    pub fn copy(&self, alloc: Global) -> Result<Self, NoMemory>
-        ensures { IfOk result (λ l. l ≡ self.now) }
-    {
-        let items = self.as_slice();
-        let mut copies = Vec::new(alloc);
-        for name in items {
-            copies.push(name.copy(alloc)?)?;
-        }
-        Ok(Names::new(copies))
+/// A list of the same patterns.
+pub fn copy_patterns(alloc: Global, patterns: &Patterns) -> Result<Patterns, NoMemory>
+    ensures { IfOk result (λ l. map view_pattern l ≡ map view_pattern patterns.now) }
+{
+    let mut copies = Vec::new(alloc);
+    for pattern in patterns.as_slice() {
+        copies.push(pattern.copy(alloc)?)?;
     }
+    Ok(Patterns::new(copies))
 }
 
-impl EventAttrs {
-    /// An equal list.
-    pub fn copy(&self, alloc: Global) -> Result<Self, NoMemory>
-        ensures { IfOk result (λ l. l ≡ self.now) }
-    {
-        let items = self.as_slice();
-        let mut copies = Vec::new(alloc);
-        for attr in items {
-            copies.push(attr.copy(alloc)?)?;
-        }
-        Ok(EventAttrs::new(copies))
+/// A list of the same rules at the same places.
+pub fn copy_statements(alloc: Global, statements: &Statements) -> Result<Statements, NoMemory>
+    ensures rules { IfOk result (λ l. map view_statement l ≡ map view_statement statements.now) }
+    ensures places { IfOk result (λ l. map place_of l ≡ map place_of statements.now) }
+{
+    let mut copies = Vec::new(alloc);
+    for statement in statements.as_slice() {
+        copies.push(statement.copy(alloc)?)?;
     }
-}
-
-impl EngineAttrs {
-    /// An equal list.
-    pub fn copy(&self, alloc: Global) -> Result<Self, NoMemory>
-        ensures { IfOk result (λ l. l ≡ self.now) }
-    {
-        let items = self.as_slice();
-        let mut copies = Vec::new(alloc);
-        for attr in items {
-            copies.push(attr.copy(alloc)?)?;
-        }
-        Ok(EngineAttrs::new(copies))
-    }
-}
-
-impl Parts {
-    /// An equal list.
-    pub fn copy(&self, alloc: Global) -> Result<Self, NoMemory>
-        ensures { IfOk result (λ l. l ≡ self.now) }
-    {
-        let items = self.as_slice();
-        let mut copies = Vec::new(alloc);
-        for part in items {
-            copies.push(part.copy(alloc)?)?;
-        }
-        Ok(Parts::new(copies))
-    }
-}
-
-impl Operands {
-    /// An equal list.
-    pub fn copy(&self, alloc: Global) -> Result<Self, NoMemory>
-        ensures { IfOk result (λ l. l ≡ self.now) }
-    {
-        let items = self.as_slice();
-        let mut copies = Vec::new(alloc);
-        for operand in items {
-            copies.push(operand.copy(alloc)?)?;
-        }
-        Ok(Operands::new(copies))
-    }
-}
-
-impl Patterns {
-    /// A list of the same patterns.
-    pub fn copy(&self, alloc: Global) -> Result<Self, NoMemory>
-        ensures { IfOk result (λ l. map view_pattern l ≡ map view_pattern self.now) }
-    {
-        let items = self.as_slice();
-        let mut copies = Vec::new(alloc);
-        for pattern in items {
-            copies.push(pattern.copy(alloc)?)?;
-        }
-        Ok(Patterns::new(copies))
-    }
-}
-
-impl Statements {
-    /// A list of the same rules at the same places.
-    pub fn copy(&self, alloc: Global) -> Result<Self, NoMemory>
-        ensures rules { IfOk result (λ l. map view_statement l ≡ map view_statement self.now) }
-        ensures places { IfOk result (λ l. map place_of l ≡ map place_of self.now) }
-    {
-        let items = self.as_slice();
-        let mut copies = Vec::new(alloc);
-        for statement in items {
-            copies.push(statement.copy(alloc)?)?;
-        }
-        Ok(Statements::new(copies))
-    }
+    Ok(Statements::new(copies))
 }

@@ -5,16 +5,18 @@ ghost use Rattle.ev_tree.specs.Rule.{EngineRule, EventRule, PropRule, view_state
 ghost use Rattle.ev_tree.specs.Text.{text_of};
 
 use crate::lists::{EngineAttrs, EventAttrs, Patterns};
-use crate::no_memory::NoMemory;
 use crate::print_conditions::print_guard;
 use crate::print_parts::{
     print_count, print_declared, print_engine_attrs, print_event_attrs, print_parts,
 };
 use crate::print_words::{put, put_class, put_end};
 use crate::tree::{Count, Declared, SidePattern, Statement, Tree};
+use fm_bytes::NoMemory;
 
 fn print_pattern(out: &mut Vec<u8>, pattern: &SidePattern) -> Result<(), NoMemory>
-    ensures { OnOk result (out.new.items ≡ out.old.items ++ text_of (show.pattern_tokens (view_pattern pattern.now))) }
+    ensures { OnOk result
+        (out.new.items ≡ out.old.items
+        ++ text_of (show.pattern_tokens (view_pattern pattern.now))) }
 {
     put_class(out, &pattern.class)?;
     put(out, b"@")?;
@@ -23,7 +25,9 @@ fn print_pattern(out: &mut Vec<u8>, pattern: &SidePattern) -> Result<(), NoMemor
 }
 
 fn print_side(out: &mut Vec<u8>, patterns: &[SidePattern]) -> Result<(), NoMemory>
-    ensures { OnOk result (out.new.items ≡ out.old.items ++ text_of (show.side_tokens (map view_pattern patterns.now))) }
+    ensures { OnOk result
+        (out.new.items ≡ out.old.items
+        ++ text_of (show.side_tokens (map view_pattern patterns.now))) }
 {
     let Some((first, others)) = patterns.split_first() else {
         return Ok(());
@@ -37,7 +41,9 @@ fn print_side(out: &mut Vec<u8>, patterns: &[SidePattern]) -> Result<(), NoMemor
 }
 
 fn print_event(out: &mut Vec<u8>, event: &Declared, attrs: &EventAttrs) -> Result<(), NoMemory>
-    ensures { OnOk result (out.new.items ≡ out.old.items ++ text_of (show.rule_tokens (EventRule event.now attrs.now))) }
+    ensures { OnOk result
+        (out.new.items ≡ out.old.items
+        ++ text_of (show.rule_tokens (EventRule event.now attrs.now))) }
 {
     put(out, b"event")?;
     print_declared(out, event)?;
@@ -46,7 +52,9 @@ fn print_event(out: &mut Vec<u8>, event: &Declared, attrs: &EventAttrs) -> Resul
 }
 
 fn print_engine(out: &mut Vec<u8>, engine: &Declared, attrs: &EngineAttrs) -> Result<(), NoMemory>
-    ensures { OnOk result (out.new.items ≡ out.old.items ++ text_of (show.rule_tokens (EngineRule engine.now attrs.now))) }
+    ensures { OnOk result
+        (out.new.items ≡ out.old.items
+        ++ text_of (show.rule_tokens (EngineRule engine.now attrs.now))) }
 {
     put(out, b"engine")?;
     print_declared(out, engine)?;
@@ -61,7 +69,10 @@ fn print_prop(
     k: Option<Count>,
     right: &Patterns,
 ) -> Result<(), NoMemory>
-    ensures { OnOk result (out.new.items ≡ out.old.items ++ text_of (show.rule_tokens (PropRule (map view_pattern left.now) n k (map view_pattern right.now)))) }
+    ensures { OnOk result
+        (out.new.items ≡ out.old.items
+        ++ text_of (show.rule_tokens
+        (PropRule (map view_pattern left.now) n k (map view_pattern right.now)))) }
 {
     put(out, b"prop")?;
     print_side(out, left.as_slice())?;
@@ -73,7 +84,9 @@ fn print_prop(
 }
 
 fn print_statement(out: &mut Vec<u8>, statement: &Statement) -> Result<(), NoMemory>
-    ensures { OnOk result (out.new.items ≡ out.old.items ++ text_of (show.rule_tokens (view_statement statement.now))) }
+    ensures { OnOk result
+        (out.new.items ≡ out.old.items
+        ++ text_of (show.rule_tokens (view_statement statement.now))) }
 {
     match statement {
         Statement::Event { event, attrs, .. } => print_event(out, event, attrs),
@@ -89,7 +102,9 @@ fn print_statement(out: &mut Vec<u8>, statement: &Statement) -> Result<(), NoMem
 }
 
 fn print_statements(out: &mut Vec<u8>, statements: &[Statement]) -> Result<(), NoMemory>
-    ensures { OnOk result (out.new.items ≡ out.old.items ++ text_of (show.file_tokens (map view_statement statements.now))) }
+    ensures { OnOk result
+        (out.new.items ≡ out.old.items
+        ++ text_of (show.file_tokens (map view_statement statements.now))) }
 {
     for statement in statements {
         print_statement(out, statement)?;
@@ -97,10 +112,11 @@ fn print_statements(out: &mut Vec<u8>, statements: &[Statement]) -> Result<(), N
     Ok(())
 }
 
-/// Adds the text of a tree: its tokens with the fewest parentheses, a space after each and a newline after each
-/// statement. Places leave no trace in it. After `NoMemory` nothing is added.
+/// Adds the text of a tree: its tokens with the fewest parentheses, a space after each and a
+/// newline after each statement. Places leave no trace in it. After `NoMemory` nothing is added.
 pub fn print_tree(tree: &Tree, out: &mut Vec<u8>) -> Result<(), NoMemory>
-    ensures ok { OnOk result (out.new.items ≡ out.old.items ++ text_of (show.file_tokens (view_tree tree.now))) }
+    ensures ok { OnOk result
+        (out.new.items ≡ out.old.items ++ text_of (show.file_tokens (view_tree tree.now))) }
     ensures err { OnErr result (out.new.items ≡ out.old.items) }
 {
     let alloc = *out.allocator();

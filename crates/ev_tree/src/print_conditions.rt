@@ -1,16 +1,16 @@
 ghost use Rattle.std.specs.Prelude.{◌≡◌, ◌∷◌, [], ◌++◌, OnOk, map, codes};
-ghost use Rattle.ev_tree.specs.Condition.{conditions, view_cond, any, all, Negated, Defined, Compares};
+ghost use Rattle.ev_tree.specs.Condition.{conditions, view_cond, any, all, Negated, Defined};
+ghost use Rattle.ev_tree.specs.Condition.{Compares};
 ghost use Rattle.ev_tree.specs.Pattern.{view_option};
 ghost use Rattle.ev_tree.specs.Printing as show;
 ghost use Rattle.ev_tree.specs.Text.{gap, text_of};
 ghost use Rattle.ev_tree.specs.Tok as tok;
 
-use crate::lists::Operands;
-use crate::no_memory::NoMemory;
+use crate::lists::{Operands, TreeText};
 use crate::print_sums::{print_compare, print_sum};
 use crate::print_words::{print_call, put};
-use crate::text::TreeText;
 use crate::tree::{Compare, Cond};
+use fm_bytes::NoMemory;
 
 /// What a condition stands in: nothing, an `||`, or an `&&` or a negation.
 #[derive(Clone, Copy, PartialEq, Eq)]
@@ -44,7 +44,9 @@ fn wraps_all(level: Level) -> bool
 #[cycle(print)]
 fn print_row(out: &mut Vec<u8>, sign: &[u8], level: Level, conds: &[Cond]) -> Result<(), NoMemory>
     requires { gap (tok.Sign sign.now) ≡ 32 }
-    ensures { OnOk result (out.new.items ≡ out.old.items ++ text_of (show.row sign.now level (conditions (map view_cond conds.now)))) }
+    ensures { OnOk result
+        (out.new.items ≡ out.old.items
+        ++ text_of (show.row sign.now level (conditions (map view_cond conds.now)))) }
 {
     let Some((first, others)) = conds.split_first() else {
         return Ok(());
@@ -59,7 +61,9 @@ fn print_row(out: &mut Vec<u8>, sign: &[u8], level: Level, conds: &[Cond]) -> Re
 
 #[cycle(print)]
 fn print_any(out: &mut Vec<u8>, level: Level, members: &[Cond]) -> Result<(), NoMemory>
-    ensures { OnOk result (out.new.items ≡ out.old.items ++ text_of (show.show level (any (map view_cond members.now)))) }
+    ensures { OnOk result
+        (out.new.items ≡ out.old.items
+        ++ text_of (show.show level (any (map view_cond members.now)))) }
 {
     if wraps_any(level) {
         put(out, b"(")?;
@@ -72,7 +76,9 @@ fn print_any(out: &mut Vec<u8>, level: Level, members: &[Cond]) -> Result<(), No
 
 #[cycle(print)]
 fn print_all(out: &mut Vec<u8>, level: Level, members: &[Cond]) -> Result<(), NoMemory>
-    ensures { OnOk result (out.new.items ≡ out.old.items ++ text_of (show.show level (all (map view_cond members.now)))) }
+    ensures { OnOk result
+        (out.new.items ≡ out.old.items
+        ++ text_of (show.show level (all (map view_cond members.now)))) }
 {
     if wraps_all(level) {
         put(out, b"(")?;
@@ -85,7 +91,9 @@ fn print_all(out: &mut Vec<u8>, level: Level, members: &[Cond]) -> Result<(), No
 
 #[cycle(print)]
 fn print_negated(out: &mut Vec<u8>, inner: &Cond) -> Result<(), NoMemory>
-    ensures { OnOk result (out.new.items ≡ out.old.items ++ text_of (show.show Level.Whole (Negated (view_cond inner.now)))) }
+    ensures { OnOk result
+        (out.new.items ≡ out.old.items
+        ++ text_of (show.show Level.Whole (Negated (view_cond inner.now)))) }
 {
     put(out, b"!")?;
     print_cond(out, Level::InAll, inner)
@@ -97,7 +105,9 @@ fn print_compares(
     how: Compare,
     right: &Operands,
 ) -> Result<(), NoMemory>
-    ensures { OnOk result (out.new.items ≡ out.old.items ++ text_of (show.show Level.Whole (Compares left.now how right.now))) }
+    ensures { OnOk result
+        (out.new.items ≡ out.old.items
+        ++ text_of (show.show Level.Whole (Compares left.now how right.now))) }
 {
     print_sum(out, left.as_slice())?;
     print_compare(out, how)?;
@@ -105,7 +115,8 @@ fn print_compares(
 }
 
 fn print_defined(out: &mut Vec<u8>, name: &TreeText) -> Result<(), NoMemory>
-    ensures { OnOk result (out.new.items ≡ out.old.items ++ text_of (show.show Level.Whole (Defined name.now))) }
+    ensures { OnOk result
+        (out.new.items ≡ out.old.items ++ text_of (show.show Level.Whole (Defined name.now))) }
 {
     print_call(out, b"confprop_defined", name)
 }
@@ -113,7 +124,8 @@ fn print_defined(out: &mut Vec<u8>, name: &TreeText) -> Result<(), NoMemory>
 /// Adds a condition, in parentheses where it would not stand for itself at this level.
 #[cycle(print)]
 fn print_cond(out: &mut Vec<u8>, level: Level, cond: &Cond) -> Result<(), NoMemory>
-    ensures { OnOk result (out.new.items ≡ out.old.items ++ text_of (show.show level (view_cond cond.now))) }
+    ensures { OnOk result
+        (out.new.items ≡ out.old.items ++ text_of (show.show level (view_cond cond.now))) }
 {
     match cond {
         Cond::Any(members) => print_any(out, level, members.as_slice()),
@@ -125,7 +137,8 @@ fn print_cond(out: &mut Vec<u8>, level: Level, cond: &Cond) -> Result<(), NoMemo
 }
 
 pub(crate) fn print_guard(out: &mut Vec<u8>, cond: &Option<Cond>) -> Result<(), NoMemory>
-    ensures { OnOk result (out.new.items ≡ out.old.items ++ text_of (show.guard_tokens (view_option cond.now))) }
+    ensures { OnOk result
+        (out.new.items ≡ out.old.items ++ text_of (show.guard_tokens (view_option cond.now))) }
 {
     match cond {
         None => Ok(()),

@@ -2,13 +2,15 @@ ghost use Rattle.std.specs.Prelude.{◌≡◌, ◌++◌, OnOk, codes};
 ghost use Rattle.ev_tree.specs.Printing as show;
 ghost use Rattle.ev_tree.specs.Text.{text_of};
 
-use crate::no_memory::NoMemory;
+use crate::lists::TreeText;
 use crate::print_words::{put, put_class, put_int, put_name, put_time};
-use crate::text::TreeText;
 use crate::tree::{At, Count, Declared, EngineAttr, EventAttr, Part};
+use fm_bytes::NoMemory;
 
 fn print_names(out: &mut Vec<u8>, names: &[TreeText]) -> Result<(), NoMemory>
-    ensures { OnOk result (out.new.items ≡ out.old.items ++ text_of (show.between (codes "/") show.name_tokens names.now)) }
+    ensures { OnOk result
+        (out.new.items ≡ out.old.items
+        ++ text_of (show.between (codes "/") show.name_tokens names.now)) }
 {
     let Some((first, others)) = names.split_first() else {
         return Ok(());
@@ -22,7 +24,8 @@ fn print_names(out: &mut Vec<u8>, names: &[TreeText]) -> Result<(), NoMemory>
 }
 
 pub(crate) fn print_declared(out: &mut Vec<u8>, declared: &Declared) -> Result<(), NoMemory>
-    ensures { OnOk result (out.new.items ≡ out.old.items ++ text_of (show.declared_tokens declared.now)) }
+    ensures { OnOk result
+        (out.new.items ≡ out.old.items ++ text_of (show.declared_tokens declared.now)) }
 {
     put_class(out, &declared.class)?;
     put(out, b"@")?;
@@ -30,7 +33,8 @@ pub(crate) fn print_declared(out: &mut Vec<u8>, declared: &Declared) -> Result<(
 }
 
 fn print_event_attr(out: &mut Vec<u8>, attr: &EventAttr) -> Result<(), NoMemory>
-    ensures { OnOk result (out.new.items ≡ out.old.items ++ text_of (show.event_attr_tokens attr.now)) }
+    ensures { OnOk result
+        (out.new.items ≡ out.old.items ++ text_of (show.event_attr_tokens attr.now)) }
 {
     match attr {
         EventAttr::Fit(number) => {
@@ -57,7 +61,9 @@ fn print_event_attr(out: &mut Vec<u8>, attr: &EventAttr) -> Result<(), NoMemory>
 }
 
 pub(crate) fn print_event_attrs(out: &mut Vec<u8>, attrs: &[EventAttr]) -> Result<(), NoMemory>
-    ensures { OnOk result (out.new.items ≡ out.old.items ++ text_of (show.behind (codes ",") show.event_attr_tokens attrs.now)) }
+    ensures { OnOk result
+        (out.new.items ≡ out.old.items
+        ++ text_of (show.behind (codes ",") show.event_attr_tokens attrs.now)) }
 {
     for other in attrs {
         put(out, b",")?;
@@ -67,7 +73,8 @@ pub(crate) fn print_event_attrs(out: &mut Vec<u8>, attrs: &[EventAttr]) -> Resul
 }
 
 fn print_engine_attr(out: &mut Vec<u8>, attr: &EngineAttr) -> Result<(), NoMemory>
-    ensures { OnOk result (out.new.items ≡ out.old.items ++ text_of (show.engine_attr_tokens attr.now)) }
+    ensures { OnOk result
+        (out.new.items ≡ out.old.items ++ text_of (show.engine_attr_tokens attr.now)) }
 {
     match attr {
         EngineAttr::N(number) => {
@@ -89,7 +96,9 @@ fn print_engine_attr(out: &mut Vec<u8>, attr: &EngineAttr) -> Result<(), NoMemor
 }
 
 pub(crate) fn print_engine_attrs(out: &mut Vec<u8>, attrs: &[EngineAttr]) -> Result<(), NoMemory>
-    ensures { OnOk result (out.new.items ≡ out.old.items ++ text_of (show.behind (codes ",") show.engine_attr_tokens attrs.now)) }
+    ensures { OnOk result
+        (out.new.items ≡ out.old.items
+        ++ text_of (show.behind (codes ",") show.engine_attr_tokens attrs.now)) }
 {
     for other in attrs {
         put(out, b",")?;
@@ -99,7 +108,8 @@ pub(crate) fn print_engine_attrs(out: &mut Vec<u8>, attrs: &[EngineAttr]) -> Res
 }
 
 pub(crate) fn print_count(out: &mut Vec<u8>, count: Option<Count>) -> Result<(), NoMemory>
-    ensures { OnOk result (out.new.items ≡ out.old.items ++ text_of (show.arrow_count_tokens count)) }
+    ensures { OnOk result
+        (out.new.items ≡ out.old.items ++ text_of (show.arrow_count_tokens count)) }
 {
     match count {
         None => Ok(()),
@@ -147,7 +157,9 @@ fn print_part(out: &mut Vec<u8>, part: &Part) -> Result<(), NoMemory>
 }
 
 pub(crate) fn print_parts(out: &mut Vec<u8>, parts: &[Part]) -> Result<(), NoMemory>
-    ensures { OnOk result (out.new.items ≡ out.old.items ++ text_of (show.between (codes "/") show.part_tokens parts.now)) }
+    ensures { OnOk result
+        (out.new.items ≡ out.old.items
+        ++ text_of (show.between (codes "/") show.part_tokens parts.now)) }
 {
     let Some((first, others)) = parts.split_first() else {
         return Ok(());

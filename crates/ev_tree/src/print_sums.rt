@@ -3,12 +3,13 @@ ghost use Rattle.ev_tree.specs.Printing as show;
 ghost use Rattle.ev_tree.specs.Text.{text_of};
 ghost use Rattle.ev_tree.specs.Tok as tok;
 
-use crate::no_memory::NoMemory;
 use crate::print_words::{print_call, put, put_int, put_name, put_quoted};
 use crate::tree::{Compare, Operand};
+use fm_bytes::NoMemory;
 
 fn print_operand(out: &mut Vec<u8>, operand: &Operand) -> Result<(), NoMemory>
-    ensures { OnOk result (out.new.items ≡ out.old.items ++ text_of (show.operand_tokens operand.now)) }
+    ensures { OnOk result
+        (out.new.items ≡ out.old.items ++ text_of (show.operand_tokens operand.now)) }
 {
     match operand {
         Operand::Int(number) => put_int(out, *number),
@@ -20,7 +21,9 @@ fn print_operand(out: &mut Vec<u8>, operand: &Operand) -> Result<(), NoMemory>
 }
 
 pub(crate) fn print_sum(out: &mut Vec<u8>, operands: &[Operand]) -> Result<(), NoMemory>
-    ensures { OnOk result (out.new.items ≡ out.old.items ++ text_of (show.between (codes "+") show.operand_tokens operands.now)) }
+    ensures { OnOk result
+        (out.new.items ≡ out.old.items
+        ++ text_of (show.between (codes "+") show.operand_tokens operands.now)) }
 {
     let Some((first, others)) = operands.split_first() else {
         return Ok(());
@@ -34,7 +37,8 @@ pub(crate) fn print_sum(out: &mut Vec<u8>, operands: &[Operand]) -> Result<(), N
 }
 
 pub(crate) fn print_compare(out: &mut Vec<u8>, compare: Compare) -> Result<(), NoMemory>
-    ensures { OnOk result (out.new.items ≡ out.old.items ++ text_of (tok.Sign (show.compare_sign compare) ∷ [])) }
+    ensures { OnOk result
+        (out.new.items ≡ out.old.items ++ text_of (tok.Sign (show.compare_sign compare) ∷ [])) }
 {
     match compare {
         Compare::Eq => put(out, b"=="),

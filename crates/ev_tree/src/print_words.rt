@@ -3,9 +3,9 @@ ghost use Rattle.std.specs.Fmt.{decimal};
 ghost use Rattle.ev_tree.specs.Text.{text_of, unit_bytes};
 ghost use Rattle.ev_tree.specs.Tok as tok;
 
-use crate::no_memory::NoMemory;
-use crate::text::TreeText;
+use crate::lists::TreeText;
 use crate::tree::{TimeWord, Unit};
+use fm_bytes::NoMemory;
 use fm_name::Class;
 
 /// Adds bytes and a space.
@@ -85,7 +85,10 @@ pub(crate) fn put_class(out: &mut Vec<u8>, class: &fm_name::Class) -> Result<(),
 
 /// A word and a quoted text in parentheses.
 pub(crate) fn print_call(out: &mut Vec<u8>, word: &[u8], text: &TreeText) -> Result<(), NoMemory>
-    ensures { OnOk result (out.new.items ≡ out.old.items ++ (word.now ++ (32 ∷ text_of (tok.Sign (codes "(") ∷ tok.Text text.now ∷ tok.Sign (codes ")") ∷ [])))) }
+    ensures { OnOk result
+        (out.new.items ≡ out.old.items
+        ++ (word.now ++ (32 ∷ text_of
+        (tok.Sign (codes "(") ∷ tok.Text text.now ∷ tok.Sign (codes ")") ∷ [])))) }
 {
     put(out, word)?;
     put(out, b"(")?;

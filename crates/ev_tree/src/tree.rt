@@ -1,5 +1,8 @@
-use crate::lists::{EngineAttrs, EventAttrs, Names, Operands, Parts, Patterns, Statements};
-use crate::text::TreeText;
+//! The types of a tree: one for each rule of the grammar.
+
+use crate::lists::{
+    EngineAttrs, EventAttrs, Names, Operands, Parts, Patterns, Statements, TreeText,
+};
 use fm_name::Class;
 
 /// What an event or an engine statement declares: a class at the paths with these names.
@@ -72,7 +75,8 @@ pub enum Compare {
     Ge,
 }
 
-/// An operand of a sum: a number, a name, a quoted text, or a property of the path or of the payload.
+/// An operand of a sum: a number, a name, a quoted text, or a property of the path or of the
+/// payload.
 #[derive(Drop)]
 pub enum Operand {
     Int(u64),
@@ -82,8 +86,9 @@ pub enum Operand {
     Payloadprop(TreeText),
 }
 
-/// A condition. `Any` and `All` have at least two members in a tree that the grammar spells: a group in
-/// parentheses that is `Any` or `All` is a member of its own, and other parentheses leave no trace.
+/// A condition. `Any` and `All` have at least two members in a tree that the grammar spells: a
+/// group in parentheses that is `Any` or `All` is a member of its own, and other parentheses leave
+/// no trace.
 #[derive(Drop)]
 pub enum Cond {
     Any(Vec<Cond>),

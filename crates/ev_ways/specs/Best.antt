@@ -19,14 +19,19 @@ abbrev pub IsBestOf : (ℕ → Type 0) → List (Option ℕ) → Option Step →
 IsBestOf all distance None = (z e : ℕ) → all z → far distance z ≡ Some e → ⊥
 IsBestOf all distance (Some s) = IsBest all distance s
 
--- what looking at more nodes makes of the best so far: the new one comes from these, and is not behind the
--- old one nor those that are done
-pub record IsBetter (done all : ℕ → Type 0) (distance : List (Option ℕ)) (old new : Option Step) : Type 0 where
-  pub from : (s : Step) → new ≡ Some s → (old ≡ Some s) ⊎ (all s.node × (far distance s.node ≡ Some s.distance))
+-- what looking at more nodes makes of the best so far: the new one comes from these, and is not
+-- behind the old one nor those that are done
+pub record IsBetter (done all : ℕ → Type 0) (distance : List (Option ℕ)) (old new : Option Step) :
+    Type 0 where
+  pub from : (s : Step) → new ≡ Some s → (old ≡ Some s)
+      ⊎ (all s.node × (far distance s.node ≡ Some s.distance))
   pub kept : (s : Step) → old ≡ Some s → (t : Step) × (new ≡ Some t) × IsAtMost t s.distance s.node
-  pub each : (z e : ℕ) → done z → far distance z ≡ Some e → (t : Step) × (new ≡ Some t) × IsAtMost t e z
+  pub each : (z e : ℕ) → done z → far distance z ≡ Some e → (t : Step) × (new ≡ Some t)
+      × IsAtMost t e z
 
 -- the distances are those of shortest ways to the goal
-pub record AreTowards (causes effects : List (List ℕ)) (goal : ℕ) (distance : List (Option ℕ)) : Type 0 where
+pub record AreTowards (causes effects : List (List ℕ)) (goal : ℕ) (distance : List (Option ℕ)) :
+    Type 0 where
   pub shown : (x d : ℕ) → far distance x ≡ Some d → Way causes effects d x goal
-  pub least : (x n : ℕ) → Way causes effects n x goal → (d : ℕ) × (far distance x ≡ Some d) × (d ≤ n)
+  pub least : (x n : ℕ) → Way causes effects n x goal → (d : ℕ) × (far distance x ≡ Some d)
+      × (d ≤ n)

@@ -1,5 +1,7 @@
 -- Small words on lists of numbers.
-use Rattle.std.specs.Prelude.{◌≡◌, ◌⊎◌, ℕ, ◌<◌, List, [], length, slice_index, slice_index_or, Bool, true, false}
+use Rattle.std.specs.Prelude.{◌≡◌, ◌⊎◌, ℕ, ◌<◌, ◌==◌, List, [], length, slice_index}
+use Rattle.std.specs.Prelude.{slice_index_or, Bool, true, false}
+use Rattle.std.specs.List.{list_any}
 
 -- x stands in xs
 pub record IsIn (x : ℕ) (xs : List ℕ) : Type 0 where
@@ -23,7 +25,15 @@ RowsBelow n xs = (j : ℕ) → AllBelow n (row xs j)
 abbrev pub marked : List Bool → ℕ → Type 0
 marked marks x = slice_index_or marks x false ≡ true
 
+-- whether x stands in xs, as a test
+abbrev pub is_in : ℕ → List ℕ → Bool
+is_in x xs = list_any (λ y. x == y) xs
+
 -- uses tells for each node the lists in which it stands
+abbrev pub IsTurned : List (List ℕ) → List (List ℕ) → Type 0
+IsTurned rows uses = (x j : ℕ) → is_in j (row uses x) ≡ is_in x (row rows j)
+
+-- the same, each way
 pub record IsIndex (rows uses : List (List ℕ)) : Type 0 where
   pub to : (x j : ℕ) → IsIn x (row rows j) → IsIn j (row uses x)
   pub from : (x j : ℕ) → IsIn j (row uses x) → IsIn x (row rows j)

@@ -1,6 +1,7 @@
 pub mod Lists
 pub mod Tests
 pub mod Along
+pub mod Configurations
 pub mod Spoken
 pub mod Ordered
 pub mod Places
@@ -11,4 +12,3 @@ pub mod Calls
 pub mod Draining
 pub mod Tallies
 pub mod Decoding
-pub mod Counters

@@ -1,31 +1,35 @@
--- The book: what is known of all modules at one moment, whatever the order in which they were worked.
-use Rattle.std.specs.Prelude.{◌≡◌, ℕ, ◌+◌, ◌-◌, ◌<◌, ◌≤◌, max, Bool, ◌&&◌, ◌==◌, nat_le, if◌then◌else◌, List, [], ◌∷◌, ◌++◌, length, map, take, slice_get, slice_set, Option, Some, None}
+-- The book: what is known of all modules at one moment, whatever the order in which they were
+-- worked.
+use Rattle.std.specs.Prelude.{false, ◌≡◌, ℕ, ◌+◌, ◌-◌, ◌<◌, ◌≤◌, max, Bool, ◌&&◌, ◌==◌}
+use Rattle.std.specs.Prelude.{nat_le}
+use Rattle.std.specs.Prelude.{if◌then◌else◌, List, [], ◌∷◌, ◌++◌, length, map, take, slice_get}
+use Rattle.std.specs.Prelude.{slice_set, Option, Some, None}
 use Rattle.std.specs.List.{AllByRecursion, list_all}
 use Rattle.fm_entry.specs.declared.entry.Entry.{Entry}
 use Rattle.fm_entry.specs.declared.spoken.Spoken.{Spoken}
-use Rattle.fm_entry.specs.Entries.{moment_of}
+use Rattle.fm_entry.specs.Entries.{moment_of, is_reload, IsSpelled}
 use Rattle.fm_core.specs.Meaning.{Meaning, State, says_of}
 use Rattle.fm_core.specs.Folds.{state_along, words_along, records_at}
 use Rattle.fm_core.specs.Records.{of_module, numbered_from, IsAscending, past_all}
 
 -- a module at the base: its meaning, and its state before the entries of the book
-pub record Part : Type 0 where
+pub record ModuleState : Type 0 where
   pub meaning : Meaning
   pub state : State
 
--- A book: the number of entries before it, the greatest moment before it, the modules at the base by
--- number, the entries numbered from the base, how far each module has come, and what was said.
+-- A book: the number of entries before it, the greatest moment before it, the modules at the base
+-- by number, the entries numbered from the base, how far each module has come, and what was said.
 pub record Book : Type 0 where
   pub base : ℕ
   pub moment : ℕ
-  pub parts : List Part
+  pub modules : List ModuleState
   pub entries : List Entry
   pub cursors : List ℕ
   pub records : List Spoken
 
 -- the number of entries ever
-abbrev pub end_of : Book → ℕ
-end_of k = k.base + length k.entries
+abbrev pub next_number : Book → ℕ
+next_number k = k.base + length k.entries
 
 -- the greatest of a moment and those of the entries
 abbrev pub greatest_from : ℕ → List Entry → ℕ
@@ -41,30 +45,40 @@ abbrev pub taken : Book → ℕ → List Entry
 taken k c = take (c - k.base) k.entries
 
 -- the state of a module whose cursor is c
-abbrev pub state_at : Book → Part → ℕ → State
+abbrev pub state_at : Book → ModuleState → ℕ → State
 state_at k p c = state_along p.meaning p.state k.base (taken k c)
 
--- Module i stands lawfully: it bears the number i, its cursor lies between the base and the end, its
--- records ascend, and those numbered from the base are just what it says along the entries it has taken.
-pub record IsPlaced (k : Book) (i : ℕ) (p : Part) (c : ℕ) : Type 0 where
+-- Module i stands lawfully: it bears the number i, its cursor lies between the base and the end,
+-- its records ascend, and those numbered from the base are just what it says along the entries it
+-- has taken.
+pub record IsPlaced (k : Book) (i : ℕ) (p : ModuleState) (c : ℕ) : Type 0 where
   pub numbered : p.meaning.own ≡ i
   pub from_base : k.base ≤ c
-  pub to_end : c ≤ end_of k
+  pub to_end : c ≤ next_number k
   pub ascending : IsAscending (of_module i k.records)
-  pub exact : numbered_from k.base (of_module i k.records) ≡ words_along p.meaning p.state k.base (taken k c)
+  pub exact : numbered_from k.base (of_module i k.records)
+      ≡ words_along p.meaning p.state k.base (taken k c)
 
--- the book is lawful: each module has a cursor, each record names a module, and each module is placed
+-- the book is lawful: each module has a cursor, each record names a module, and each module is
+-- placed
 pub record IsLawful (k : Book) : Type 0 where
-  pub as_many : length k.cursors ≡ length k.parts
-  pub named : AllByRecursion (λ r. r.«module» < length k.parts) k.records
-  pub placed : (i : ℕ) (p : Part) (c : ℕ) → slice_get k.parts i ≡ Some p → slice_get k.cursors i ≡ Some c → IsPlaced k i p c
+  pub as_many : length k.cursors ≡ length k.modules
+  pub named : AllByRecursion (λ r. r.«module» < length k.modules) k.records
+  pub placed : (i : ℕ) (p : ModuleState) (c : ℕ) → slice_get k.modules i ≡ Some p
+      → slice_get k.cursors i ≡ Some c → IsPlaced k i p c
+
+-- an entry that can be accepted: it has a spelling, and is no Reload, which needs a list of
+-- configurations
+pub record IsAdmitted (e : Entry) : Type 0 where
+  pub spelled : IsSpelled e
+  pub no_reload : is_reload e ≡ false
 
 -- accept: the entry comes at the end
 abbrev pub accepted : Book → Entry → Book
 accepted k e = record k { entries = k.entries ++ e ∷ [] }
 
 -- work on a module that has an entry to take: it takes it, and what it says comes at the end
-abbrev pub worked_on : Book → ℕ → Part → ℕ → Option Entry → Book
+abbrev pub worked_on : Book → ℕ → ModuleState → ℕ → Option Entry → Book
 worked_on k i p c None = k
 worked_on k i p c (Some e) =
     record k {
@@ -72,14 +86,14 @@ worked_on k i p c (Some e) =
       records = k.records ++ records_at p.meaning.own c (says_of p.meaning (state_at k p c) c e);
     }
 
-abbrev pub worked_at : Book → ℕ → Option Part → Option ℕ → Book
+abbrev pub worked_at : Book → ℕ → Option ModuleState → Option ℕ → Book
 worked_at k i (Some p) (Some c) = worked_on k i p c (slice_get k.entries (c - k.base))
 worked_at k i (Some p) None = k
 worked_at k i None c = k
 
 -- work: module i takes the entry at its cursor; where there is none the book stays as it is
 abbrev pub worked : Book → ℕ → Book
-worked k i = worked_at k i (slice_get k.parts i) (slice_get k.cursors i)
+worked k i = worked_at k i (slice_get k.modules i) (slice_get k.cursors i)
 
 -- one past the greatest number that module i spoke at, else the base
 abbrev pub floor_of : Book → ℕ → ℕ
@@ -88,7 +102,8 @@ floor_of k i = past_all k.base (numbered_from k.base (of_module i k.records))
 abbrev pub fallen_at : Book → ℕ → ℕ → Option ℕ → Book
 fallen_at k i c None = k
 fallen_at k i c (Some d) =
-    if (nat_le (floor_of k i) c && nat_le c d) then record k { cursors = slice_set k.cursors i c } else k
+    if (nat_le (floor_of k i) c && nat_le c d) then record k { cursors = slice_set k.cursors i c }
+    else k
 
 -- fall: the cursor of module i goes back to c, where c is between its floor and its cursor
 abbrev pub fallen : Book → ℕ → ℕ → Book
@@ -96,23 +111,23 @@ fallen k i c = fallen_at k i c (slice_get k.cursors i)
 
 -- fall of every module to its floor
 abbrev pub floored : Book → Book
-floored k = record k { cursors = map (λ p. floor_of k p.meaning.own) k.parts }
+floored k = record k { cursors = map (λ p. floor_of k p.meaning.own) k.modules }
 
 -- each cursor is at the end
 abbrev pub is_done : Book → Bool
-is_done k = list_all (λ c. c == end_of k) k.cursors
+is_done k = list_all (λ c. c == next_number k) k.cursors
 
 -- a module at the end of the entries, as the next base has it
-abbrev pub rebased : Book → Part → Part
+abbrev pub rebased : Book → ModuleState → ModuleState
 rebased k p = record p { state = state_along p.meaning p.state k.base k.entries }
 
 -- base: where each cursor is at the end, the states there are kept in place of the entries
 abbrev pub based : Book → Book
 based k =
     if is_done k then record {
-      base = end_of k;
+      base = next_number k;
       moment = greatest_of k;
-      parts = map (rebased k) k.parts;
+      modules = map (rebased k) k.modules;
       entries = [];
       cursors = k.cursors;
       records = k.records;

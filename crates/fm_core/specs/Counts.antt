@@ -1,17 +1,16 @@
 -- What a counter counts, and when it speaks.
-use Rattle.std.specs.Prelude.{ℕ, ◌+◌, ◌/◌, ◌%◌, ◌^◌, Bool, true, false, ◌&&◌, ◌==◌, nat_lt, nat_le, if◌then◌else◌, List, [], ◌∷◌, ◌++◌, length, flat_map, Option, Some, None}
+use Rattle.std.specs.Prelude.{ℕ, ◌+◌, ◌/◌, ◌%◌, ◌^◌, Bool, true, false, ◌&&◌, ◌==◌, nat_lt, nat_le}
+use Rattle.std.specs.Prelude.{if◌then◌else◌, List, [], ◌∷◌, ◌++◌, length, flat_map, Option, Some}
+use Rattle.std.specs.Prelude.{None}
 use Rattle.std.specs.List.{list_all}
 use Rattle.std.specs.declared.cmp.Ordering.{Ordering}
 use Rattle.std.specs.declared.cmp.Ordering.TheVariants.{Less, Equal, Greater}
 use Rattle.std.specs.Ordering.{nat_cmp, is_lt}
 use Rattle.std.specs.Cmp.Lexicographic.{slice_cmp}
-use Rattle.fm_name.specs.Class.{is_class}
-use Rattle.fm_name.specs.Category.{category_of}
-use Rattle.fm_name.specs.declared.classes.Category.{Category}
-use Rattle.fm_name.specs.declared.classes.Category.TheVariants.{Ereport, Error, Fault, Defect, Upset, List as ListCategory, Serd}
-use Rattle.fm_nv.specs.Numbers.{u64_bytes, short_text}
+use Rattle.fm_name.specs.Category.{is_ereport}
+use Rattle.fm_bytes.specs.Numbers.{u64_bytes, short_text}
 use Rattle.fm_entry.specs.declared.entry.Entry.{Entry}
-use Rattle.fm_entry.specs.declared.entry.Entry.TheVariants.{Report, Tick, Repaired, Replaced, Acquit}
+use Rattle.fm_entry.specs.declared.entry.Entry.TheVariants.{Report}
 use Rattle.fm_entry.specs.declared.list_event.ListEvent.{ListEvent}
 use Rattle.fm_entry.specs.declared.list_event.ListKind.TheVariants.{Upset as UpsetWord}
 use Rattle.fm_core.specs.declared.class_count.ClassCount.{ClassCount}
@@ -20,7 +19,8 @@ use Rattle.fm_core.specs.declared.class_count.ClassCount.{ClassCount}
 abbrev pub order : ClassCount → List ℕ → Ordering
 order x class = slice_cmp nat_cmp x.class class
 
-abbrev pub one_more : Ordering → List ℕ → ClassCount → List ClassCount → List ClassCount → List ClassCount
+abbrev pub one_more : Ordering → List ℕ → ClassCount → List ClassCount → List ClassCount
+    → List ClassCount
 one_more Less class x xs more = x ∷ more
 one_more Equal class x xs more = record x { count = x.count + 1 } ∷ xs
 one_more Greater class x xs more = record { class = class; count = 1 } ∷ x ∷ xs
@@ -50,23 +50,6 @@ abbrev pub cases_of : List ClassCount → ℕ
 cases_of [] = 0
 cases_of (x ∷ xs) = x.count / 3 + cases_of xs
 
-abbrev pub is_ereport_category : Category → Bool
-is_ereport_category Ereport = true
-is_ereport_category Error = false
-is_ereport_category Fault = false
-is_ereport_category Defect = false
-is_ereport_category Upset = false
-is_ereport_category ListCategory = false
-is_ereport_category Serd = false
-
-abbrev pub is_ereport_at : Option Category → Bool
-is_ereport_at None = false
-is_ereport_at (Some category) = is_ereport_category category
-
--- the text is a class of category `ereport`
-abbrev pub is_ereport : List ℕ → Bool
-is_ereport class = is_class class && is_ereport_at (category_of class)
-
 -- a count is of a class of reports, and is at least 1
 abbrev pub is_count : ClassCount → Bool
 is_count x = is_ereport x.class && nat_lt 0 x.count
@@ -81,7 +64,8 @@ abbrev pub is_ordered : List ClassCount → Bool
 is_ordered [] = true
 is_ordered (x ∷ xs) = is_past x.class xs
 
--- the counts of a counter: classes of reports that ascend, each counted, and no more than 2^46 in all
+-- the counts of a counter: classes of reports that ascend, each counted, and no more than 2^46 in
+-- all
 abbrev pub are_counts : List ClassCount → Bool
 are_counts xs = is_ordered xs && (list_all is_count xs && nat_le (total_of xs) (2 ^ 46))
 
@@ -92,10 +76,7 @@ report_counts xs class = if nat_lt (total_of xs) (2 ^ 46) then counted class xs 
 -- the counts after an entry: a report is counted as long as no more than 2^46 would be
 abbrev pub counts_after : List ClassCount → Entry → List ClassCount
 counts_after xs (Report class path moment payload) = report_counts xs class
-counts_after xs (Tick moment) = xs
-counts_after xs (Repaired path moment) = xs
-counts_after xs (Replaced path moment) = xs
-counts_after xs (Acquit case moment) = xs
+counts_after xs _ = xs
 
 -- the word at every third report of a class: an upset without suspects
 abbrev pub third : ℕ → ℕ → List ℕ → List ℕ → ℕ → ListEvent
@@ -107,6 +88,7 @@ third own case class path moment =
       conf = 0;
       observed = record { class = class; path = path } ∷ [];
       suspects = [];
+      broken = [];
     }
 
 -- whether one report more of a class is a third one that is counted
@@ -115,15 +97,13 @@ is_third xs class = nat_lt (total_of xs) (2 ^ 46) && ((count_of class xs + 1) % 
 
 -- what a counter says at a report
 abbrev pub report_words : ℕ → List ClassCount → List ℕ → List ℕ → ℕ → List ListEvent
-report_words own xs class path moment = if is_third xs class then third own (cases_of xs) class path moment ∷ [] else []
+report_words own xs class path moment =
+    if is_third xs class then third own (cases_of xs) class path moment ∷ [] else []
 
 -- what a counter says at an entry
 abbrev pub counter_words : ℕ → List ClassCount → Entry → List ListEvent
 counter_words own xs (Report class path moment payload) = report_words own xs class path moment
-counter_words own xs (Tick moment) = []
-counter_words own xs (Repaired path moment) = []
-counter_words own xs (Replaced path moment) = []
-counter_words own xs (Acquit case moment) = []
+counter_words own xs _ = []
 
 -- how one count is kept: the class as a short text, and the count in eight bytes
 abbrev pub count_bytes : ClassCount → List ℕ

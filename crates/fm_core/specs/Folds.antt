@@ -22,7 +22,8 @@ words_along m s n [] = []
 words_along m s n (e ∷ es) =
     records_at m.own n (says_of m s n e) ++ words_along m (after_of m s n e) (n + 1) es
 
--- along the entries the state comes to a lawful one, and each record on the way has words of the module
+-- along the entries the state comes to a lawful one, and each record on the way has words of the
+-- module
 pub record StaysLawful (m : Meaning) (s : State) (n : ℕ) (es : List Entry) : Type 0 where
   pub state_holds : IsTrue (holds_of m (state_along m s n es))
   pub words_are : All (λ r. All (IsWordOf m.own) r.events) (words_along m s n es)

@@ -1,4 +1,5 @@
 pub mod Meaning
+pub mod Configurations
 pub mod Hands
 pub mod Folds
 pub mod Records
@@ -13,4 +14,3 @@ pub mod Faults
 pub mod CountsOnce
 pub mod CountsKept
 pub mod Counter
-pub mod Trials

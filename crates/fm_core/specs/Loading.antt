@@ -22,7 +22,8 @@ NoCount bytes = (x : ClassCount) (rest : List ℕ) → IsKept x → bytes ≢ co
 
 -- the bytes are not those of so many counts
 abbrev pub NoneRead : ℕ → List ℕ → Type 0
-NoneRead many bytes = (xs : List ClassCount) → length xs ≡ many → AllByRecursion IsKept xs → bytes ≢ flat_map count_bytes xs
+NoneRead many bytes = (xs : List ClassCount) → length xs ≡ many → AllByRecursion IsKept xs
+    → bytes ≢ flat_map count_bytes xs
 
 -- the bytes are the save of no counts
 abbrev pub NoCounts : List ℕ → Type 0

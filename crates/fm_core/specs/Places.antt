@@ -1,5 +1,6 @@
 -- Where a class stands among counts, or would stand.
-use Rattle.std.specs.Prelude.{ℕ, suc, ◌+◌, Bool, true, false, cond, nat_eq, List, [], ◌∷◌, insert, slice_get, slice_set, Option, Some, None, Result, Ok, Err}
+use Rattle.std.specs.Prelude.{ℕ, suc, ◌+◌, Bool, true, false, cond, nat_eq, List, [], ◌∷◌, insert}
+use Rattle.std.specs.Prelude.{slice_get, slice_set, Option, Some, None, Result, Ok, Err}
 use Rattle.std.specs.Ordering.{is_lt}
 use lib.Pointwise.{pointwise}
 use Rattle.fm_core.specs.declared.class_count.ClassCount.{ClassCount}
@@ -29,7 +30,8 @@ standing_count class (Some x) = cond (is_of class x) x.count 0
 
 -- where a class stands, or else would stand
 abbrev pub place_in : List ℕ → List ClassCount → Result ℕ ℕ
-place_in class xs = cond (is_standing class (slice_get xs (place_of class xs))) (Ok (place_of class xs)) (Err (place_of class xs))
+place_in class xs = cond (is_standing class (slice_get xs (place_of class xs)))
+    (Ok (place_of class xs)) (Err (place_of class xs))
 
 abbrev pub count_or_none : Option ClassCount → ℕ
 count_or_none None = 0
@@ -44,4 +46,5 @@ count_found (Err i) xs = 0
 abbrev pub counted_at : List ℕ → List ClassCount → ℕ → Option ClassCount → List ClassCount
 counted_at class xs i None = insert xs i (record { class = class; count = 1 })
 counted_at class xs i (Some x) =
-    cond (is_of class x) (slice_set xs i (record x { count = x.count + 1 })) (insert xs i (record { class = class; count = 1 }))
+    cond (is_of class x) (slice_set xs i (record x { count = x.count + 1 }))
+    (insert xs i (record { class = class; count = 1 }))

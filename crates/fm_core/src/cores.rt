@@ -1,15 +1,20 @@
-ghost use Rattle.std.specs.Prelude.{◌≡◌, ◌+◌, ◌-◌, ◌<◌, ◌≤◌, ◌^◌, [], ◌∷◌, ◌++◌, map, length, slice_get, slice_set, vec_len, vec_capacity, Some, IsTrue, IfOk, OnOk, OnErr};
+// A core: entries in memory, and modules that take them in whatever order.
+ghost use Rattle.std.specs.Prelude.{◌≡◌, ◌+◌, ◌-◌, ◌<◌, ◌≤◌, ◌^◌, [], ◌∷◌, ◌++◌, map, length};
+ghost use Rattle.std.specs.Prelude.{slice_get, slice_set, vec_len, vec_capacity, Some};
+ghost use Rattle.std.specs.Prelude.{IsTrue, IfOk, OnOk, OnErr};
 ghost use Rattle.std.specs.Option.{ForSome};
 ghost use Rattle.fm_entry.specs.Entries.{IsSpelled};
 ghost use Rattle.fm_core.specs.Hands.{shown, stepped, spoken_at};
-ghost use Rattle.fm_core.specs.Book.{accepted, worked, fallen, floor_of, is_done};
-ghost use Rattle.fm_core.specs.Seen.{AreFew, seen, book_of, FollowsAs, IsCore, AreFresh, OnlyWorked, HasComeTo, HavePassed, ComeOn};
+ghost use Rattle.fm_core.specs.Book.{IsAdmitted, accepted, worked, fallen, is_done};
+ghost use Rattle.fm_core.specs.Seen.{AreFew, seen, stands_for, modules_now, MayFall, IsCore};
+ghost use Rattle.fm_core.specs.Seen.{AreFresh, OnlyWorked, HasComeTo, HavePassed, ComeOn};
+ghost use Rattle.fm_core.specs.Drained.{drained};
 ghost use Rattle.fm_core.specs.Outcome.{outcome, after_step, kept_record};
 
 use crate::hand::Hand;
 use crate::module::Module;
-use crate::no_memory::NoMemory;
 use crate::worked::Worked;
+use fm_bytes::NoMemory;
 use fm_entry::{Entry, Spoken};
 use std::alloc::Global;
 use std::marker::Model;
@@ -36,7 +41,13 @@ impl<M> Model for Core<M> {
 
     ghost coded = { Prim.hlevel (codes, entry_row.the_row.coded, hand_code M.code) };
 
-    ghost view = { λ c. record { base = c.base; kept = c.kept.items; entries = c.entries.items; hands = c.hands.items; records = c.records.items } };
+    ghost view = { λ c. record {
+      base = c.base;
+      kept = c.kept.items;
+      entries = c.entries.items;
+      hands = c.hands.items;
+      records = c.records.items;
+    } };
 
     ghost invariant = { λ c. AreFew c.base c.entries.items };
 }
@@ -49,10 +60,16 @@ impl<M: Module> Core<M> {
         hands: Vec<Hand<M>>,
         kept: Vec<Hand<M>>,
     ) -> Result<Core<M>, NoMemory>
-        requires fresh { AreFresh base (map (shown M.meaning M.state) hands.items) }
-        requires equal { map (shown M.meaning M.state) hands.items ≡ map (shown M.meaning M.state) kept.items }
-        ensures made { IfOk result (λ core. core ≡ record { base = base; kept = kept.items; entries = []; hands = hands.items; records = [] }) }
-        ensures lawful { IfOk result (λ core. IsCore (seen M.meaning M.state core)) }
+        requires fresh { AreFresh base (map (shown M.Module) hands.items) }
+        requires equal { map (shown M.Module) hands.items ≡ map (shown M.Module) kept.items }
+        ensures made { IfOk result (λ core. core ≡ record {
+          base = base;
+          kept = kept.items;
+          entries = [];
+          hands = hands.items;
+          records = [];
+        }) }
+        ensures lawful { IfOk result (λ core. IsCore (seen M.Module core)) }
     {
         Ok(Core {
             base,
@@ -65,13 +82,15 @@ impl<M: Module> Core<M> {
 
     /// Takes the entry in, and answers its number.
     pub fn accept(&mut self, entry: Entry) -> Result<u64, NoMemory>
-        requires spelled { IsSpelled entry }
+        requires admitted { IsAdmitted entry }
         requires fits { self.old.base + length self.old.entries < 2 ^ 46 }
-        requires lawful { IsCore (seen M.meaning M.state self.old) }
+        requires lawful { IsCore (seen M.Module self.old) }
         ensures number { IfOk result (λ number. number ≡ self.old.base + length self.old.entries) }
-        ensures accepted { OnOk result (book_of (seen M.meaning M.state self.new) ≡ accepted (book_of (seen M.meaning M.state self.old)) entry) }
-        ensures ok { OnOk result (self.new ≡ record self.old { entries = self.old.entries ++ entry ∷ [] }) }
-        ensures lawful { IsCore (seen M.meaning M.state self.new) }
+        ensures accepted { OnOk result (
+            stands_for M.Module self.new ≡ accepted (stands_for M.Module self.old) entry) }
+        ensures ok { OnOk result (
+            self.new ≡ record self.old { entries = self.old.entries ++ entry ∷ [] }) }
+        ensures lawful { IsCore (seen M.Module self.new) }
         ensures err { OnErr result (self.new ≡ self.old) }
     {
         let number = self.base + self.entries.len() as u64;
@@ -94,8 +113,7 @@ impl<M: Module> Core<M> {
     }
 
     /// The entries that it accepted.
-    #[cfg(test)]
-    pub(crate) fn entries(&self) -> &[Entry]
+    pub fn entries(&self) -> &[Entry]
         ensures entries { result.now ≡ self.now.entries }
         ensures few { AreFew self.now.base result.now }
     {
@@ -110,18 +128,18 @@ impl<M: Module> Core<M> {
         &self.hands[module as usize]
     }
 
-    /// Puts the hand, which may have taken fewer entries, in place of the module's own, and gives that
-    /// back.
+    /// Puts the hand, which may have taken fewer entries, in place of the module's own, and gives
+    /// that back. What it has not taken is behind all that the module spoke.
     pub fn fall(&mut self, module: u32, hand: Hand<M>) -> Hand<M>
         requires known { «module» < length self.old.hands }
-        requires lawful { IsCore (seen M.meaning M.state self.old) }
-        requires follows { FollowsAs (book_of (seen M.meaning M.state self.old)) «module» (shown M.meaning M.state hand) }
-        requires above { floor_of (book_of (seen M.meaning M.state self.old)) «module» ≤ hand.cursor }
-        requires below { ForSome (slice_get self.old.hands «module») (λ own. hand.cursor ≤ own.cursor) }
-        ensures fallen { book_of (seen M.meaning M.state self.new) ≡ fallen (book_of (seen M.meaning M.state self.old)) «module» hand.cursor }
-        ensures put { self.new ≡ record self.old { hands = slice_set self.old.hands «module» hand } }
+        requires lawful { IsCore (seen M.Module self.old) }
+        requires may { MayFall (seen M.Module self.old) «module» (shown M.Module hand) }
+        ensures fallen { stands_for M.Module self.new
+            ≡ fallen (stands_for M.Module self.old) «module» hand.cursor }
+        ensures put { self.new
+            ≡ record self.old { hands = slice_set self.old.hands «module» hand } }
         ensures back { slice_get self.old.hands «module» ≡ Some result }
-        ensures lawful { IsCore (seen M.meaning M.state self.new) }
+        ensures lawful { IsCore (seen M.Module self.new) }
     {
         let own = &mut self.hands[module as usize];
         mem::replace(own, hand)
@@ -130,23 +148,27 @@ impl<M: Module> Core<M> {
     /// Lets the module take its next entry. After want of memory nothing has changed.
     pub fn work(&mut self, alloc: Global, module: u32) -> Result<Worked, NoMemory>
         requires known { «module» < length self.old.hands }
-        requires lawful { IsCore (seen M.meaning M.state self.old) }
-        ensures answer { IfOk result (λ answer. answer ≡ outcome (book_of (seen M.meaning M.state self.old)) «module») }
-        ensures worked { OnOk result (book_of (seen M.meaning M.state self.new) ≡ worked (book_of (seen M.meaning M.state self.old)) «module») }
-        ensures lawful { IsCore (seen M.meaning M.state self.new) }
+        requires lawful { IsCore (seen M.Module self.old) }
+        ensures answer { IfOk result (λ answer.
+            answer ≡ outcome (stands_for M.Module self.old) «module») }
+        ensures worked { OnOk result (
+            stands_for M.Module self.new ≡ worked (stands_for M.Module self.old) «module») }
+        ensures lawful { IsCore (seen M.Module self.new) }
         ensures modules { length self.new.hands ≡ length self.old.hands }
-        ensures only { OnlyWorked (seen M.meaning M.state self.old) (seen M.meaning M.state self.new) }
-        ensures err { OnErr result (seen M.meaning M.state self.new ≡ seen M.meaning M.state self.old) }
+        ensures only { OnlyWorked (seen M.Module self.old) (seen M.Module self.new) }
+        ensures err { OnErr result (seen M.Module self.new ≡ seen M.Module self.old) }
     {
         self.work_at(alloc, module as usize)
     }
 
-    /// Lets every module take every entry that it has not taken. After want of memory some of them may
-    /// have taken only some.
+    /// Lets every module take every entry that it has not taken: its state and its records are then
+    /// those of the drained book. After want of memory some of them may have taken only some.
     pub fn drain(&mut self, alloc: Global) -> Result<(), NoMemory>
-        requires { IsCore (seen M.meaning M.state self.old) }
-        ensures worked { OnlyWorked (seen M.meaning M.state self.old) (seen M.meaning M.state self.new) }
-        ensures done { OnOk result (IsTrue (is_done (book_of (seen M.meaning M.state self.new)))) }
+        requires { IsCore (seen M.Module self.old) }
+        ensures worked { OnlyWorked (seen M.Module self.old) (seen M.Module self.new) }
+        ensures done { OnOk result (IsTrue (is_done (stands_for M.Module self.new))) }
+        ensures modules { OnOk result (modules_now (seen M.Module self.new)
+            ≡ (drained (stands_for M.Module self.old)).modules) }
     {
         let first = self.least_place();
         'turns: for _turn in first..self.entries.len() {
@@ -155,11 +177,12 @@ impl<M: Module> Core<M> {
         Ok(())
     }
 
-    // lets each module take its next entry, so that an entry is in the processor's cache for them all
+    // lets each module take its next entry, so that an entry is in the processor's cache for them
+    // all
     fn work_each(&mut self, alloc: Global) -> Result<(), NoMemory>
-        requires { IsCore (seen M.meaning M.state self.old) }
-        ensures worked { OnlyWorked (seen M.meaning M.state self.old) (seen M.meaning M.state self.new) }
-        ensures on { OnOk result (ComeOn (seen M.meaning M.state self.old) (seen M.meaning M.state self.new)) }
+        requires { IsCore (seen M.Module self.old) }
+        ensures worked { OnlyWorked (seen M.Module self.old) (seen M.Module self.new) }
+        ensures on { OnOk result (ComeOn (seen M.Module self.old) (seen M.Module self.new)) }
     {
         'modules: for at in 0..self.hands.len() {
             self.work_at(alloc, at)?;
@@ -169,8 +192,8 @@ impl<M: Module> Core<M> {
 
     // the place, among the entries, before which each module has taken all
     fn least_place(&self) -> usize
-        requires { IsCore (seen M.meaning M.state self.now) }
-        ensures { HavePassed (seen M.meaning M.state self.now) result }
+        requires { IsCore (seen M.Module self.now) }
+        ensures { HavePassed (seen M.Module self.now) result }
     {
         let mut least = self.entries.len();
         'modules: for at in 0..self.hands.len() {
@@ -182,12 +205,14 @@ impl<M: Module> Core<M> {
     // lets the module at a place take its next entry
     fn work_at(&mut self, alloc: Global, at: usize) -> Result<Worked, NoMemory>
         requires inside { at < length self.old.hands }
-        requires lawful { IsCore (seen M.meaning M.state self.old) }
-        ensures answer { IfOk result (λ answer. answer ≡ outcome (book_of (seen M.meaning M.state self.old)) at) }
-        ensures worked { OnOk result (book_of (seen M.meaning M.state self.new) ≡ worked (book_of (seen M.meaning M.state self.old)) at) }
-        ensures lawful { IsCore (seen M.meaning M.state self.new) }
+        requires lawful { IsCore (seen M.Module self.old) }
+        ensures answer { IfOk result (λ answer.
+            answer ≡ outcome (stands_for M.Module self.old) at) }
+        ensures worked { OnOk result (
+            stands_for M.Module self.new ≡ worked (stands_for M.Module self.old) at) }
+        ensures lawful { IsCore (seen M.Module self.new) }
         ensures modules { length self.new.hands ≡ length self.old.hands }
-        ensures err { OnErr result (seen M.meaning M.state self.new ≡ seen M.meaning M.state self.old) }
+        ensures err { OnErr result (seen M.Module self.new ≡ seen M.Module self.old) }
     {
         let place = self.next_place(at);
         if place >= self.entries.len() {
@@ -201,9 +226,10 @@ impl<M: Module> Core<M> {
     // the place, among the entries, of the next one that the module at a place takes
     fn next_place(&self, at: usize) -> usize
         requires inside { at < length self.now.hands }
-        requires lawful { IsCore (seen M.meaning M.state self.now) }
-        ensures hand { ForSome (slice_get self.now.hands at) (λ hand. (self.now.base ≤ hand.cursor) × (result ≡ hand.cursor - self.now.base)) }
-        ensures cursor { HasComeTo (seen M.meaning M.state self.now) at (self.now.base + result) }
+        requires lawful { IsCore (seen M.Module self.now) }
+        ensures hand { ForSome (slice_get self.now.hands at) (λ hand.
+            (self.now.base ≤ hand.cursor) × (result ≡ hand.cursor - self.now.base)) }
+        ensures cursor { HasComeTo (seen M.Module self.now) at (self.now.base + result) }
     {
         let hand = &self.hands[at];
         (hand.cursor() - self.base) as usize
@@ -220,10 +246,15 @@ fn advance_at<M: Module>(
     requires inside { at < length hands.old.items }
     requires number { ForSome (slice_get hands.old.items at) (λ hand. hand.cursor < 2 ^ 46) }
     requires spelled { IsSpelled entry.now }
-    ensures hand { OnOk result (ForSome (slice_get hands.old.items at) (λ hand. map (shown M.meaning M.state) hands.new.items ≡ slice_set (map (shown M.meaning M.state) hands.old.items) at (stepped (shown M.meaning M.state hand) entry.now))) }
-    ensures words { IfOk result (λ spoken. ForSome (slice_get hands.old.items at) (λ hand. spoken ≡ spoken_at (shown M.meaning M.state hand) entry.now)) }
+    ensures hand { OnOk result (ForSome (slice_get hands.old.items at) (λ hand.
+        map (shown M.Module) hands.new.items
+        ≡ slice_set (map (shown M.Module) hands.old.items) at
+        (stepped (shown M.Module hand) entry.now))) }
+    ensures words { IfOk result (λ spoken. ForSome (slice_get hands.old.items at) (λ hand.
+        spoken ≡ spoken_at (shown M.Module hand) entry.now)) }
     ensures many { length hands.new.items ≡ length hands.old.items }
-    ensures err { OnErr result (map (shown M.meaning M.state) hands.new.items ≡ map (shown M.meaning M.state) hands.old.items) }
+    ensures err { OnErr result (
+        map (shown M.Module) hands.new.items ≡ map (shown M.Module) hands.old.items) }
 {
     let hand = &mut hands[at];
     hand.advance(alloc, entry)

@@ -1,20 +1,22 @@
 ghost use Rattle.std.specs.Prelude.{◌≡◌, ◌<◌, ◌^◌, [], All, IsTrue, IfOk, OnOk, OnErr};
 ghost use Rattle.fm_name.specs.Path.{is_path};
 ghost use Rattle.fm_entry.specs.Words.{IsWordOf};
-ghost use Rattle.fm_core.specs.Counts.{is_ereport, are_counts, report_words, report_counts};
+ghost use Rattle.fm_name.specs.Category.{is_ereport};
+ghost use Rattle.fm_core.specs.Counts.{are_counts, report_words, report_counts};
 
 use crate::class_count::ClassCount;
 use crate::counting::{copied, count_at, count_in, find_class, third_word};
 use crate::module::{LoadFault, Module};
-use crate::no_memory::NoMemory;
 use crate::saving::{MOST, cases, counted_total, put_counts, read_counts};
 use crate::trail::Trail;
+use fm_bytes::NoMemory;
 use fm_entry::{CaseName, Entry, ListEvent};
 use fm_name::{Class, Fmri};
 use std::alloc::Global;
 use std::marker::Model;
 
-/// A small module that counts reports by class, and says an upset at every third report of one class.
+/// A small module that counts reports by class, and says an upset at every third report of one
+/// class.
 ///
 /// It counts no more than 2^46 reports in all.
 #[derive(Drop)]
@@ -35,7 +37,8 @@ impl Model for Counter {
 
     ghost view = { λ c. record { number = c.number; counts = c.counts.items } };
 
-    ghost invariant = { λ c. IsTrue (are_counts c.counts.items) × (c.total ≡ total_of c.counts.items) × (c.cases ≡ cases_of c.counts.items) };
+    ghost invariant = { λ c. IsTrue (are_counts c.counts.items)
+        × (c.total ≡ total_of c.counts.items) × (c.cases ≡ cases_of c.counts.items) };
 }
 
 impl Counter {
@@ -97,9 +100,12 @@ impl Counter {
         requires ereport { IsTrue (is_ereport class.now) }
         requires path { IsTrue (is_path path.now) }
         requires moment { moment < 2 ^ 62 }
-        ensures says { IfOk result (λ words. words.items ≡ report_words self.old.number self.old.counts class.now path.now moment) }
+        ensures says { IfOk result
+            (λ words. words.items ≡ report_words self.old.number self.old.counts class.now path.now
+            moment) }
         ensures events { IfOk result (λ words. All (IsWordOf self.old.number) words.items) }
-        ensures after { OnOk result (self.new ≡ record self.old { counts = report_counts self.old.counts class.now }) }
+        ensures after { OnOk result
+            (self.new ≡ record self.old { counts = report_counts self.old.counts class.now }) }
         ensures err { OnErr result (self.new ≡ self.old) }
     {
         if self.total >= MOST {
@@ -133,6 +139,10 @@ impl Module for Counter {
         true
     }
 
+    fn conf(&self) -> Option<u32> {
+        None
+    }
+
     fn step(
         &mut self,
         alloc: Global,
@@ -151,6 +161,7 @@ impl Module for Counter {
             Entry::Repaired { .. } => Ok(Vec::new(alloc)),
             Entry::Replaced { .. } => Ok(Vec::new(alloc)),
             Entry::Acquit { .. } => Ok(Vec::new(alloc)),
+            Entry::Reload { .. } => Ok(Vec::new(alloc)),
         }
     }
 

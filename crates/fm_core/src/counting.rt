@@ -1,10 +1,11 @@
-ghost use Rattle.std.specs.Prelude.{◌≡◌, ◌<◌, ◌≤◌, ◌+◌, ◌%◌, ◌^◌, ◌==◌, [], ◌∷◌, length, slice_get, IsTrue, IfOk, OnOk, OnErr, if◌then◌else◌};
+ghost use Rattle.std.specs.Prelude.{◌≡◌, ◌<◌, ◌≤◌, ◌+◌, ◌%◌, ◌^◌, ◌==◌, [], ◌∷◌, length, slice_get};
+ghost use Rattle.std.specs.Prelude.{IsTrue, IfOk, OnOk, OnErr, if◌then◌else◌};
 ghost use Rattle.fm_core.specs.Counts.{is_ordered, total_of, counted, third};
 ghost use Rattle.fm_core.specs.Places.{place_of, is_standing, place_in, count_found};
 
 use crate::class_count::ClassCount;
-use crate::no_memory::NoMemory;
-use fm_entry::{CaseName, EventNames, ListEvent, ListKind, Suspects};
+use fm_bytes::NoMemory;
+use fm_entry::{BrokenLinks, CaseName, EventNames, ListEvent, ListKind, Suspects};
 use fm_name::{Class, EventName, Fmri};
 use std::alloc::Global;
 
@@ -100,7 +101,10 @@ pub(crate) fn third_word(
     path: &Fmri,
     moment: u64,
 ) -> Result<Vec<ListEvent>, NoMemory>
-    ensures { IfOk result (λ words. words.items ≡ (if count % 3 == 0 then third case.module case.case class.now path.now moment ∷ [] else [])) }
+    ensures { IfOk result
+        (λ words. words.items
+        ≡ (if count % 3 == 0 then third case.module case.case class.now path.now moment ∷ []
+        else [])) }
 {
     if count % 3 != 0 {
         return Ok(Vec::new(alloc));
@@ -117,6 +121,7 @@ pub(crate) fn third_word(
         conf: 0,
         observed: EventNames::new(observed),
         suspects: Suspects::new(Vec::new(alloc)),
+        broken: BrokenLinks::new(Vec::new(alloc)),
     };
     Ok(Vec::from_array(alloc, [upset])?)
 }

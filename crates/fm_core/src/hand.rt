@@ -1,10 +1,11 @@
+// A hand: an object of a module with the place that it has come to.
 ghost use Rattle.std.specs.Prelude.{◌≡◌, ◌<◌, ◌^◌, All, IfOk, IfErr, OnOk, OnErr};
 ghost use Rattle.fm_entry.specs.Entries.{IsSpelled};
 ghost use Rattle.fm_entry.specs.Words.{IsWordOf};
 ghost use Rattle.fm_core.specs.Hands.{shown, stepped, spoken_at};
 
 use crate::module::Module;
-use crate::no_memory::NoMemory;
+use fm_bytes::NoMemory;
 use fm_entry::{Entry, ListEvents, Spoken};
 use std::alloc::Global;
 use std::marker::Model;
@@ -40,8 +41,8 @@ impl<M: Module> Hand<M> {
         }
     }
 
-    /// Takes the entry at its cursor, and answers itself one entry further and the words that it said,
-    /// which may be none. After want of memory it comes back as it was.
+    /// Takes the entry at its cursor, and answers itself one entry further and the words that it
+    /// said, which may be none. After want of memory it comes back as it was.
     pub fn step(
         self,
         alloc: Global,
@@ -49,10 +50,13 @@ impl<M: Module> Hand<M> {
     ) -> Result<(Hand<M>, Spoken), (Hand<M>, NoMemory)>
         requires number { self.cursor < 2 ^ 46 }
         requires spelled { IsSpelled entry.now }
-        ensures hand { IfOk result (λ (hand, _). shown M.meaning M.state hand ≡ stepped (shown M.meaning M.state self) entry.now) }
-        ensures words { IfOk result (λ (_, spoken). spoken ≡ spoken_at (shown M.meaning M.state self) entry.now) }
-        ensures events { IfOk result (λ (_, spoken). All (IsWordOf (M.meaning self.object).own) spoken.events) }
-        ensures err { IfErr result (λ (hand, _). shown M.meaning M.state hand ≡ shown M.meaning M.state self) }
+        ensures hand { IfOk result (λ (hand, _).
+            shown M.Module hand ≡ stepped (shown M.Module self) entry.now) }
+        ensures words { IfOk result (λ (_, spoken).
+            spoken ≡ spoken_at (shown M.Module self) entry.now) }
+        ensures events { IfOk result (λ (_, spoken).
+            All (IsWordOf (M.meaning self.object).own) spoken.events) }
+        ensures err { IfErr result (λ (hand, _). shown M.Module hand ≡ shown M.Module self) }
     {
         let mut hand = self;
         match hand.advance(alloc, entry) {
@@ -86,10 +90,13 @@ impl<M: Module> Hand<M> {
     pub(crate) fn advance(&mut self, alloc: Global, entry: &Entry) -> Result<Spoken, NoMemory>
         requires number { self.old.cursor < 2 ^ 46 }
         requires spelled { IsSpelled entry.now }
-        ensures hand { OnOk result (shown M.meaning M.state self.new ≡ stepped (shown M.meaning M.state self.old) entry.now) }
-        ensures words { IfOk result (λ spoken. spoken ≡ spoken_at (shown M.meaning M.state self.old) entry.now) }
-        ensures events { IfOk result (λ spoken. All (IsWordOf (M.meaning self.old.object).own) spoken.events) }
-        ensures err { OnErr result (shown M.meaning M.state self.new ≡ shown M.meaning M.state self.old) }
+        ensures hand { OnOk result (
+            shown M.Module self.new ≡ stepped (shown M.Module self.old) entry.now) }
+        ensures words { IfOk result (λ spoken.
+            spoken ≡ spoken_at (shown M.Module self.old) entry.now) }
+        ensures events { IfOk result (λ spoken.
+            All (IsWordOf (M.meaning self.old.object).own) spoken.events) }
+        ensures err { OnErr result (shown M.Module self.new ≡ shown M.Module self.old) }
     {
         let number = self.cursor;
         let words = self.object.step(alloc, number, entry)?;

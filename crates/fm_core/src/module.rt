@@ -1,14 +1,15 @@
-ghost use Rattle.std.specs.Prelude.{◌≡◌, ◌≢◌, ◌<◌, ◌^◌, ◌++◌, All, IfOk, OnOk, OnErr, IsTrue};
+// What a module is: the calls that each kind of module has, and what they promise.
+ghost use Rattle.std.specs.Prelude.{◌≡◌, ◌<◌, ◌^◌, ◌++◌, All, IfOk, OnOk, OnErr, IsTrue};
 ghost use Rattle.fm_entry.specs.Entries.{IsSpelled};
 ghost use Rattle.fm_entry.specs.Words.{IsWordOf};
 ghost use Rattle.fm_core.specs.declared.module.LoadFault.TheVariants.{NoMemory as OutOfMemory};
 ghost use Rattle.fm_core.specs.Faults.{load_fault};
-ghost use Rattle.fm_core.specs.Meaning.{Meaning, State, takes_of, after_of, says_of, saved_of, holds_of};
+ghost use Rattle.fm_core.specs.Meaning.{Meaning, State, IsNoSave};
+ghost use Rattle.fm_core.specs.Meaning.{conf_of, takes_of, after_of, says_of, saved_of, holds_of};
 
-use crate::no_memory::NoMemory;
+use fm_bytes::{NoMemory, ReadFault};
 use fm_entry::{Entry, ListEvent};
 use fm_name::Class;
-use fm_nv::ReadFault;
 use std::alloc::{AllocError, AllocFailed, Global};
 
 /// Why a state could not be loaded.
@@ -44,14 +45,6 @@ impl From<NoMemory> for LoadFault {
     }
 }
 
-impl From<fm_name::NoMemory> for LoadFault {
-    ghost from_gives = { λ _ fault. fault ≡ OutOfMemory };
-
-    fn from(_error: fm_name::NoMemory) -> LoadFault {
-        LoadFault::NoMemory
-    }
-}
-
 impl From<ReadFault> for LoadFault {
     ghost from_gives = { λ read fault. fault ≡ load_fault read };
 
@@ -63,12 +56,13 @@ impl From<ReadFault> for LoadFault {
     }
 }
 
-/// One diagnosis module: a state that takes every entry once, in order of number, and says words about
-/// cases.
+/// One diagnosis module: a state that takes every entry once, in order of number, and says words
+/// about cases.
 ///
-/// Contracts see an object by two ghost members. `meaning` is what it was made with and never changes:
-/// its own number, what it subscribes to, and its steps, words and saves as functions of states. `state`
-/// is the state that it has now. Two objects are of one configuration where their meanings are equal.
+/// Contracts see an object by two ghost members. `meaning` is what it was made with and never
+/// changes: its own number, how many configurations it knows, what it subscribes to, and its steps,
+/// words and saves as functions of states. `state` is the state that it has now. Two objects are
+/// made alike where their meanings are equal.
 pub trait Module: Send + Drop {
     ghost meaning: { Self → Meaning };
 
@@ -78,7 +72,12 @@ pub trait Module: Send + Drop {
     fn subscribes(&self, class: &Class) -> bool
         ensures { result ≡ takes_of (meaning self.now) (state self.now) class.now };
 
-    /// Takes the entry with this number, and answers the words that it says at it.
+    /// The number of the configuration of its state, if it has one.
+    fn conf(&self) -> Option<u32>
+        ensures { result ≡ conf_of (meaning self.now) (state self.now) };
+
+    /// Takes the entry with this number, and answers the words that it says at it. After want of
+    /// memory its state is as it was.
     fn step(
         &mut self,
         alloc: Global,
@@ -87,15 +86,18 @@ pub trait Module: Send + Drop {
     ) -> Result<Vec<ListEvent>, NoMemory>
         requires number { number < 2 ^ 46 }
         requires spelled { IsSpelled entry.now }
-        ensures says { IfOk result (λ words. words.items ≡ says_of (meaning self.old) (state self.old) number entry.now) }
-        ensures after { OnOk result (state self.new ≡ after_of (meaning self.old) (state self.old) number entry.now) }
+        ensures says { IfOk result (λ words.
+            words.items ≡ says_of (meaning self.old) (state self.old) number entry.now) }
+        ensures after { OnOk result (
+            state self.new ≡ after_of (meaning self.old) (state self.old) number entry.now) }
         ensures events { IfOk result (λ words. All (IsWordOf (meaning self.old).own) words.items) }
         ensures err { OnErr result (state self.new ≡ state self.old) }
         ensures kept { meaning self.new ≡ meaning self.old };
 
     /// Appends the bytes that the state is kept as.
     fn save(&self, out: &mut Vec<u8>) -> Result<(), NoMemory>
-        ensures ok { OnOk result (out.new.items ≡ out.old.items ++ saved_of (meaning self.now) (state self.now)) }
+        ensures ok { OnOk result (
+            out.new.items ≡ out.old.items ++ saved_of (meaning self.now) (state self.now)) }
         ensures err { OnErr result (out.new.items ≡ out.old.items) }
         ensures holds { IsTrue (holds_of (meaning self.now) (state self.now)) };
 
@@ -103,7 +105,7 @@ pub trait Module: Send + Drop {
     fn load(&mut self, alloc: Global, bytes: &[u8]) -> Result<(), LoadFault>
         ensures ok { OnOk result (saved_of (meaning self.old) (state self.new) ≡ bytes.now) }
         ensures holds { IsTrue (holds_of (meaning self.old) (state self.new)) }
-        ensures bad { result ≡ Err LoadFault.Bad → (s : State) → IsTrue (holds_of (meaning self.old) s) → saved_of (meaning self.old) s ≢ bytes.now }
+        ensures bad { result ≡ Err LoadFault.Bad → IsNoSave (meaning self.old) bytes.now }
         ensures err { OnErr result (state self.new ≡ state self.old) }
         ensures kept { meaning self.new ≡ meaning self.old };
 }

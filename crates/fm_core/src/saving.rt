@@ -1,14 +1,16 @@
-ghost use Rattle.std.specs.Prelude.{◌≡◌, ◌≤◌, ◌^◌, ◌&&◌, ◌++◌, false, length, flat_map, nat_le, IsTrue, IfOk, IfErr, OnOk, Some, None, if◌then◌else◌};
+ghost use Rattle.std.specs.Prelude.{◌≡◌, ◌≤◌, ◌^◌, ◌&&◌, ◌++◌, false, length, flat_map, nat_le};
+ghost use Rattle.std.specs.Prelude.{IsTrue, IfOk, IfErr, OnOk, Some, None, if◌then◌else◌};
 ghost use Rattle.std.specs.List.{AllByRecursion};
-ghost use Rattle.fm_nv.specs.Numbers.{AllBytes};
-ghost use Rattle.fm_core.specs.Counts.{is_past, is_ordered, is_ereport, total_of, cases_of, are_counts, count_bytes, counts_bytes};
+ghost use Rattle.fm_bytes.specs.Numbers.{AllBytes};
+ghost use Rattle.fm_name.specs.Category.{is_ereport};
+ghost use Rattle.fm_core.specs.Counts.{is_past, is_ordered, total_of, cases_of};
+ghost use Rattle.fm_core.specs.Counts.{are_counts, count_bytes, counts_bytes};
 ghost use Rattle.fm_core.specs.Loading.{IsBad, IsKept, NoCount, NoneRead, NoCounts};
 
 use crate::class_count::ClassCount;
 use crate::module::LoadFault;
-use crate::no_memory::NoMemory;
-use fm_name::{Category, Class, read_class};
-use fm_nv::{Input, put_long, put_short_text};
+use fm_bytes::{Input, NoMemory, put_short_text, put_u64};
+use fm_name::{Class, read_class};
 use std::alloc::Global;
 
 /// No more reports than this are counted.
@@ -18,7 +20,7 @@ pub(crate) const MOST: u64 = 70_368_744_177_664;
 pub(crate) fn put_counts(counts: &[ClassCount], out: &mut Vec<u8>) -> Result<(), NoMemory>
     ensures { OnOk result (out.new.items ≡ out.old.items ++ counts_bytes counts.now) }
 {
-    put_long(counts.len() as u64, out)?;
+    put_u64(counts.len() as u64, out)?;
     put_each(counts, out)
 }
 
@@ -37,7 +39,7 @@ fn put_one(x: &ClassCount, out: &mut Vec<u8>) -> Result<(), NoMemory>
     ensures { OnOk result (out.new.items ≡ out.old.items ++ count_bytes x.now) }
 {
     put_short_text(x.class.text(), out)?;
-    put_long(x.count, out)?;
+    put_u64(x.count, out)?;
     Ok(())
 }
 
@@ -68,7 +70,8 @@ fn ascend_from(class: &Class, counts: &[ClassCount]) -> bool
 
 // how many reports were counted, unless they are more than may be
 fn total(counts: &[ClassCount]) -> Option<u64>
-    ensures { result ≡ (if nat_le (total_of counts.now) (2 ^ 46) then Some (total_of counts.now) else None) }
+    ensures { result ≡ (if nat_le (total_of counts.now) (2 ^ 46) then Some (total_of counts.now)
+        else None) }
 {
     let mut total = 0;
     for x in counts {
@@ -108,7 +111,7 @@ pub(crate) fn read_counts(alloc: Global, bytes: &[u8]) -> Result<Vec<ClassCount>
 {
     let mut input = Input::new(bytes);
     let _whole = input.left();
-    let many = input.long()?;
+    let many = input.take_u64()?;
     let _rest = input.left();
     let counts = read_each(alloc, many, &mut input)?;
     if input.left() > 0 {
@@ -132,7 +135,8 @@ fn are_lawful(counts: &[ClassCount]) -> bool
 fn read_each(alloc: Global, many: u64, input: &mut Input<'_>) -> Result<Vec<ClassCount>, LoadFault>
     requires { AllBytes input.old }
     ensures many { IfOk result (λ counts. length counts.items ≡ many) }
-    ensures read { IfOk result (λ counts. input.old ≡ flat_map count_bytes counts.items ++ input.new) }
+    ensures read { IfOk result
+        (λ counts. input.old ≡ flat_map count_bytes counts.items ++ input.new) }
     ensures each { IfOk result (λ counts. AllByRecursion IsKept counts.items) }
     ensures bad { IfErr result (λ fault. IsBad fault → NoneRead many input.old) }
 {
@@ -150,10 +154,10 @@ fn read_one(alloc: Global, input: &mut Input<'_>) -> Result<ClassCount, LoadFaul
     ensures kept { IfOk result (λ x. IsKept x) }
     ensures bad { IfErr result (λ fault. IsBad fault → NoCount input.old) }
 {
-    let text = input.short_text()?;
+    let text = input.take_short_text()?;
     let class = read_report_class(alloc, text)?;
     let _left = input.left();
-    let count = input.long()?;
+    let count = input.take_u64()?;
     if count == 0 {
         return Err(LoadFault::Bad);
     }
@@ -167,10 +171,7 @@ fn read_report_class(alloc: Global, text: &str) -> Result<Class, LoadFault>
     ensures bad { IfErr result (λ fault. IsBad fault → is_ereport text.now ≡ false) }
 {
     match read_class(alloc, text)? {
-        Some(class) => match class.category() {
-            Some(Category::Ereport) => Ok(class),
-            _ => Err(LoadFault::Bad),
-        },
-        None => Err(LoadFault::Bad),
+        Some(class) if class.is_ereport() => Ok(class),
+        _ => Err(LoadFault::Bad),
     }
 }

@@ -1,9 +1,9 @@
 /// How many places a trail tells apart.
 const TRAIL_LEN: usize = 64;
 
-/// Which place was wanted after which. One trouble makes the same reports in the same order again and again, so
-/// the place that came after a place the last time is a good guess at the next. It is a guess alone: who takes it
-/// looks whether it is right, so nothing is promised of it.
+/// Which place was wanted after which. One trouble makes the same reports in the same order again
+/// and again, so the place that came after a place the last time is a good guess at the next. It is
+/// a guess alone: who takes it looks whether it is right, so nothing is promised of it.
 #[derive(Clone, Copy, Drop)]
 pub(crate) struct Trail {
     last: usize,

@@ -3,8 +3,7 @@ pub mod Readers
 pub mod PartReaders
 pub mod EntryReader
 pub mod SpokenReader
-pub mod Digits
+pub mod LinkOrder
 pub mod Places
 pub mod CaseNumbers
-pub mod Numerals
 pub mod CaseTexts

@@ -1,116 +1,90 @@
--- Readers made of readers, against the spelling that is made of theirs.
-use Rattle.std.proofs.Common.{◌≡◌, ℕ, ◌^◌, ◌≤◌, Bool, true, ◌&&◌, ◌==◌, nat_lt, IsTrue, List, [], ◌∷◌, ◌++◌, length, flat_map, Option, Some, None, if◌then◌else◌, refl, sym, ap, ◌∙◌, subst, append_assoc, arith}
-use Rattle.std.specs.List.{list_all}
-use Rattle.std.proofs.lemmas.Bool.{le-leb, eqb-true}
-use Rattle.fm_nv.specs.Numbers.{u32_bytes}
-use Rattle.fm_nv.specs.Reading.{Read, after, made, number_from, items_from}
-use Rattle.fm_nv.proofs.Booleans.{and_parts, and_true}
-use Rattle.fm_nv.proofs.Readers.{IsReader, after_some, some_same, choice_read, choice_some, choice_true, left_bytes, byte_reader, word_reader, items_sound, items_whole}
-use Rattle.fm_nv.proofs.ValueKinds.{made_some, made_read}
-use Rattle.fm_entry.specs.Reading.{both_from, where_from, there, coded_from, list_from_count, whole}
-use Rattle.fm_entry.specs.WordBytes.{list_bytes}
+-- Readers made of readers, and what a reader says of all of the bytes.
+use Rattle.std.proofs.Common.{◌≡◌, ℕ, Bool, ◌&&◌, IsTrue, List, [], ◌++◌, Some, sym, ap, ◌∙◌}
+use Rattle.std.proofs.Common.{subst, append_assoc}
+use Rattle.std.proofs.lemmas.List.{append-nil}
+use Rattle.fm_bytes.specs.Numbers.{AllBytes}
+use Rattle.fm_bytes.specs.Reading.{Read, after, made, whole}
+use Rattle.fm_bytes.proofs.Booleans.{and_parts, and_true}
+use Rattle.fm_bytes.proofs.Readers.{IsReader, after_some, some_same, left_bytes}
+use Rattle.fm_bytes.proofs.Combined.{made_some, made_read, whole_some}
+use Rattle.fm_entry.specs.WordReading.{then_from}
 
--- one value, and another behind it
-pub both_reader : {A B : Type 0} (f : A → Bool) (g : B → Bool) (s : A → List ℕ) (u : B → List ℕ) (r : List ℕ → Read A) (q : List ℕ → Read B)
-    → IsReader f s r → IsReader g u q → IsReader (λ p. f p.0 && g p.1) (λ p. s p.0 ++ u p.1) (both_from r q)
-both_reader {A = A} {B = B} f g s u r q first second = record {
+-- one value, and another behind it that is read as the first tells
+pub then_reader : {A B : Type 0} (f : A → Bool) (g : A → B → Bool) (s : A → List ℕ)
+    (u : A → B → List ℕ)
+    (r : List ℕ → Read A) (q : A → List ℕ → Read B) → IsReader f s r
+    → ((x : A) → IsTrue (f x) → IsReader (g x) (u x) (q x))
+    → IsReader (λ p. f p.0 && g p.0 p.1) (λ p. s p.0 ++ u p.0 p.1) (then_from r q)
+then_reader {A = A} {B = B} f g s u r q first second = record {
   sound = λ bytes t all h.
-      let one = after_some (r bytes) (λ x rest. after (q rest) (λ y more. Some ((x, y), more))) t h in
+      let one = after_some (r bytes) (λ x rest. after (q x rest) (λ y more. Some ((x, y), more))) t
+      h in
       let known = first.sound bytes one.0 all one.1 in
-      let two = after_some (q one.0.1) (λ y more. Some ((one.0.0, y), more)) t one.2 in
-      let more = second.sound one.0.1 two.0 (left_bytes bytes (s one.0.0) one.0.1 known.1 all) two.1 in
-      let same : ((one.0.0, two.0.0), two.0.1) ≡ t = some_same ((one.0.0, two.0.0), two.0.1) t two.2 in (
-        subst (λ (p : (A × B) × List ℕ). IsTrue (f p.0.0 && g p.0.1)) same (and_true (f one.0.0) _ known.0 more.0),
-        subst (λ (p : (A × B) × List ℕ). bytes ≡ (s p.0.0 ++ u p.0.1) ++ p.1) same
-            (known.1 ∙ ap (λ (xs : List ℕ). s one.0.0 ++ xs) more.1 ∙ sym (append_assoc (s one.0.0) (u two.0.0) two.0.1)),
+      let two = after_some (q one.0.0 one.0.1) (λ y more. Some ((one.0.0, y), more)) t one.2 in
+      let left = left_bytes bytes (s one.0.0) one.0.1 known.1 all in
+      let more = (second one.0.0 known.0).sound one.0.1 two.0 left two.1 in
+      let same : ((one.0.0, two.0.0), two.0.1) ≡ t =
+      some_same ((one.0.0, two.0.0), two.0.1) t two.2 in (
+        subst (λ (p : (A × B) × List ℕ). IsTrue (f p.0.0 && g p.0.0 p.0.1)) same
+            (and_true (f one.0.0) _ known.0 more.0),
+        subst (λ (p : (A × B) × List ℕ). bytes ≡ (s p.0.0 ++ u p.0.0 p.0.1) ++ p.1) same
+            (known.1 ∙ ap (λ (xs : List ℕ). s one.0.0 ++ xs) more.1
+            ∙ sym (append_assoc (s one.0.0) (u one.0.0 two.0.0) two.0.1)),
       );
   whole = λ x rest fits.
-      let parts = and_parts (f x.0) (g x.1) fits in
-      ap (λ (bytes : List ℕ). after (r bytes) (λ y left. after (q left) (λ z more. Some ((y, z), more)))) (append_assoc (s x.0) (u x.1) rest)
-      ∙ ap (λ (z : Read A). after z (λ y left. after (q left) (λ w more. Some ((y, w), more)))) (first.whole x.0 (u x.1 ++ rest) parts.0)
-      ∙ ap (λ (z : Read B). after z (λ y more. Some ((x.0, y), more))) (second.whole x.1 rest parts.1);
+      let parts = and_parts (f x.0) (g x.0 x.1) fits in
+      ap (λ (bytes : List ℕ).
+      after (r bytes) (λ y left. after (q y left) (λ z more. Some ((y, z), more))))
+      (append_assoc (s x.0) (u x.0 x.1) rest)
+      ∙ ap (λ (z : Read A). after z (λ y left. after (q y left) (λ w more. Some ((y, w), more))))
+      (first.whole x.0 (u x.0 x.1 ++ rest) parts.0)
+      ∙ ap (λ (z : Read B). after z (λ y more. Some ((x.0, y), more)))
+      ((second x.0 parts.0).whole x.1 rest parts.1);
 }
 
--- a value that passes a test
-pub where_reader : {A : Type 0} (f p : A → Bool) (s : A → List ℕ) (r : List ℕ → Read A) → IsReader f s r
-    → IsReader (λ x. f x && p x) s (where_from p r)
-where_reader {A = A} f p s r reader = record {
-  sound = λ bytes t all h.
-      let one = after_some (r bytes) (λ x rest. if p x then Some (x, rest) else None) t h in
-      let known = reader.sound bytes one.0 all one.1 in
-      let test = choice_read (p one.0.0) one.0.0 one.0.1 t one.2 in (
-        and_true (f t.0) (p t.0) (ap f test.1 ∙ known.0) (ap p test.1 ∙ test.0),
-        known.1 ∙ sym (λ i. s (test.1 i) ++ test.2 i),
-      );
-  whole = λ x rest fits.
-      let parts = and_parts (f x) (p x) fits in
-      ap (λ (z : Read A). after z (λ y left. if p y then Some (y, left) else None)) (reader.whole x rest parts.0) ∙ choice_true (p x) _ _ parts.1;
-}
-
--- a value of another type, of just one value that is read
-pub made_reader : {A B : Type 0} (g : A → B) (h : B → A) (f : A → Bool) (s : A → List ℕ) (r : List ℕ → Read A)
-    → ((x : A) → h (g x) ≡ x) → ((y : B) → g (h y) ≡ y) → IsReader f s r → IsReader (λ y. f (h y)) (λ y. s (h y)) (λ bytes. made g (r bytes))
-made_reader {B = B} g h f s r back forth reader = record {
+-- a value of another type, of just one value that fits
+pub made_where_reader : {A B : Type 0} (g : A → B) (h : B → A) (f : A → Bool) (s : A → List ℕ)
+    (r : List ℕ → Read A)
+    → ((x : A) → IsTrue (f x) → h (g x) ≡ x) → ((y : B) → g (h y) ≡ y) → IsReader f s r
+    → IsReader (λ y. f (h y)) (λ y. s (h y)) (λ bytes. made g (r bytes))
+made_where_reader {B = B} g h f s r back forth reader = record {
   sound = λ bytes t all e.
       let one = made_some g (r bytes) t e in
-      let known = reader.sound bytes one.0 all one.1 in (
-        ap (λ (p : B × List ℕ). f (h p.0)) one.2 ∙ ap f (back one.0.0) ∙ known.0,
-        known.1 ∙ sym (ap (λ (p : B × List ℕ). s (h p.0) ++ p.1) one.2 ∙ ap (λ (x : _). s x ++ one.0.1) (back one.0.0)),
+      let known = reader.sound bytes one.0 all one.1 in
+      let same = back one.0.0 known.0 in (
+        ap (λ (p : B × List ℕ). f (h p.0)) one.2 ∙ ap f same ∙ known.0,
+        known.1 ∙ sym (ap (λ (p : B × List ℕ). s (h p.0) ++ p.1) one.2
+            ∙ ap (λ (x : _). s x ++ one.0.1) same),
       );
-  whole = λ y rest fits. made_read g (r (s (h y) ++ rest)) (h y) rest (reader.whole (h y) rest fits) ∙ ap (λ (z : B). Some (z, rest)) (forth y);
+  whole = λ y rest fits.
+      made_read g (r (s (h y) ++ rest)) (h y) rest (reader.whole (h y) rest fits)
+      ∙ ap (λ (z : B). Some (z, rest)) (forth y);
 }
 
-there_some : {A : Type 0} (o : Option A) (rest : List ℕ) (t : A × List ℕ) → there o rest ≡ Some t → (o ≡ Some t.0) × (rest ≡ t.1)
-there_some None rest t h = cc
-there_some {A = A} (Some x) rest t h =
-    let same = some_same (x, rest) t h in
-    (ap (λ (p : A × List ℕ). Some p.0) same, ap (λ (p : A × List ℕ). p.1) same)
+all_of : {A : Type 0} (r : Read A) (x : A) → r ≡ Some (x, []) → whole r ≡ Some x
+all_of r x h = ap whole h
 
--- a value that stands for a number in one byte
-pub coded_reader : {A : Type 0} (code : A → ℕ) (meaning : ℕ → Option A) → ((x : A) → meaning (code x) ≡ Some x) → ((x : A) → code x ≤ 255)
-    → ((n : ℕ) (x : A) → meaning n ≡ Some x → n ≡ code x) → IsReader (λ x. true) (λ x. code x ∷ []) (coded_from meaning)
-coded_reader {A = A} code meaning means small codes = record {
-  sound = λ bytes t all h.
-      let one = after_some (number_from 1 bytes) (λ n rest. there (meaning n) rest) t h in
-      let known = byte_reader.sound bytes one.0 all one.1 in
-      let value = there_some (meaning one.0.0) one.0.1 t one.2 in
-      (refl, known.1 ∙ (λ i. codes one.0.0 t.0 value.0 i ∷ value.1 i));
-  whole = λ x rest fits.
-      ap (λ (z : Read ℕ). after z (λ n left. there (meaning n) left)) (byte_reader.whole (code x) rest (le-leb (code x) 255 (small x)))
-      ∙ ap (λ (o : Option A). there o rest) (means x);
-}
+-- what reads as a value is spelled so
+pub whole_spelled : {A : Type 0} (f : A → Bool) (s : A → List ℕ) (r : List ℕ → Read A)
+    → IsReader f s r
+    → (bytes : List ℕ) (x : A) → AllBytes bytes → whole (r bytes) ≡ Some x → IsTrue (f x)
+    × (bytes ≡ s x)
+whole_spelled f s r reader bytes x all h =
+    let known = reader.sound bytes (x, []) all (whole_some (r bytes) x h) in
+    (known.0, known.1 ∙ append-nil (s x))
 
--- a list behind the number of its items in four bytes
-abbrev pub list_fit : {A : Type 0} → (A → Bool) → List A → Bool
-list_fit f xs = nat_lt (length xs) (2 ^ 32) && list_all f xs
+-- what spells a value reads as it
+pub whole_read : {A : Type 0} (f : A → Bool) (s : A → List ℕ) (r : List ℕ → Read A) → IsReader f s r
+    → (bytes : List ℕ) (x : A) → IsTrue (f x) → bytes ≡ s x → whole (r bytes) ≡ Some x
+whole_read f s r reader bytes x fits same =
+    all_of (r bytes) x (ap r (same ∙ sym (append-nil (s x))) ∙ reader.whole x [] fits)
 
-pub list_reader : {A : Type 0} (f : A → Bool) (s : A → List ℕ) (r : List ℕ → Read A) → IsReader f s r
-    → IsReader (list_fit f) (list_bytes s) (list_from_count r)
-unfolding list_from_count
-list_reader f s r reader = record {
-  sound = λ bytes t all h.
-      let one = after_some (number_from 4 bytes) (λ n rest. items_from r n rest) t h in
-      let size = word_reader.sound bytes one.0 all one.1 in
-      let more = items_sound f s r reader one.0.0 one.0.1 t (left_bytes bytes (u32_bytes one.0.0) one.0.1 size.1 all) one.2 in
-      let same : length t.0 ≡ one.0.0 = more.0 in (
-        and_true (nat_lt (length t.0) (2 ^ 32)) _ (ap (λ (n : ℕ). nat_lt n (2 ^ 32)) same ∙ size.0) more.1,
-        size.1 ∙ (λ i. u32_bytes (sym same i) ++ more.2 i) ∙ sym (append_assoc (u32_bytes (length t.0)) (flat_map s t.0) t.1),
-      );
-  whole = λ xs rest fit.
-      let parts = and_parts (nat_lt (length xs) (2 ^ 32)) _ fit in
-      ap (λ (bytes : List ℕ). after (number_from 4 bytes) (λ n left. items_from r n left)) (append_assoc (u32_bytes (length xs)) (flat_map s xs) rest)
-      ∙ ap (λ (z : Read ℕ). after z (λ n left. items_from r n left)) (word_reader.whole (length xs) (flat_map s xs ++ rest) parts.0)
-      ∙ items_whole f s r reader xs rest parts.1;
-}
-
--- all of the bytes
-pub whole_some : {A : Type 0} (r : Read A) (x : A) → whole r ≡ Some x → r ≡ Some (x, [])
-whole_some None x h = cc
-whole_some {A = A} (Some t) x h =
-    let test = choice_some (length t.1 == 0) (Some t.0) x h in
-    let empty : t.1 ≡ [] = none_left t.1 (eqb-true (length t.1) 0 test.0) in
-    let same : t.0 ≡ x = some_same t.0 x test.1 in
-    λ i. Some (same i, empty i) where
-      none_left : (xs : List ℕ) → length xs ≡ 0 → xs ≡ []
-      none_left [] h = refl
-      none_left (x ∷ xs) h = absurd (omega arith)
+-- no spelling is a proper prefix of another
+pub spelling_prefix : {A : Type 0} (f : A → Bool) (s : A → List ℕ) (r : List ℕ → Read A)
+    → IsReader f s r
+    → (x y : A) (xs ys : List ℕ) → IsTrue (f x) → IsTrue (f y) → s x ++ xs ≡ s y ++ ys → (x ≡ y)
+    × (xs ≡ ys)
+spelling_prefix {A = A} f s r reader x y xs ys h k same =
+    let both = some_same (x, xs) (y, ys) (sym (reader.whole x xs h) ∙ ap r same
+    ∙ reader.whole y ys k) in
+    (ap (λ (t : A × List ℕ). t.0) both, ap (λ (t : A × List ℕ). t.1) both)

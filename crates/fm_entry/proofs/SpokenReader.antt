@@ -1,29 +1,48 @@
 -- Records of words spoken, read and spelled.
-use Rattle.std.proofs.Common.{◌≡◌, ℕ, ◌^◌, ◌<◌, ◌≤◌, Bool, true, ◌&&◌, ◌==◌, nat_lt, nat_le, IsTrue, List, [], ◌∷◌, ◌++◌, length, Some, None, inl, inr, refl, sym, ap, ◌∙◌, subst, append_assoc, arith}
+use Rattle.std.proofs.Common.{◌≡◌, ℕ, ◌+◌, ◌-◌, ◌^◌, ◌<◌, ◌≤◌, Bool, true, false, not, ◌&&◌, ◌==◌}
+use Rattle.std.proofs.Common.{nat_lt, nat_le, IsTrue, List, [], ◌∷◌, ◌++◌, length, Option}
+use Rattle.std.proofs.Common.{option_map, Some, None, inl, inr, refl, sym, ap, ◌∙◌, arith}
 use Rattle.std.specs.List.{All, list_all}
-use Rattle.std.proofs.lemmas.Bool.{leb-true, le-leb, ltb-true, lt-ltb, eqb-true, eq-eqb}
-use Rattle.std.proofs.lemmas.List.{append-nil}
+use Rattle.std.proofs.lemmas.Bool.{false≢true, leb-true, le-leb, ltb-true, lt-ltb, eqb-true, eq-eqb}
 use Rattle.std.proofs.lemmas.List.Sums.{AllPass-from_list_all, list_all-from_AllPass}
 use Rattle.fm_name.specs.Class.{is_class}
 use Rattle.fm_name.specs.Path.{is_path}
 use Rattle.fm_name.specs.declared.events.EventName.{EventName}
-use Rattle.fm_nv.specs.Numbers.{AllBytes, u32_bytes, u64_bytes}
-use Rattle.fm_nv.specs.Reading.{Read, after, made, number_from, flag_from}
-use Rattle.fm_nv.proofs.Booleans.{and_parts, and_true}
-use Rattle.fm_nv.proofs.Readers.{IsReader, after_some, some_same, choice_some, choice_split, left_bytes, word_reader, flag_reader}
-use Rattle.fm_nv.proofs.ValueKinds.{made_some, made_read}
+use Rattle.fm_bytes.specs.Numbers.{AllBytes, u32_bytes, u64_bytes, counted_bytes}
+use Rattle.fm_bytes.specs.Reading.{number_from, flag_from, both_from, counted_from, whole}
+use Rattle.fm_bytes.proofs.Booleans.{and_parts, and_true}
+use Rattle.fm_bytes.proofs.Readers.{IsReader, reader_as, some_same, choice_some, choice_split}
+use Rattle.fm_bytes.proofs.Readers.{choice_true, word_reader, flag_reader, counted_fits}
+use Rattle.fm_bytes.proofs.Readers.{counted_reader}
+use Rattle.fm_entry.specs.declared.broken.Broken.{Broken}
 use Rattle.fm_entry.specs.declared.list_event.ListKind.{ListKind}
-use Rattle.fm_entry.specs.declared.list_event.ListKind.TheVariants.{Suspect as SuspectKind, Undiagnosable, Upset, Updated, Repaired as RepairedKind}
+use Rattle.fm_entry.specs.declared.list_event.ListKind.TheVariants.{Suspect as SuspectKind}
+use Rattle.fm_entry.specs.declared.list_event.ListKind.TheVariants.{Undiagnosable, Upset, Updated}
+use Rattle.fm_entry.specs.declared.list_event.ListKind.TheVariants.{Repaired as RepairedKind}
 use Rattle.fm_entry.specs.declared.suspect.Mark.{Mark}
-use Rattle.fm_entry.specs.declared.suspect.Mark.TheVariants.{Present, Repaired as RepairedMark, Replaced as ReplacedMark, Acquitted}
+use Rattle.fm_entry.specs.declared.suspect.Mark.TheVariants.{Present, Repaired as RepairedMark}
+use Rattle.fm_entry.specs.declared.suspect.Mark.TheVariants.{Replaced as ReplacedMark, Acquitted}
 use Rattle.fm_entry.specs.declared.suspect.Suspect.{Suspect}
 use Rattle.fm_entry.specs.declared.list_event.ListEvent.{ListEvent}
 use Rattle.fm_entry.specs.declared.spoken.Spoken.{Spoken}
-use Rattle.fm_entry.specs.Words.{IsEvent, IsSuspect, IsWordOf, IsSpelledSpoken}
-use Rattle.fm_entry.specs.WordBytes.{kind_byte, mark_byte, event_bytes, suspect_bytes, list_bytes, word_bytes, spoken_bytes}
-use Rattle.fm_entry.specs.Reading.{both_from, list_from_count, kind_of, mark_of, class_from, path_from, moment_from, module_from, case_from, record_number_from, certainty_from, own_from, kind_from, mark_from, event_from, suspect_from, word_from, words_from, spoken_from, whole}
-use Rattle.fm_entry.proofs.Readers.{both_reader, where_reader, made_reader, coded_reader, list_fit, list_reader, whole_some}
-use Rattle.fm_entry.proofs.PartReaders.{class_reader, path_reader, moment_reader, module_reader, case_reader, record_number_reader, certainty_reader, own_reader}
+use Rattle.fm_entry.specs.Words.{IsEvent, IsSuspect, IsBrokenLink, IsWordOf, IsSpelledSpoken}
+use Rattle.fm_entry.specs.Words.{links_ascend, event_fits, suspect_fits, link_fits, links_fit}
+use Rattle.fm_entry.specs.Words.{word_fits}
+use Rattle.fm_entry.specs.WordBytes.{kind_byte, head_byte, mark_byte, event_bytes, suspect_bytes}
+use Rattle.fm_entry.specs.WordBytes.{link_bytes, has_links, broken_bytes, word_bytes, spoken_bytes}
+use Rattle.fm_entry.specs.Reading.{class_from, path_from, moment_from, module_from, case_from}
+use Rattle.fm_entry.specs.WordReading.{kind_of, head_of, mark_of, record_number_from}
+use Rattle.fm_entry.specs.WordReading.{certainty_from}
+use Rattle.fm_entry.specs.WordReading.{own_from, head_from, mark_from, event_from, suspect_from}
+use Rattle.fm_entry.specs.WordReading.{link_from}
+use Rattle.fm_entry.specs.WordReading.{links_from, broken_from, word_body_from, word_from}
+use Rattle.fm_entry.specs.WordReading.{words_from, spoken_from}
+use Rattle.fm_bytes.proofs.Combined.{both_reader, where_reader, made_reader, coded_reader}
+use Rattle.fm_entry.proofs.Readers.{then_reader, made_where_reader, whole_spelled, whole_read}
+use Rattle.fm_entry.proofs.Readers.{spelling_prefix}
+use Rattle.fm_entry.proofs.PartReaders.{class_reader, path_reader, moment_reader, module_reader}
+use Rattle.fm_entry.proofs.PartReaders.{case_reader, record_number_reader, certainty_reader}
+use Rattle.fm_entry.proofs.PartReaders.{own_reader}
 
 -- the kinds and the marks by their numbers
 kind_means : (k : ListKind) → kind_of (kind_byte k) ≡ Some k
@@ -33,7 +52,7 @@ kind_means Upset = refl
 kind_means Updated = refl
 kind_means RepairedKind = refl
 
-kind_small : (k : ListKind) → kind_byte k ≤ 255
+kind_small : (k : ListKind) → kind_byte k < 8
 kind_small SuspectKind = omega arith
 kind_small Undiagnosable = omega arith
 kind_small Upset = omega arith
@@ -56,6 +75,44 @@ kind_codes n k h =
           ]
         ]
       ]
+    ]
+
+head_means : (k : ListKind) (b : Bool) → head_of (head_byte k b) ≡ Some (k, b)
+head_means SuspectKind true = refl
+head_means Undiagnosable true = refl
+head_means Upset true = refl
+head_means Updated true = refl
+head_means RepairedKind true = refl
+head_means SuspectKind false = refl
+head_means Undiagnosable false = refl
+head_means Upset false = refl
+head_means Updated false = refl
+head_means RepairedKind false = refl
+
+head_small : (k : ListKind) (b : Bool) → head_byte k b ≤ 255
+head_small k true = let few = kind_small k in omega arith
+head_small k false = let few = kind_small k in omega arith
+
+paired : (b : Bool) (o : Option ListKind) (h : ListKind × Bool)
+    → option_map (λ k. (k, b)) o ≡ Some h
+    → (o ≡ Some h.0) × (b ≡ h.1)
+paired b None h e = cc
+paired b (Some k) h e =
+    let same = some_same (k, b) h e in
+    (ap (λ (p : ListKind × Bool). Some p.0) same, ap (λ (p : ListKind × Bool). p.1) same)
+
+head_codes : (n : ℕ) (h : ListKind × Bool) → head_of n ≡ Some h → n ≡ head_byte h.0 h.1
+head_codes n h e =
+    elim (choice_split (nat_lt 8 n) (option_map (λ k. (k, true)) (kind_of (n - 8))) _ (Some h) e) [
+      | inl is ↦
+          let parts = paired true (kind_of (n - 8)) h is.1 in
+          let kind = kind_codes (n - 8) h.0 parts.0 in
+          let past = ltb-true 8 n is.0 in
+          let all : n ≡ 8 + kind_byte h.0 = omega arith in
+          all ∙ ap (head_byte h.0) parts.1
+      | inr other ↦
+          let parts = paired false (kind_of n) h other.1 in
+          kind_codes n h.0 parts.0 ∙ ap (head_byte h.0) parts.1
     ]
 
 mark_means : (m : Mark) → mark_of (mark_byte m) ≡ Some m
@@ -85,191 +142,380 @@ mark_codes n m h =
       ]
     ]
 
-kind_reader : IsReader (λ k. true) (λ k. kind_byte k ∷ []) kind_from
-unfolding kind_from
-kind_reader = coded_reader kind_byte kind_of kind_means kind_small kind_codes
+head_reader : IsReader (λ h. true) (λ h. head_byte h.0 h.1 ∷ []) head_from
+unfolding head_from
+head_reader =
+    coded_reader (λ h. head_byte h.0 h.1) head_of (λ h. head_means h.0 h.1)
+    (λ h. head_small h.0 h.1) head_codes
 
 mark_reader : IsReader (λ m. true) (λ m. mark_byte m ∷ []) mark_from
 unfolding mark_from
 mark_reader = coded_reader mark_byte mark_of mark_means mark_small mark_codes
 
 -- an event
-abbrev event_fits : EventName → Bool
-event_fits e = is_class e.class && is_path e.path
-
-event_reader : IsReader event_fits event_bytes event_from
+pub event_reader : IsReader event_fits event_bytes event_from
 unfolding event_from
 event_reader =
-    made_reader (λ f. record { class = f.0; path = f.1 }) (λ e. (e.class, e.path)) _ _ (both_from class_from path_from) (λ f. refl) (λ e. refl)
+    made_reader (λ f. record { class = f.0; path = f.1 }) (λ e. (e.class, e.path)) _ _
+    (both_from class_from path_from) (λ f. refl) (λ e. refl)
     (both_reader _ _ _ _ class_from path_from class_reader path_reader)
 
--- a suspect
-abbrev suspect_fits : Suspect → Bool
-suspect_fits s = is_class s.class && (is_path s.path && (nat_le s.certainty 100 && (true && true)))
+last_true : (a b c : Bool) → IsTrue (a && (b && (c && (true && true)))) → IsTrue (a && (b && c))
+last_true a b c h =
+    let one = and_parts a _ h in
+    let two = and_parts b _ one.1 in
+    and_true a _ one.0 (and_true b _ two.0 (and_parts c _ two.1).0)
 
-suspect_reader : IsReader suspect_fits suspect_bytes suspect_from
+true_last : (a b c : Bool) → IsTrue (a && (b && c)) → IsTrue (a && (b && (c && (true && true))))
+true_last a b c h =
+    let one = and_parts a _ h in
+    let two = and_parts b _ one.1 in
+    and_true a _ one.0 (and_true b _ two.0 (and_true c _ two.1 refl))
+
+-- a suspect
+pub suspect_reader : IsReader suspect_fits suspect_bytes suspect_from
 unfolding suspect_from
 suspect_reader =
-    made_reader (λ f. record { class = f.0; path = f.1.0; certainty = f.1.1.0; retire = f.1.1.1.0; mark = f.1.1.1.1 })
+    reader_as _ suspect_fits _ suspect_bytes _
+    (λ s h. last_true (is_class s.class) (is_path s.path) (nat_le s.certainty 100) h)
+    (λ s h. true_last (is_class s.class) (is_path s.path) (nat_le s.certainty 100) h) (λ s h. refl)
+    (made_reader (λ f. record {
+      class = f.0;
+      path = f.1.0;
+      certainty = f.1.1.0;
+      retire =
+          f.1.1.1.0;
+      mark = f.1.1.1.1;
+    })
     (λ s. (s.class, (s.path, (s.certainty, (s.retire, s.mark))))) _ _ _ (λ f. refl) (λ s. refl)
     (both_reader _ _ _ _ class_from _ class_reader
     (both_reader _ _ _ _ path_from _ path_reader
-    (both_reader _ _ _ _ certainty_from _ certainty_reader (both_reader _ _ _ _ flag_from mark_from flag_reader mark_reader))))
+    (both_reader _ _ _ _ certainty_from _ certainty_reader
+    (both_reader _ _ _ _ flag_from mark_from flag_reader mark_reader)))))
 
--- a word of a module
-abbrev word_fits : ℕ → ListEvent → Bool
-word_fits own w =
-    true && ((w.case.module == own)
-    && (nat_lt w.case.case (2 ^ 63)
-    && (nat_lt w.moment (2 ^ 62) && (nat_lt w.conf (2 ^ 32) && (list_fit event_fits w.observed && list_fit suspect_fits w.suspects)))))
+-- a broken link
+pub link_reader : IsReader link_fits link_bytes link_from
+unfolding link_from
+link_reader =
+    made_reader (λ f. record { instance = f.0; effect = f.1 }) (λ l. (l.instance, l.effect)) _ _
+    (both_from (number_from 4) (number_from 4)) (λ f. refl) (λ l. refl)
+    (both_reader _ _ _ _ (number_from 4) (number_from 4) word_reader word_reader)
 
-word_reader_of : (own : ℕ) → own < 8 → IsReader (word_fits own) word_bytes (word_from own)
-unfolding word_from
-word_reader_of own known =
-    made_reader
-    (λ f. record { kind = f.0; case = record { «module» = f.1.0; case = f.1.1.0 }; moment = f.1.1.1.0; conf = f.1.1.1.1.0; observed = f.1.1.1.1.1.0; suspects = f.1.1.1.1.1.1 })
-    (λ w. (w.kind, (w.case.module, (w.case.case, (w.moment, (w.conf, (w.observed, w.suspects))))))) _ _ _ (λ f. refl) (λ w. refl)
-    (both_reader _ _ _ _ kind_from _ kind_reader
-    (both_reader _ _ _ _ (own_from own) _ (own_reader own known)
+-- broken links, one or more, in order
+pub links_reader : IsReader
+    (λ links. counted_fits 4 link_fits links && (has_links links && links_ascend links))
+    (counted_bytes 4 link_bytes) links_from
+unfolding links_from
+links_reader =
+    where_reader (counted_fits 4 link_fits) (λ links. has_links links && links_ascend links)
+    (counted_bytes 4 link_bytes)
+    (counted_from 4 link_from) (counted_reader 4 link_fits link_bytes link_from link_reader)
+
+-- the broken links of a word that has some, or none
+abbrev links_at : Bool → List Broken → Bool
+links_at true links = counted_fits 4 link_fits links && (has_links links && links_ascend links)
+links_at false links = not (has_links links)
+
+some_links : (x : Broken) (xs : List Broken) → has_links (x ∷ xs) ≡ true
+some_links x xs = lt-ltb 0 (length (x ∷ xs)) (omega arith)
+
+no_links : (links : List Broken) → IsTrue (not (has_links links)) → links ≡ []
+no_links [] h = refl
+no_links (x ∷ xs) h = absurd (false≢true (sym (ap not (some_links x xs)) ∙ h))
+
+broken_reader : (marked : Bool) → IsReader (links_at marked) broken_bytes (broken_from marked)
+unfolding broken_from
+broken_reader true =
+    reader_as _ (links_at true) _ broken_bytes _ (λ links h. h) (λ links h. h)
+    (λ links h. let parts = and_parts (counted_fits 4 link_fits links) _ h in
+    sym (choice_true (has_links links) _ _ (and_parts (has_links links) _ parts.1).0)) links_reader
+broken_reader false = record {
+  sound = λ bytes t all h.
+      let same = some_same ([], bytes) t h in (
+        ap (λ (p : List Broken × List ℕ). not (has_links p.0)) (sym same),
+        ap (λ (p : List Broken × List ℕ). broken_bytes p.0 ++ p.1) same,
+      );
+  whole = λ links rest fits.
+      let none = no_links links fits in
+      ap (λ (xs : List Broken). Some ([], broken_bytes xs ++ rest)) none
+      ∙ ap (λ (xs : List Broken). Some (xs, rest)) (sym none);
+}
+
+links_marked : (b : Bool) (links : List Broken) → IsTrue (links_at b links) → has_links links ≡ b
+links_marked true links h =
+    (and_parts (has_links links) _ (and_parts (counted_fits 4 link_fits links) _ h).1).0
+links_marked false links h = ap has_links (no_links links h)
+
+links_same : (links : List Broken) → links_at (has_links links) links ≡ links_fit links
+links_same [] = refl
+links_same (x ∷ xs) =
+    ap (λ (b : Bool). links_at b (x ∷ xs)) (some_links x xs)
+    ∙ ap (λ (b : Bool). counted_fits 4 link_fits (x ∷ xs) && (b && links_ascend (x ∷ xs)))
+    (some_links x xs)
+
+-- what follows the first byte of a word
+abbrev BodyFields : Type 0
+BodyFields = ℕ × (ℕ × (ℕ × (ℕ × (List EventName × (List Suspect × List Broken)))))
+
+abbrev body_fits : ℕ → Bool → BodyFields → Bool
+body_fits own marked f =
+    (f.0 == own)
+    && (nat_lt f.1.0 (2 ^ 63)
+    && (nat_lt f.1.1.0 (2 ^ 62)
+    && (nat_lt f.1.1.1.0 (2 ^ 32)
+    && (counted_fits 4 event_fits f.1.1.1.1.0
+    && (counted_fits 4 suspect_fits f.1.1.1.1.1.0 && links_at marked f.1.1.1.1.1.1)))))
+
+abbrev body_bytes_of : BodyFields → List ℕ
+body_bytes_of f =
+    u32_bytes f.0
+    ++ (u64_bytes f.1.0
+    ++ (u64_bytes f.1.1.0
+    ++ (u32_bytes f.1.1.1.0
+    ++ (counted_bytes 4 event_bytes f.1.1.1.1.0
+    ++ (counted_bytes 4 suspect_bytes f.1.1.1.1.1.0 ++ broken_bytes f.1.1.1.1.1.1)))))
+
+body_reader : (own : ℕ) → own < 8 → (marked : Bool)
+    → IsReader (body_fits own marked) body_bytes_of (word_body_from own marked)
+unfolding word_body_from
+body_reader own known marked =
+    both_reader _ _ _ _ (own_from own) _ (own_reader own known)
     (both_reader _ _ _ _ case_from _ case_reader
     (both_reader _ _ _ _ moment_from _ moment_reader
     (both_reader _ _ _ _ (number_from 4) _ word_reader
-    (both_reader _ _ _ _ (list_from_count event_from) (list_from_count suspect_from)
-    (list_reader _ _ event_from event_reader) (list_reader _ _ suspect_from suspect_reader)))))))
+    (both_reader _ _ _ _ (counted_from 4 event_from) _
+    (counted_reader 4 _ _ event_from event_reader)
+    (both_reader _ _ _ _ (counted_from 4 suspect_from) _
+    (counted_reader 4 _ _ suspect_from suspect_reader)
+    (broken_reader marked))))))
+
+body_marked : (own : ℕ) (b : Bool) (f : BodyFields) → IsTrue (body_fits own b f)
+    → has_links f.1.1.1.1.1.1 ≡ b
+body_marked own b f h =
+    let one = and_parts (f.0 == own) _ h in
+    let two = and_parts (nat_lt f.1.0 (2 ^ 63)) _ one.1 in
+    let three = and_parts (nat_lt f.1.1.0 (2 ^ 62)) _ two.1 in
+    let four = and_parts (nat_lt f.1.1.1.0 (2 ^ 32)) _ three.1 in
+    let five = and_parts (counted_fits 4 event_fits f.1.1.1.1.0) _ four.1 in
+    let six = and_parts (counted_fits 4 suspect_fits f.1.1.1.1.1.0) _ five.1 in
+    links_marked b f.1.1.1.1.1.1 six.1
+
+-- a word as its first byte and what follows it, and back
+abbrev to_fields : ListEvent → (ListKind × Bool) × BodyFields
+to_fields w = (
+  (w.kind, has_links w.broken),
+  (w.case.module, (w.case.case, (w.moment, (w.conf, (w.observed, (w.suspects, w.broken)))))),
+)
+
+abbrev of_fields : (ListKind × Bool) × BodyFields → ListEvent
+of_fields f = record {
+  kind = f.0.0;
+  case = record { «module» = f.1.0; case = f.1.1.0 };
+  moment = f.1.1.1.0;
+  conf = f.1.1.1.1.0;
+  observed = f.1.1.1.1.1.0;
+  suspects = f.1.1.1.1.1.1.0;
+  broken = f.1.1.1.1.1.1.1;
+}
+
+fields_back : (own : ℕ) (f : (ListKind × Bool) × BodyFields) → IsTrue (body_fits own f.0.1 f.1)
+    → to_fields (of_fields f) ≡ f
+fields_back own f h = ap (λ (b : Bool). ((f.0.0, b), f.1)) (body_marked own f.0.1 f.1 h)
+
+word_same : (own : ℕ) (w : ListEvent)
+    → body_fits own (has_links w.broken) (to_fields w).1 ≡ word_fits own w
+word_same own w =
+    ap (λ (b : Bool). (w.case.module == own)
+    && (nat_lt w.case.case (2 ^ 63)
+    && (nat_lt w.moment (2 ^ 62)
+    && (nat_lt w.conf (2 ^ 32)
+    && (counted_fits 4 event_fits w.observed
+    && (counted_fits 4 suspect_fits w.suspects && b)))))) (links_same w.broken)
+
+-- a word of a module
+pub word_reader_of : (own : ℕ) → own < 8 → IsReader (word_fits own) word_bytes (word_from own)
+unfolding word_from
+word_reader_of own known =
+    reader_as _ (word_fits own) _ word_bytes _
+    (λ w h. sym (word_same own w) ∙ h) (λ w h. word_same own w ∙ h) (λ w h. refl)
+    (made_where_reader of_fields to_fields _ _ _ (fields_back own) (λ w. refl)
+    (then_reader (λ h. true) (λ h. body_fits own h.1) (λ h. head_byte h.0 h.1 ∷ [])
+    (λ h. body_bytes_of)
+    head_from (λ h. word_body_from own h.1) head_reader (λ h k. body_reader own known h.1)))
 
 words_reader : (own : ℕ) → own < 8
-    → IsReader (λ ws. list_fit (word_fits own) ws && nat_lt 0 (length ws)) (list_bytes word_bytes) (words_from own)
+    → IsReader (λ ws. counted_fits 4 (word_fits own) ws && nat_lt 0 (length ws))
+    (counted_bytes 4 word_bytes) (words_from own)
 unfolding words_from
 words_reader own known =
-    where_reader (list_fit (word_fits own)) (λ ws. nat_lt 0 (length ws)) (list_bytes word_bytes) (list_from_count (word_from own))
-    (list_reader (word_fits own) word_bytes (word_from own) (word_reader_of own known))
+    where_reader (counted_fits 4 (word_fits own)) (λ ws. nat_lt 0 (length ws))
+    (counted_bytes 4 word_bytes) (counted_from 4 (word_from own))
+    (counted_reader 4 (word_fits own) word_bytes (word_from own) (word_reader_of own known))
 
 -- what passes a test for each item
-all_pass : {A : Type 0} (p : A → Bool) (P : A → Type 0) → ((x : A) → IsTrue (p x) → P x) → (xs : List A) → IsTrue (list_all p xs) → All P xs
+all_pass : {A : Type 0} (p : A → Bool) (P : A → Type 0) → ((x : A) → IsTrue (p x) → P x)
+    → (xs : List A) → IsTrue (list_all p xs) → All P xs
 all_pass p P f xs h k d less = f _ (AllPass-from_list_all p xs h k d less)
 
-pass_all : {A : Type 0} (p : A → Bool) (P : A → Type 0) → ((x : A) → P x → IsTrue (p x)) → (xs : List A) → All P xs → IsTrue (list_all p xs)
+pass_all : {A : Type 0} (p : A → Bool) (P : A → Type 0) → ((x : A) → P x → IsTrue (p x))
+    → (xs : List A) → All P xs → IsTrue (list_all p xs)
 pass_all p P f xs h = list_all-from_AllPass p xs (λ k d less. f _ (h k d less))
 
-event_is : (e : EventName) → IsTrue (event_fits e) → IsEvent e
-event_is e h = let parts = and_parts (is_class e.class) _ h in record { class_is = parts.0; path_is = parts.1 }
+pub event_is : (e : EventName) → IsTrue (event_fits e) → IsEvent e
+event_is e h = let parts = and_parts (is_class e.class) _ h in
+    record { class_is = parts.0; path_is = parts.1 }
 
-event_back : (e : EventName) → IsEvent e → IsTrue (event_fits e)
+pub event_back : (e : EventName) → IsEvent e → IsTrue (event_fits e)
 event_back e h = and_true (is_class e.class) _ h.class_is h.path_is
 
-suspect_is : (s : Suspect) → IsTrue (suspect_fits s) → IsSuspect s
+pub suspect_is : (s : Suspect) → IsTrue (suspect_fits s) → IsSuspect s
 suspect_is s h =
     let one = and_parts (is_class s.class) _ h in
     let two = and_parts (is_path s.path) _ one.1 in
-    let three = and_parts (nat_le s.certainty 100) _ two.1 in
-    record { class_is = one.0; path_is = two.0; certainty_fits = leb-true s.certainty 100 three.0 }
+    record { class_is = one.0; path_is = two.0; certainty_fits = leb-true s.certainty 100 two.1 }
 
-suspect_back : (s : Suspect) → IsSuspect s → IsTrue (suspect_fits s)
+pub suspect_back : (s : Suspect) → IsSuspect s → IsTrue (suspect_fits s)
 suspect_back s h =
     and_true (is_class s.class) _ h.class_is
-    (and_true (is_path s.path) _ h.path_is (and_true (nat_le s.certainty 100) _ (le-leb s.certainty 100 h.certainty_fits) refl))
+    (and_true (is_path s.path) _ h.path_is (le-leb s.certainty 100 h.certainty_fits))
 
-word_is : (own : ℕ) (w : ListEvent) → IsTrue (word_fits own w) → IsWordOf own w
+pub link_is : (l : Broken) → IsTrue (link_fits l) → IsBrokenLink l
+link_is l h =
+    let parts = and_parts (nat_lt l.instance (2 ^ 32)) _ h in
+    record {
+      instance_fits = ltb-true l.instance (2 ^ 32) parts.0;
+      effect_fits =
+          ltb-true l.effect (2 ^ 32) parts.1;
+    }
+
+pub link_back : (l : Broken) → IsBrokenLink l → IsTrue (link_fits l)
+link_back l h =
+    and_true (nat_lt l.instance (2 ^ 32)) _ (lt-ltb l.instance (2 ^ 32) h.instance_fits)
+    (lt-ltb l.effect (2 ^ 32) h.effect_fits)
+
+-- a list that fits, and back
+list_is : {A : Type 0} (p : A → Bool) (P : A → Type 0) → ((x : A) → IsTrue (p x) → P x)
+    → (xs : List A)
+    → IsTrue (counted_fits 4 p xs) → (length xs < 2 ^ 32) × All P xs
+list_is p P f xs h =
+    let parts = and_parts (nat_lt (length xs) (2 ^ 32)) _ h in
+    (ltb-true (length xs) (2 ^ 32) parts.0, all_pass p P f xs parts.1)
+
+list_back : {A : Type 0} (p : A → Bool) (P : A → Type 0) → ((x : A) → P x → IsTrue (p x))
+    → (xs : List A)
+    → length xs < 2 ^ 32 → All P xs → IsTrue (counted_fits 4 p xs)
+list_back p P f xs few all =
+    and_true (nat_lt (length xs) (2 ^ 32)) _ (lt-ltb (length xs) (2 ^ 32) few)
+    (pass_all p P f xs all)
+
+-- a word that fits has a spelling, and back
+pub word_is : (own : ℕ) (w : ListEvent) → IsTrue (word_fits own w) → IsWordOf own w
 word_is own w h =
     let one = and_parts (w.case.module == own) _ h in
     let two = and_parts (nat_lt w.case.case (2 ^ 63)) _ one.1 in
     let three = and_parts (nat_lt w.moment (2 ^ 62)) _ two.1 in
     let four = and_parts (nat_lt w.conf (2 ^ 32)) _ three.1 in
-    let five = and_parts (list_fit event_fits w.observed) _ four.1 in
-    let events = and_parts (nat_lt (length w.observed) (2 ^ 32)) _ five.0 in
-    let suspects = and_parts (nat_lt (length w.suspects) (2 ^ 32)) _ five.1 in
+    let five = and_parts (counted_fits 4 event_fits w.observed) _ four.1 in
+    let six = and_parts (counted_fits 4 suspect_fits w.suspects) _ five.1 in
+    let last = and_parts (counted_fits 4 link_fits w.broken) _ six.1 in
+    let events = list_is event_fits IsEvent event_is w.observed five.0 in
+    let suspects = list_is suspect_fits IsSuspect suspect_is w.suspects six.0 in
+    let links = list_is link_fits IsBrokenLink link_is w.broken last.0 in
     record {
       module_is = eqb-true w.case.module own one.0;
       case_fits = ltb-true w.case.case (2 ^ 63) two.0;
       moment_fits = ltb-true w.moment (2 ^ 62) three.0;
       conf_fits = ltb-true w.conf (2 ^ 32) four.0;
-      observed_fit = ltb-true (length w.observed) (2 ^ 32) events.0;
-      observed_are = all_pass event_fits IsEvent event_is w.observed events.1;
-      suspects_fit = ltb-true (length w.suspects) (2 ^ 32) suspects.0;
-      suspects_are = all_pass suspect_fits IsSuspect suspect_is w.suspects suspects.1;
+      observed_fit = events.0;
+      observed_are = events.1;
+      suspects_fit = suspects.0;
+      suspects_are = suspects.1;
+      broken_fit = links.0;
+      broken_are = links.1;
+      broken_ascend = last.1;
     }
 
-word_back : (own : ℕ) (w : ListEvent) → IsWordOf own w → IsTrue (word_fits own w)
+pub word_back : (own : ℕ) (w : ListEvent) → IsWordOf own w → IsTrue (word_fits own w)
 word_back own w h =
-    let events = and_true (nat_lt (length w.observed) (2 ^ 32)) _ (lt-ltb (length w.observed) (2 ^ 32) h.observed_fit) (pass_all event_fits IsEvent event_back w.observed h.observed_are) in
-    let suspects = and_true (nat_lt (length w.suspects) (2 ^ 32)) _ (lt-ltb (length w.suspects) (2 ^ 32) h.suspects_fit) (pass_all suspect_fits IsSuspect suspect_back w.suspects h.suspects_are) in
     and_true (w.case.module == own) _ (eq-eqb w.case.module own h.module_is)
     (and_true (nat_lt w.case.case (2 ^ 63)) _ (lt-ltb w.case.case (2 ^ 63) h.case_fits)
     (and_true (nat_lt w.moment (2 ^ 62)) _ (lt-ltb w.moment (2 ^ 62) h.moment_fits)
-    (and_true (nat_lt w.conf (2 ^ 32)) _ (lt-ltb w.conf (2 ^ 32) h.conf_fits) (and_true (list_fit event_fits w.observed) _ events suspects))))
+    (and_true (nat_lt w.conf (2 ^ 32)) _ (lt-ltb w.conf (2 ^ 32) h.conf_fits)
+    (and_true (counted_fits 4 event_fits w.observed) _
+    (list_back event_fits IsEvent event_back w.observed h.observed_fit h.observed_are)
+    (and_true (counted_fits 4 suspect_fits w.suspects) _
+    (list_back suspect_fits IsSuspect suspect_back w.suspects h.suspects_fit h.suspects_are)
+    (and_true (counted_fits 4 link_fits w.broken) _
+    (list_back link_fits IsBrokenLink link_back w.broken h.broken_fit h.broken_are)
+    h.broken_ascend))))))
 
 abbrev fields_fit : ℕ → ℕ × List ListEvent → Bool
-fields_fit own f = nat_lt f.0 (2 ^ 46) && (list_fit (word_fits own) f.1 && nat_lt 0 (length f.1))
+fields_fit own f = nat_lt f.0 (2 ^ 46) &&
+    (counted_fits 4 (word_fits own) f.1 && nat_lt 0 (length f.1))
 
 abbrev fields_bytes : ℕ × List ListEvent → List ℕ
-fields_bytes f = u64_bytes f.0 ++ list_bytes word_bytes f.1
+fields_bytes f = u64_bytes f.0 ++ counted_bytes 4 word_bytes f.1
 
-fields_reader : (own : ℕ) → own < 8 → IsReader (fields_fit own) fields_bytes (both_from record_number_from (words_from own))
-fields_reader own known = both_reader _ _ _ _ record_number_from (words_from own) record_number_reader (words_reader own known)
+fields_reader : (own : ℕ) → own < 8
+    → IsReader (fields_fit own) fields_bytes (both_from record_number_from (words_from own))
+fields_reader own known =
+    both_reader _ _ _ _ record_number_from (words_from own) record_number_reader
+    (words_reader own known)
 
-record_is : (own : ℕ) (f : ℕ × List ListEvent) → own < 8 → IsTrue (fields_fit own f) → IsSpelledSpoken (record { «module» = own; number = f.0; events = f.1 })
-record_is own f known h =
-    let one = and_parts (nat_lt f.0 (2 ^ 46)) _ h in
-    let two = and_parts (list_fit (word_fits own) f.1) _ one.1 in
-    let words = and_parts (nat_lt (length f.1) (2 ^ 32)) _ two.0 in
+abbrev spoken_fits : Spoken → Bool
+spoken_fits s = nat_lt s.module 8 && fields_fit s.module (s.number, s.events)
+
+spoken_reader : IsReader spoken_fits spoken_bytes spoken_from
+unfolding spoken_from
+spoken_reader =
+    made_reader (λ f. record { «module» = f.0; number = f.1.0; events = f.1.1 })
+    (λ s. (s.module, (s.number, s.events))) _ _ _
+    (λ f. refl) (λ s. refl)
+    (then_reader (λ n. nat_lt n 8) fields_fit u32_bytes (λ own. fields_bytes) module_from
+    (λ own. both_from record_number_from (words_from own)) module_reader
+    (λ own h. fields_reader own (ltb-true own 8 h)))
+
+spoken_is : (s : Spoken) → IsTrue (spoken_fits s) → IsSpelledSpoken s
+spoken_is s h =
+    let known = and_parts (nat_lt s.module 8) _ h in
+    let one = and_parts (nat_lt s.number (2 ^ 46)) _ known.1 in
+    let two = and_parts (counted_fits 4 (word_fits s.module) s.events) _ one.1 in
+    let words = list_is (word_fits s.module) (IsWordOf s.module) (word_is s.module) s.events two.0
+    in
     record {
-      module_fits = known;
-      number_fits = ltb-true f.0 (2 ^ 46) one.0;
-      some_words = ltb-true 0 (length f.1) two.1;
-      words_fit = ltb-true (length f.1) (2 ^ 32) words.0;
-      words_are = all_pass (word_fits own) (IsWordOf own) (word_is own) f.1 words.1;
+      module_fits = ltb-true s.module 8 known.0;
+      number_fits = ltb-true s.number (2 ^ 46) one.0;
+      some_words = ltb-true 0 (length s.events) two.1;
+      words_fit = words.0;
+      words_are = words.1;
     }
 
-record_back : (s : Spoken) → IsSpelledSpoken s → IsTrue (fields_fit s.module (s.number, s.events))
-record_back s h =
-    let words = and_true (nat_lt (length s.events) (2 ^ 32)) _ (lt-ltb (length s.events) (2 ^ 32) h.words_fit)
-    (pass_all (word_fits s.module) (IsWordOf s.module) (word_back s.module) s.events h.words_are) in
-    and_true (nat_lt s.number (2 ^ 46)) _ (lt-ltb s.number (2 ^ 46) h.number_fits)
-    (and_true (list_fit (word_fits s.module) s.events) _ words (lt-ltb 0 (length s.events) h.some_words))
-
--- what is read is spelled so
-spoken_sound : (bytes : List ℕ) (t : Spoken × List ℕ) → AllBytes bytes → spoken_from bytes ≡ Some t → IsSpelledSpoken t.0 × (bytes ≡ spoken_bytes t.0 ++ t.1)
-unfolding spoken_from
-spoken_sound bytes t all h =
-    let first = after_some (module_from bytes) (λ own rest.
-    made (λ f. record { «module» = own; number = f.0; events = f.1 }) (both_from record_number_from (words_from own) rest)) t h in
-    let own = module_reader.sound bytes first.0 all first.1 in
-    let known = ltb-true first.0.0 8 own.0 in
-    let fields = made_some (λ f. record { «module» = first.0.0; number = f.0; events = f.1 }) (both_from record_number_from (words_from first.0.0) first.0.1) t first.2 in
-    let more = (fields_reader first.0.0 known).sound first.0.1 fields.0 (left_bytes bytes (u32_bytes first.0.0) first.0.1 own.1 all) fields.1 in (
-      subst (λ (p : Spoken × List ℕ). IsSpelledSpoken p.0) (sym fields.2) (record_is first.0.0 fields.0.0 known more.0),
-      subst (λ (p : Spoken × List ℕ). bytes ≡ spoken_bytes p.0 ++ p.1) (sym fields.2)
-          (own.1 ∙ ap (λ (xs : List ℕ). u32_bytes first.0.0 ++ xs) more.1 ∙ sym (append_assoc (u32_bytes first.0.0) (fields_bytes fields.0.0) fields.0.1)),
-    )
-
--- what is spelled is read again
-spoken_read : (s : Spoken) (rest : List ℕ) → IsSpelledSpoken s → spoken_from (spoken_bytes s ++ rest) ≡ Some (s, rest)
-unfolding spoken_from
-spoken_read s rest h =
-    ap (λ (bytes : List ℕ). after (module_from bytes) (λ own left.
-    made (λ f. record { «module» = own; number = f.0; events = f.1 }) (both_from record_number_from (words_from own) left)))
-    (append_assoc (u32_bytes s.module) (fields_bytes (s.number, s.events)) rest)
-    ∙ ap (λ (z : Read ℕ). after z (λ own left.
-    made (λ f. record { «module» = own; number = f.0; events = f.1 }) (both_from record_number_from (words_from own) left)))
-    (module_reader.whole s.module (fields_bytes (s.number, s.events) ++ rest) (lt-ltb s.module 8 h.module_fits))
-    ∙ made_read (λ f. record { «module» = s.module; number = f.0; events = f.1 }) _ (s.number, s.events) rest
-    ((fields_reader s.module h.module_fits).whole (s.number, s.events) rest (record_back s h))
+spoken_back : (s : Spoken) → IsSpelledSpoken s → IsTrue (spoken_fits s)
+spoken_back s h =
+    and_true (nat_lt s.module 8) _ (lt-ltb s.module 8 h.module_fits)
+    (and_true (nat_lt s.number (2 ^ 46)) _ (lt-ltb s.number (2 ^ 46) h.number_fits)
+    (and_true (counted_fits 4 (word_fits s.module) s.events) _
+    (list_back (word_fits s.module) (IsWordOf s.module) (word_back s.module) s.events h.words_fit
+    h.words_are)
+    (lt-ltb 0 (length s.events) h.some_words)))
 
 -- the record that all bytes are
-pub spoken_spelled : (bytes : List ℕ) (s : Spoken) → AllBytes bytes → whole (spoken_from bytes) ≡ Some s → IsSpelledSpoken s × (bytes ≡ spoken_bytes s)
+pub spoken_spelled : (bytes : List ℕ) (s : Spoken) → AllBytes bytes
+    → whole (spoken_from bytes) ≡ Some s → IsSpelledSpoken s × (bytes ≡ spoken_bytes s)
 spoken_spelled bytes s all h =
-    let known = spoken_sound bytes (s, []) all (whole_some (spoken_from bytes) s h) in
-    (known.0, known.1 ∙ append-nil (spoken_bytes s))
+    let known = whole_spelled spoken_fits spoken_bytes spoken_from spoken_reader bytes s all h in
+    (spoken_is s known.0, known.1)
 
--- bytes that are no record spell none
-pub spoken_unread : (bytes : List ℕ) (s : Spoken) → whole (spoken_from bytes) ≡ None → IsSpelledSpoken s → bytes ≡ spoken_bytes s → ⊥
-spoken_unread bytes s none spelled same =
-    let read : spoken_from bytes ≡ Some (s, []) = ap spoken_from (same ∙ sym (append-nil (spoken_bytes s))) ∙ spoken_read s [] spelled in
-    let some : whole (spoken_from bytes) ≡ Some s = ap whole read in
-    cc
+-- the bytes of a record read as the record
+pub spoken_whole : (bytes : List ℕ) (s : Spoken) → IsSpelledSpoken s → bytes ≡ spoken_bytes s
+    → whole (spoken_from bytes) ≡ Some s
+spoken_whole bytes s spelled same =
+    whole_read spoken_fits spoken_bytes spoken_from spoken_reader bytes s (spoken_back s spelled)
+    same
 
 -- no spelling of a record is a proper prefix of another
-pub spoken_prefix : (r s : Spoken) (xs ys : List ℕ) → IsSpelledSpoken r → IsSpelledSpoken s → spoken_bytes r ++ xs ≡ spoken_bytes s ++ ys → (r ≡ s) × (xs ≡ ys)
+pub spoken_prefix : (r s : Spoken) (xs ys : List ℕ) → IsSpelledSpoken r → IsSpelledSpoken s
+    → spoken_bytes r ++ xs ≡ spoken_bytes s ++ ys → (r ≡ s) × (xs ≡ ys)
 spoken_prefix r s xs ys h k same =
-    let both = some_same (r, xs) (s, ys) (sym (spoken_read r xs h) ∙ ap spoken_from same ∙ spoken_read s ys k) in
-    (ap (λ (t : Spoken × List ℕ). t.0) both, ap (λ (t : Spoken × List ℕ). t.1) both)
+    spelling_prefix spoken_fits spoken_bytes spoken_from spoken_reader r s xs ys (spoken_back r h)
+    (spoken_back s k) same

@@ -1,15 +1,16 @@
 -- Entries: their moments, which of them a log can hold, and the bytes that spell them.
-use Rattle.std.specs.Prelude.{◌≡◌, ℕ, ◌<◌, ◌^◌, List, ◌∷◌, ◌++◌, Some, IsTrue}
+use Rattle.std.specs.Prelude.{◌≡◌, ℕ, ◌<◌, ◌^◌, Bool, true, false, List, ◌∷◌, ◌++◌, Some, IsTrue}
 use Rattle.fm_name.specs.Category.{category_of}
 use Rattle.fm_name.specs.Class.{is_class}
 use Rattle.fm_name.specs.Path.{is_path}
 use Rattle.fm_name.specs.declared.classes.Category.TheVariants.{Ereport}
 use Rattle.fm_nv.specs.Data.{Pairs}
-use Rattle.fm_nv.specs.Numbers.{u32_bytes, u64_bytes, short_text}
+use Rattle.fm_bytes.specs.Numbers.{u32_bytes, u64_bytes, short_text}
 use Rattle.fm_nv.specs.Spelled.{IsSpelledList, pairs_bytes}
 use Rattle.fm_entry.specs.declared.case_name.CaseName.{CaseName}
 use Rattle.fm_entry.specs.declared.entry.Entry.{Entry}
-use Rattle.fm_entry.specs.declared.entry.Entry.TheVariants.{Report, Tick, Repaired, Replaced, Acquit}
+use Rattle.fm_entry.specs.declared.entry.Entry.TheVariants.{Report, Tick, Repaired, Replaced}
+use Rattle.fm_entry.specs.declared.entry.Entry.TheVariants.{Acquit, Reload}
 
 -- the moment of an entry
 abbrev pub moment_of : Entry → ℕ
@@ -18,6 +19,12 @@ moment_of (Tick moment) = moment
 moment_of (Repaired path moment) = moment
 moment_of (Replaced path moment) = moment
 moment_of (Acquit case moment) = moment
+moment_of (Reload conf moment) = moment
+
+-- the entry is a reload
+abbrev pub is_reload : Entry → Bool
+is_reload (Reload conf moment) = true
+is_reload _ = false
 
 -- a case name has a module below 8 and a case below 2^63
 pub record IsCaseName (name : CaseName) : Type 0 where
@@ -38,6 +45,7 @@ IsBody (Tick moment) = Unit {0}
 IsBody (Repaired path moment) = IsTrue (is_path path)
 IsBody (Replaced path moment) = IsTrue (is_path path)
 IsBody (Acquit case moment) = IsCaseName case
+IsBody (Reload conf moment) = conf < 2 ^ 32
 
 -- the entry has a spelling: its moment is below 2^62, and the rest is in range
 pub record IsSpelled (entry : Entry) : Type 0 where
@@ -53,3 +61,4 @@ entry_bytes (Repaired path moment) = 3 ∷ (short_text path ++ u64_bytes moment)
 entry_bytes (Replaced path moment) = 4 ∷ (short_text path ++ u64_bytes moment)
 entry_bytes (Acquit case moment) =
     5 ∷ (u32_bytes case.module ++ (u64_bytes case.case ++ u64_bytes moment))
+entry_bytes (Reload conf moment) = 6 ∷ (u32_bytes conf ++ u64_bytes moment)

@@ -2,5 +2,5 @@ pub mod Entries
 pub mod Words
 pub mod WordBytes
 pub mod Reading
-pub mod Decimals
+pub mod WordReading
 pub mod CaseText

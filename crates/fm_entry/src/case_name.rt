@@ -1,6 +1,8 @@
+//! Names of cases.
+
 ghost use Rattle.std.specs.Prelude.{◌≡◌, IfOk};
 
-use crate::no_memory::NoMemory;
+use fm_bytes::NoMemory;
 
 /// The name of a case: the module that opened it, and its number there. Its text is `dxM/N`.
 ///

@@ -5,7 +5,7 @@ ghost use Rattle.fm_entry.specs.CaseText.{case_text, is_slash, case_of, case_num
 ghost use Rattle.fm_entry.specs.Entries.{IsCaseName};
 
 use crate::case_name::CaseName;
-use crate::decimal::read_below;
+use fm_bytes::read_numeral;
 
 /// The place of the first slash.
 fn slash_place(text: &[u8]) -> Option<usize>
@@ -30,8 +30,8 @@ fn case_numbers(text: &[u8]) -> Option<CaseName>
 {
     let at = slash_place(text)?;
     case_of(
-        read_below(8, &text[..at]),
-        read_below(1 << 63, &text[at + 1..]),
+        read_numeral(&text[..at], 7),
+        read_numeral(&text[at + 1..], (1 << 63) - 1),
     )
 }
 
@@ -51,7 +51,8 @@ fn case_named(text: &str) -> Option<CaseName>
 pub fn read_case_name(text: &str) -> Option<CaseName>
     ensures value { result ≡ case_named text.now }
     ensures spelled { IfSome result (λ name. (text.now ≡ case_text name) × IsCaseName name) }
-    ensures read { (name : CaseName) → text.now ≡ case_text name → IsCaseName name → result ≡ Some name }
+    ensures read { (name : CaseName) → text.now ≡ case_text name → IsCaseName name
+        → result ≡ Some name }
 {
     case_named(text)
 }

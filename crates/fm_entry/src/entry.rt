@@ -1,8 +1,10 @@
-ghost use Rattle.std.specs.Prelude.{◌≡◌, IfOk};
+//! Entries.
+
+ghost use Rattle.std.specs.Prelude.{◌≡◌};
 ghost use Rattle.fm_entry.specs.Entries.{moment_of};
 
 use crate::case_name::CaseName;
-use crate::no_memory::NoMemory;
+use fm_bytes::{Copies, NoMemory};
 use fm_name::{Class, Fmri};
 use fm_nv::Nv;
 use std::alloc::Global;
@@ -36,6 +38,11 @@ pub enum Entry {
         case: CaseName,
         moment: u64,
     },
+    /// The configuration of this number is in force from here on.
+    Reload {
+        conf: u32,
+        moment: u64,
+    },
 }
 
 impl Entry {
@@ -49,13 +56,13 @@ impl Entry {
             Entry::Repaired { moment, .. } => *moment,
             Entry::Replaced { moment, .. } => *moment,
             Entry::Acquit { moment, .. } => *moment,
+            Entry::Reload { moment, .. } => *moment,
         }
     }
+}
 
-    /// An equal entry.
-    pub fn copy(&self, alloc: Global) -> Result<Entry, NoMemory>
-        ensures { IfOk result (λ copied. copied ≡ self.now) }
-    {
+impl Copies for Entry {
+    fn copy(&self, alloc: Global) -> Result<Entry, NoMemory> {
         match self {
             Entry::Report {
                 class,
@@ -79,6 +86,10 @@ impl Entry {
             }),
             Entry::Acquit { case, moment } => Ok(Entry::Acquit {
                 case: *case,
+                moment: *moment,
+            }),
+            Entry::Reload { conf, moment } => Ok(Entry::Reload {
+                conf: *conf,
                 moment: *moment,
             }),
         }

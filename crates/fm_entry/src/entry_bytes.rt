@@ -2,13 +2,14 @@
 
 ghost use Rattle.std.specs.Prelude.{◌≡◌, ◌++◌, OnOk, OnErr};
 ghost use Rattle.fm_entry.specs.Entries.{IsSpelled, entry_bytes};
-ghost use Rattle.fm_entry.specs.declared.entry.Entry.TheVariants.{Report, Tick, Repaired, Replaced, Acquit};
+ghost use Rattle.fm_entry.specs.declared.entry.Entry.TheVariants.{Report, Tick, Repaired, Replaced};
+ghost use Rattle.fm_entry.specs.declared.entry.Entry.TheVariants.{Acquit, Reload};
 
 use crate::case_name::CaseName;
 use crate::entry::Entry;
-use crate::no_memory::NoMemory;
+use fm_bytes::{NoMemory, put_short_text, put_u8, put_u32, put_u64};
 use fm_name::{Class, Fmri};
-use fm_nv::{Nv, put_byte, put_long, put_short_text, put_word, write_nv};
+use fm_nv::{Nv, write_nv};
 
 /// Appends the bytes that spell the entry.
 pub fn write_entry(entry: &Entry, out: &mut Vec<u8>) -> Result<(), NoMemory>
@@ -37,6 +38,7 @@ fn put_entry(entry: &Entry, out: &mut Vec<u8>) -> Result<(), NoMemory>
         Entry::Repaired { path, moment } => put_repaired(path, *moment, out),
         Entry::Replaced { path, moment } => put_replaced(path, *moment, out),
         Entry::Acquit { case, moment } => put_acquit(*case, *moment, out),
+        Entry::Reload { conf, moment } => put_reload(*conf, *moment, out),
     }
 }
 
@@ -48,12 +50,14 @@ fn put_report(
     payload: &Nv,
     out: &mut Vec<u8>,
 ) -> Result<(), NoMemory>
-    ensures ok { OnOk result (out.new.items ≡ out.old.items ++ entry_bytes (Report class.now path.now moment payload.now)) }
+    ensures ok { OnOk result
+        (out.new.items ≡ out.old.items
+        ++ entry_bytes (Report class.now path.now moment payload.now)) }
 {
-    put_byte(1, out)?;
+    put_u8(1, out)?;
     put_short_text(class.text(), out)?;
     put_short_text(path.text(), out)?;
-    put_long(moment, out)?;
+    put_u64(moment, out)?;
     write_nv(payload, out)?;
     Ok(())
 }
@@ -62,28 +66,30 @@ fn put_report(
 fn put_tick(moment: u64, out: &mut Vec<u8>) -> Result<(), NoMemory>
     ensures ok { OnOk result (out.new.items ≡ out.old.items ++ entry_bytes (Tick moment)) }
 {
-    put_byte(2, out)?;
-    put_long(moment, out)?;
+    put_u8(2, out)?;
+    put_u64(moment, out)?;
     Ok(())
 }
 
 /// Writes a repair.
 fn put_repaired(path: &Fmri, moment: u64, out: &mut Vec<u8>) -> Result<(), NoMemory>
-    ensures ok { OnOk result (out.new.items ≡ out.old.items ++ entry_bytes (Repaired path.now moment)) }
+    ensures ok { OnOk result
+        (out.new.items ≡ out.old.items ++ entry_bytes (Repaired path.now moment)) }
 {
-    put_byte(3, out)?;
+    put_u8(3, out)?;
     put_short_text(path.text(), out)?;
-    put_long(moment, out)?;
+    put_u64(moment, out)?;
     Ok(())
 }
 
 /// Writes a replacement.
 fn put_replaced(path: &Fmri, moment: u64, out: &mut Vec<u8>) -> Result<(), NoMemory>
-    ensures ok { OnOk result (out.new.items ≡ out.old.items ++ entry_bytes (Replaced path.now moment)) }
+    ensures ok { OnOk result
+        (out.new.items ≡ out.old.items ++ entry_bytes (Replaced path.now moment)) }
 {
-    put_byte(4, out)?;
+    put_u8(4, out)?;
     put_short_text(path.text(), out)?;
-    put_long(moment, out)?;
+    put_u64(moment, out)?;
     Ok(())
 }
 
@@ -91,9 +97,19 @@ fn put_replaced(path: &Fmri, moment: u64, out: &mut Vec<u8>) -> Result<(), NoMem
 fn put_acquit(case: CaseName, moment: u64, out: &mut Vec<u8>) -> Result<(), NoMemory>
     ensures ok { OnOk result (out.new.items ≡ out.old.items ++ entry_bytes (Acquit case moment)) }
 {
-    put_byte(5, out)?;
-    put_word(case.module, out)?;
-    put_long(case.case, out)?;
-    put_long(moment, out)?;
+    put_u8(5, out)?;
+    put_u32(case.module, out)?;
+    put_u64(case.case, out)?;
+    put_u64(moment, out)?;
+    Ok(())
+}
+
+/// Writes a reload.
+fn put_reload(conf: u32, moment: u64, out: &mut Vec<u8>) -> Result<(), NoMemory>
+    ensures ok { OnOk result (out.new.items ≡ out.old.items ++ entry_bytes (Reload conf moment)) }
+{
+    put_u8(6, out)?;
+    put_u32(conf, out)?;
+    put_u64(moment, out)?;
     Ok(())
 }

@@ -1,8 +1,12 @@
+//! Words about cases.
+
 ghost use Rattle.std.specs.Prelude.{◌≡◌, IfOk};
 
+use crate::broken::BrokenLinks;
 use crate::case_name::CaseName;
-use crate::lists::{EventNames, Suspects};
-use crate::no_memory::NoMemory;
+use crate::event_item::EventNames;
+use crate::suspect::Suspects;
+use fm_bytes::{Copies, Items, NoMemory};
 use std::alloc::Global;
 
 /// What a word says of its case.
@@ -43,13 +47,15 @@ pub struct ListEvent {
     pub conf: u32,
     pub observed: EventNames,
     pub suspects: Suspects,
+    /// The links that the reports of the case break, by instance, then by effect.
+    pub broken: BrokenLinks,
 }
 
-impl ListEvent {
-    /// An equal word.
-    pub fn copy(&self, alloc: Global) -> Result<ListEvent, NoMemory>
-        ensures { IfOk result (λ copied. copied ≡ self.now) }
-    {
+/// A list of words about cases, which contracts see as a list.
+pub type ListEvents = Items<ListEvent>;
+
+impl Copies for ListEvent {
+    fn copy(&self, alloc: Global) -> Result<ListEvent, NoMemory> {
         Ok(ListEvent {
             kind: self.kind,
             case: self.case,
@@ -57,6 +63,7 @@ impl ListEvent {
             conf: self.conf,
             observed: self.observed.copy(alloc)?,
             suspects: self.suspects.copy(alloc)?,
+            broken: self.broken.copy(alloc)?,
         })
     }
 }

@@ -1,7 +1,7 @@
-ghost use Rattle.std.specs.Prelude.{◌≡◌, IfOk};
+//! Records of words spoken.
 
-use crate::lists::ListEvents;
-use crate::no_memory::NoMemory;
+use crate::list_event::ListEvents;
+use fm_bytes::{Copies, NoMemory};
 use std::alloc::Global;
 
 /// What a module said at the entry with this number.
@@ -13,11 +13,8 @@ pub struct Spoken {
     pub events: ListEvents,
 }
 
-impl Spoken {
-    /// An equal record.
-    pub fn copy(&self, alloc: Global) -> Result<Spoken, NoMemory>
-        ensures { IfOk result (λ copied. copied ≡ self.now) }
-    {
+impl Copies for Spoken {
+    fn copy(&self, alloc: Global) -> Result<Spoken, NoMemory> {
         Ok(Spoken {
             module: self.module,
             number: self.number,

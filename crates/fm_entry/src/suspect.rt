@@ -1,7 +1,10 @@
+//! Suspects of a case, and what became of them.
+
 ghost use Rattle.std.specs.Prelude.{◌≡◌, IfOk};
 
-use crate::no_memory::NoMemory;
+use fm_bytes::{Copies, Items, NoMemory};
 use fm_name::{Class, Fmri};
+use std::alloc::Global;
 
 /// What became of a suspect since it was named.
 #[derive(Clone, Copy, PartialEq, Eq, Debug)]
@@ -37,11 +40,11 @@ pub struct Suspect {
     pub mark: Mark,
 }
 
-impl Suspect {
-    /// An equal suspect.
-    pub fn copy(&self) -> Result<Suspect, NoMemory>
-        ensures { IfOk result (λ copied. copied ≡ self.now) }
-    {
+/// A list of suspects, which contracts see as a list.
+pub type Suspects = Items<Suspect>;
+
+impl Copies for Suspect {
+    fn copy(&self, _alloc: Global) -> Result<Suspect, NoMemory> {
         Ok(Suspect {
             class: self.class.copy()?,
             path: self.path.copy()?,

@@ -1,13 +1,12 @@
-pub mod Numbers
 pub mod Records
 pub mod Framing
 pub mod Growth
 pub mod Uniqueness
 pub mod Walking
 pub mod Torn
+pub mod Opened
 pub mod Added
 pub mod Started
-pub mod Reading
 pub mod Looking
+pub mod Places
 pub mod Walks
-pub mod Opened

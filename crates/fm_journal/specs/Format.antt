@@ -1,5 +1,6 @@
 -- What bytes spell a journal: a header, then records, then a closed gate.
-use Rattle.std.specs.Prelude.{◌≡◌, ◌≢◌, ℕ, ◌+◌, ◌<◌, ◌≤◌, ◌^◌, List, [], ◌∷◌, ◌++◌, length, codes, All}
+use Rattle.std.specs.Prelude.{◌≡◌, ◌≢◌, ℕ, ◌+◌, ◌<◌, ◌≤◌, ◌^◌, List, [], ◌∷◌, ◌++◌, length, codes}
+use Rattle.std.specs.Prelude.{All}
 use Rattle.byteorder.specs.Endian.{big_bytes}
 
 -- the eight letters and the first number
@@ -31,12 +32,15 @@ pub record IsWithin (first : ℕ) (payloads : List (List ℕ)) : Type 0 where
   pub sized : end_of payloads < 2 ^ 40
   pub short : All (λ payload. length payload ≤ 2 ^ 28) payloads
 
--- The bytes begin with the header, the records of these payloads and a gate, all within the limits. `rest` is what follows.
-pub record Begins (bytes : List ℕ) (first : ℕ) (payloads : List (List ℕ)) (gate : ℕ) (rest : List ℕ) : Type 0 where
+-- The bytes begin with the header, the records of these payloads and a gate, all within the limits.
+-- `rest` is what follows.
+pub record Begins (bytes : List ℕ) (first : ℕ) (payloads : List (List ℕ)) (gate : ℕ)
+    (rest : List ℕ) : Type 0 where
   pub bytes_are : bytes ≡ header first ++ (records payloads ++ gate ∷ rest)
   pub limits : IsWithin first payloads
 
--- The bytes are a journal of these payloads: the gate behind their records is closed. What follows it may be anything.
+-- The bytes are a journal of these payloads: the gate behind their records is closed. What follows
+-- it may be anything.
 pub record IsJournal (bytes : List ℕ) (first : ℕ) (payloads : List (List ℕ)) : Type 0 where
   pub gate : ℕ
   pub rest : List ℕ

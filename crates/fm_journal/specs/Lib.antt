@@ -5,4 +5,3 @@ pub mod Format
 pub mod JournalOf
 pub mod Keeps
 pub mod Look
-pub mod OnlyRead

@@ -1,10 +1,8 @@
 // Why a call on a journal or a frame was refused.
 ghost use Rattle.std.specs.Prelude.{◌≡◌};
-ghost use Rattle.fm_journal.specs.declared.fault.FrameFault.TheVariants.{NoMemory};
 ghost use Rattle.fm_journal.specs.declared.fault.JournalFault.TheVariants.{Disk};
 
 use fm_outer::Failed;
-use std::alloc::{AllocError, AllocFailed};
 
 /// What is full, for the journal and for all that stands above it.
 #[derive(Clone, Copy, Debug, Drop, PartialEq, Eq)]
@@ -21,31 +19,6 @@ pub enum FullKind {
     Input,
 }
 
-/// Why a payload is no frame.
-#[derive(Clone, Copy, Debug, Drop, PartialEq, Eq)]
-pub enum FrameFault {
-    /// It has more than 2^28 bytes.
-    TooLong,
-    /// There was no memory for it.
-    NoMemory,
-}
-
-impl From<AllocError> for FrameFault {
-    ghost from_gives = { λ _ e. e ≡ NoMemory };
-
-    fn from(_: AllocError) -> Self {
-        FrameFault::NoMemory
-    }
-}
-
-impl<T: Drop> From<AllocFailed<T>> for FrameFault {
-    ghost from_gives = { λ _ e. e ≡ NoMemory };
-
-    fn from(_: AllocFailed<T>) -> Self {
-        FrameFault::NoMemory
-    }
-}
-
 /// Why a journal did not do what it was asked.
 #[derive(Clone, Copy, Debug, Drop, PartialEq, Eq)]
 pub enum JournalFault {
@@ -53,10 +26,11 @@ pub enum JournalFault {
     Disk,
     /// A limit is reached. Nothing was changed.
     Full(FullKind),
-    /// The disk is no journal: `place` is 0 where its header is wrong, and else that of the gate of the first bad record.
+    /// The disk is no journal: `place` is 0 where its header is wrong, and else that of the gate of
+    /// the first bad record.
     Damaged { place: u64 },
-    /// An earlier write or sync of this journal failed, when the disk's count of failures came to `faults`. Open it
-    /// again to see what it holds.
+    /// An earlier write or sync of this journal failed, when the disk's count of failures came to
+    /// `faults`. Open it again to see what it holds.
     Closed { faults: u64 },
 }
 

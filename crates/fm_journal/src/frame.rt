@@ -10,8 +10,8 @@ use std::marker::Model;
 /// The most bytes of a payload.
 pub(crate) const MAX_LENGTH: u32 = 1 << 28;
 
-/// A payload with its length before it and a closed gate behind it, as `append` writes it in one piece. Contracts see
-/// the payload. An append of a frame takes no memory.
+/// A payload with its length before it and a closed gate behind it, as `append` writes it in one
+/// piece. Contracts see the payload. An append of a frame takes no memory.
 #[derive(Drop)]
 pub struct Frame {
     body: Vec<u8>,
@@ -26,7 +26,8 @@ impl Model for Frame {
 
     ghost view = { λ f. range 4 (length f.body.items - 5) f.body.items };
 
-    ghost invariant = { λ f. (f.body.items ≡ framed (range 4 (length f.body.items - 5) f.body.items))
+    ghost invariant = { λ f.
+        (f.body.items ≡ framed (range 4 (length f.body.items - 5) f.body.items))
         × (length (range 4 (length f.body.items - 5) f.body.items) ≤ 2 ^ 28) };
 }
 

@@ -1,5 +1,5 @@
 // The header of a journal.
-ghost use Rattle.std.specs.Prelude.{◌≡◌, ℕ, ◌<◌, ◌^◌, IfSome, IsNone};
+ghost use Rattle.std.specs.Prelude.{◌≡◌, ℕ, ◌<◌, ◌^◌, length, IfSome, IsNone};
 ghost use Rattle.fm_journal.specs.Format.{header};
 
 use crate::refuse::END_OF_NUMBERS;
@@ -19,15 +19,16 @@ pub(crate) fn header_of(first: u64) -> [u8; 16]
 }
 
 /// The first number of these bytes, if they are a header.
-pub(crate) fn first_of(bytes: &[u8; 16]) -> Option<u64>
+pub(crate) fn first_of(bytes: &[u8]) -> Option<u64>
+    requires { length bytes.now ≡ 16 }
     ensures found { IfSome result (λ first. (first < 2 ^ 46) × (bytes.now ≡ header first)) }
     ensures none { IsNone result → (first : ℕ) → first < 2 ^ 46 → bytes.now ≡ header first → ⊥ }
 {
-    let first = BigEndian::read_u64(&bytes[8..]);
+    let first = BigEndian::read_u64(&bytes[8..16]);
     if first >= END_OF_NUMBERS {
         return None;
     }
-    if *bytes == header_of(first) {
+    if bytes == header_of(first).as_slice() {
         Some(first)
     } else {
         None

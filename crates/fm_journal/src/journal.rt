@@ -1,16 +1,20 @@
 // A journal on a disk.
-ghost use Rattle.std.specs.Prelude.{◌≡◌, ℕ, ◌+◌, ◌<◌, ◌≤◌, ◌^◌, List, [], ◌∷◌, ◌++◌, length, Some, None, IfOk, IfErr, OnOk, OnErr, IsOk};
+ghost use Rattle.std.specs.Prelude.{◌≡◌, ◌↔◌, ℕ, ◌+◌, ◌<◌, ◌≤◌, ◌^◌, List, [], ◌∷◌, ◌++◌, length};
+ghost use Rattle.std.specs.Prelude.{take, slice_get, Some, None, IsNone, IfSome, IfOk, IfErr, OnOk};
+ghost use Rattle.std.specs.Prelude.{IsOk};
 ghost use Rattle.std.specs.Option.{option_map};
 ghost use Rattle.fm_outer.specs.Bytes.{written};
-ghost use Rattle.fm_outer.specs.Crash.{LeavesOnly};
-ghost use Rattle.fm_journal.specs.Causes.{refusal, AppendCause, CreateCause, OpenCause};
-ghost use Rattle.fm_journal.specs.Crash.{IsOldOrNew, IsFrontOrEmpty, StartsOver, StartsOrStops};
-ghost use Rattle.fm_journal.specs.Format.{header, framed, IsJournal};
+ghost use Rattle.fm_outer.specs.Moments.{LeavesOnly, OnlyRead};
+ghost use Rattle.fm_journal.specs.Causes.{refusal, AppendCause, CreateCause, OpenCause, PlaceCause};
+ghost use Rattle.fm_journal.specs.Crash.{IsOldOrNew, HasTwoPhases, disk_back};
+ghost use Rattle.fm_journal.specs.Format.{header, framed, end_of, IsJournal};
+ghost use Rattle.fm_journal.specs.JournalOf.{blank_journal, appended};
 ghost use Rattle.fm_journal.specs.Keeps.{Keeps};
-ghost use Rattle.fm_journal.specs.OnlyRead.{OnlyRead};
+ghost use Rattle.fm_journal.specs.Look.{AnyLength};
 ghost use Rattle.fm_journal.specs.declared.fault.JournalFault.{JournalFault};
-ghost use Rattle.fm_journal.specs.declared.fault.JournalFault.TheVariants.{Disk as DiskFault};
+ghost use Rattle.fm_journal.specs.declared.fault.JournalFault.TheVariants.{Closed as IsClosedAt};
 
+use crate::place::next_of;
 use crate::refuse::refused;
 use crate::scan::scan;
 use crate::start::start;
@@ -18,8 +22,8 @@ use crate::{Frame, JournalFault, Refused};
 use fm_outer::{Disk, Failed, add};
 use std::marker::Model;
 
-/// One list of payloads on one disk. Contracts see the disk, the first number, the number of payloads, the place of
-/// the closed gate behind them, and whether an append has failed.
+/// One list of payloads on one disk. Contracts see the disk, the first number, the number of
+/// payloads, the place of the closed gate behind them, and whether an append has failed.
 #[derive(Drop)]
 pub struct Journal<D: Disk> {
     disk: D,
@@ -30,31 +34,31 @@ pub struct Journal<D: Disk> {
 }
 
 impl<D: Disk> Model for Journal<D> {
-    ghost use Rattle.fm_journal.specs.JournalOf.{JournalOf, IsSound};
+    ghost use Rattle.fm_journal.specs.JournalOf.{JournalOf, IsSound, journal_of};
 
     ghost Value = { JournalOf D };
 
-    ghost view = { λ j. record { disk = j.disk; first = j.first; count = j.count; end = j.end; closed = j.closed } };
+    ghost view = { λ j. journal_of j.disk j.first j.count j.end j.closed };
 
-    ghost invariant = { λ j. IsSound D.seen D.images (record { disk = j.disk; first = j.first; count = j.count; end = j.end; closed = j.closed }) };
+    ghost invariant = { λ j. IsSound D.Disk
+        (journal_of j.disk j.first j.count j.end j.closed) };
 }
 
 impl<D: Disk> Journal<D> {
-    /// Makes the disk a journal without payloads, whose first number will be `first`. What the disk held is gone.
+    /// Makes the disk a journal without payloads, whose first number will be `first`. What the disk
+    /// held is gone.
     pub fn create(disk: D, first: u64) -> Result<Journal<D>, Refused<D>>
         requires { first < 2 ^ 46 }
-        ensures made { IfOk result (λ journal. (journal.first ≡ first) × (journal.count ≡ 0) × (journal.end ≡ 16) × (journal.closed ≡ None)) }
-        ensures list { IfOk result (λ journal. (bytes : List ℕ) → D.seen disk ≡ Some bytes → Keeps D.seen D.images journal []) }
-        ensures bytes { IfOk result (λ journal. D.seen journal.disk ≡ option_map (λ _. header first ++ 0 ∷ []) (D.seen disk)) }
-        ensures parts { IfOk result (λ journal. StartsOver D.moment D.left_since D.images disk journal.disk) }
-        ensures parts_back { IfErr result (λ refused. StartsOrStops D.moment D.left_since D.images disk refused.disk) }
-        ensures any_moment { IfOk result (λ journal. LeavesOnly D.moment D.left_since disk journal.disk (IsFrontOrEmpty (D.images disk))) }
-        ensures any_moment_back { IfErr result (λ refused. LeavesOnly D.moment D.left_since disk refused.disk (IsFrontOrEmpty (D.images disk))) }
-        ensures same_disk { IfOk result (λ journal. D.name journal.disk ≡ D.name disk) }
-        ensures same_disk_back { IfErr result (λ refused. D.name refused.disk ≡ D.name disk) }
-        ensures later { IfOk result (λ journal. D.failures disk ≤ D.failures journal.disk) }
-        ensures later_back { IfErr result (λ refused. D.failures disk ≤ D.failures refused.disk) }
-        ensures cause { IfErr result (λ refused. CreateCause (D.failures disk) (D.failures refused.disk) refused.fault) }
+        ensures made { IfOk result (λ journal. journal ≡ blank_journal journal.disk first) }
+        ensures list { IfOk result (λ journal. (bytes : List ℕ) → D.seen disk ≡ Some bytes
+            → Keeps D.Disk journal []) }
+        ensures bytes { IfOk result (λ journal. D.seen journal.disk
+            ≡ option_map (λ _. header first ++ 0 ∷ []) (D.seen disk)) }
+        ensures two_phases { HasTwoPhases D.Disk disk result }
+        ensures same_disk { D.name (disk_back result) ≡ D.name disk }
+        ensures cause { IfErr result (λ refused.
+            CreateCause (D.failures disk) (D.failures refused.disk) refused.fault) }
+        ensures count_kept { IfOk result (λ journal. D.failures journal.disk ≡ D.failures disk) }
     {
         let mut disk = disk;
         match start(&mut disk, first) {
@@ -72,17 +76,19 @@ impl<D: Disk> Journal<D> {
         }
     }
 
-    /// Opens the journal that is on the disk. The disk is synced first, and nothing is written. It reads the gates and
-    /// the lengths, and no payload.
+    /// Opens the journal that is on the disk. The disk is synced first, and nothing is written. It
+    /// is read once, in pieces of up to 64 KiB.
     pub fn open(disk: D) -> Result<Journal<D>, Refused<D>>
-        ensures list { IfOk result (λ journal. (bytes : List ℕ) (first : ℕ) (payloads : List (List ℕ)) → D.seen disk ≡ Some bytes
-            → IsJournal bytes first payloads → (journal.first ≡ first) × Keeps D.seen D.images journal payloads) }
+        ensures list { IfOk result (λ journal. (bytes : List ℕ) (first : ℕ)
+            (payloads : List (List ℕ)) → D.seen disk ≡ Some bytes → IsJournal bytes first payloads
+            → (journal.first ≡ first) × Keeps D.Disk journal payloads) }
         ensures found { IfOk result (λ journal. (bytes : List ℕ) → D.seen disk ≡ Some bytes
-            → (payloads : List (List ℕ)) × Keeps D.seen D.images journal payloads) }
+            → (payloads : List (List ℕ)) × Keeps D.Disk journal payloads) }
         ensures is_open { IfOk result (λ journal. journal.closed ≡ None) }
-        ensures still { IfOk result (λ journal. OnlyRead D.seen D.images D.moment D.left_since D.name D.failures disk journal.disk) }
-        ensures still_back { IfErr result (λ refused. OnlyRead D.seen D.images D.moment D.left_since D.name D.failures disk refused.disk) }
-        ensures cause { IfErr result (λ refused. OpenCause (D.seen disk) (D.failures disk) (D.failures refused.disk) refused.fault) }
+        ensures still { OnlyRead D.Disk disk (disk_back result) }
+        ensures cause { IfErr result (λ refused.
+            OpenCause (D.seen disk) (D.failures disk) (D.failures refused.disk) refused.fault) }
+        ensures count_kept { IfOk result (λ journal. D.failures journal.disk ≡ D.failures disk) }
     {
         let mut disk = disk;
         match scan(&mut disk) {
@@ -97,30 +103,25 @@ impl<D: Disk> Journal<D> {
         }
     }
 
-    /// Adds a payload at the end of the list, and gives its number: the first number plus its place in the list.
-    /// After `Disk` the journal is closed, and opening the disk again tells whether the payload is there.
+    /// Adds a payload at the end of the list, and gives its number: the first number plus its place
+    /// in the list. After `Disk` the journal is closed, and opening the disk again tells whether
+    /// the payload is there.
     pub fn append(&mut self, frame: &Frame) -> Result<u64, JournalFault>
         ensures number { IfOk result (λ number. number ≡ self.old.first + self.old.count) }
-        ensures list { IsOk result → (payloads : List (List ℕ)) → Keeps D.seen D.images self.old payloads
-            → Keeps D.seen D.images self.new (payloads ++ frame.now ∷ []) }
-        ensures any_moment { (payloads : List (List ℕ)) → Keeps D.seen D.images self.old payloads
-            → LeavesOnly D.moment D.left_since self.old.disk self.new.disk (IsOldOrNew self.old.first payloads frame.now) }
-        ensures left { (payloads : List (List ℕ)) → Keeps D.seen D.images self.old payloads
-            → (image : List ℕ) → D.images self.new.disk image → IsOldOrNew self.old.first payloads frame.now image }
-        ensures bytes { OnOk result (D.seen self.new.disk ≡ option_map (written self.old.end (1 ∷ []))
+        ensures list { IsOk result → (payloads : List (List ℕ)) → Keeps D.Disk self.old payloads
+            → Keeps D.Disk self.new (payloads ++ frame.now ∷ []) }
+        ensures any_moment { (payloads : List (List ℕ)) → Keeps D.Disk self.old payloads
+            → LeavesOnly D.Disk self.old.disk self.new.disk
+            (IsOldOrNew self.old.first payloads frame.now) }
+        ensures bytes { OnOk result (D.seen self.new.disk
+            ≡ option_map (written self.old.end (1 ∷ []))
             (option_map (written (self.old.end + 1) (framed frame.now)) (D.seen self.old.disk))) }
-        ensures refused { (fault : JournalFault) → refusal self.old frame.now ≡ Some fault → result ≡ Err fault }
-        ensures unchanged { (fault : JournalFault) → refusal self.old frame.now ≡ Some fault → self.new ≡ self.old }
-        ensures cause { IfErr result (AppendCause (refusal self.old frame.now) (D.failures self.old.disk) (D.failures self.new.disk)) }
-        ensures closed { result ≡ Err DiskFault → self.new.closed ≡ Some (D.failures self.new.disk) }
-        ensures is_open { OnOk result (self.new.closed ≡ None) }
-        ensures first { self.new.first ≡ self.old.first }
-        ensures count { OnOk result (self.new.count ≡ self.old.count + 1) }
-        ensures end { OnOk result (self.new.end ≡ self.old.end + 5 + length frame.now) }
-        ensures no_count { OnErr result (self.new.count ≡ self.old.count) }
-        ensures no_end { OnErr result (self.new.end ≡ self.old.end) }
+        ensures done { OnOk result (self.new ≡ appended self.new.disk frame.now self.old) }
+        ensures refused { (fault : JournalFault) → refusal self.old frame.now ≡ Some fault
+            → result ≡ Err fault }
+        ensures cause { IfErr result (AppendCause D.Disk frame.now self.old self.new) }
         ensures same_disk { D.name self.new.disk ≡ D.name self.old.disk }
-        ensures later { D.failures self.old.disk ≤ D.failures self.new.disk }
+        ensures count_kept { OnOk result (D.failures self.new.disk ≡ D.failures self.old.disk) }
     {
         let body = frame.body();
         if let Some(fault) = refused(
@@ -146,6 +147,63 @@ impl<D: Disk> Journal<D> {
         }
     }
 
+    /// How many bytes the payload at a place has; `None` at the end place. The first place is 16,
+    /// and `read` gives each further one.
+    pub fn size(&mut self, place: u64) -> Result<Option<u32>, JournalFault>
+        ensures found { IfOk result (λ size. (payloads : List (List ℕ)) (k : ℕ)
+            → Keeps D.Disk self.old payloads → place ≡ end_of (take k payloads)
+            → size ≡ option_map length (slice_get payloads k)) }
+        ensures at_end { IfOk result (λ size. IsNone size ↔ place ≡ self.old.end) }
+        ensures within { IfOk result (λ size. IfSome size (λ n. place + 5 + n ≤ self.old.end)) }
+        ensures same { self.new ≡ record self.old { disk = self.new.disk } }
+        ensures still { OnlyRead D.Disk self.old.disk self.new.disk }
+        ensures closed { (failures : ℕ) → self.old.closed ≡ Some failures
+            → result ≡ Err (IsClosedAt failures) }
+        ensures cause { IfErr result
+            (PlaceCause D.Disk AnyLength place self.old (D.failures self.new.disk)) }
+        ensures count_kept { OnOk result (D.failures self.new.disk ≡ D.failures self.old.disk) }
+    {
+        if let Some(faults) = self.closed {
+            return Err(JournalFault::Closed { faults });
+        }
+        if place == self.end {
+            return Ok(None);
+        }
+        let Some(next) = next_of(&mut self.disk, place, self.end)? else {
+            return Err(JournalFault::Damaged { place });
+        };
+        Ok(Some((next - place - 5) as u32))
+    }
+
+    /// Reads the payload at a place into a buffer of its size, and gives the place of the next.
+    pub fn read(&mut self, place: u64, into: &mut [u8]) -> Result<u64, JournalFault>
+        ensures found { IfOk result (λ next. (payloads : List (List ℕ)) (k : ℕ) (payload : List ℕ)
+            → Keeps D.Disk self.old payloads → place ≡ end_of (take k payloads)
+            → slice_get payloads k ≡ Some payload
+            → (into.new ≡ payload) × (next ≡ end_of (take (k + 1) payloads))) }
+        ensures within { IfOk result (λ next. (next ≡ place + 5 + length into.old)
+            × (next ≤ self.old.end)) }
+        ensures same { self.new ≡ record self.old { disk = self.new.disk } }
+        ensures still { OnlyRead D.Disk self.old.disk self.new.disk }
+        ensures closed { (failures : ℕ) → self.old.closed ≡ Some failures
+            → result ≡ Err (IsClosedAt failures) }
+        ensures cause { IfErr result (PlaceCause D.Disk (λ n. n ≡ length into.old) place self.old
+            (D.failures self.new.disk)) }
+        ensures count_kept { OnOk result (D.failures self.new.disk ≡ D.failures self.old.disk) }
+    {
+        if let Some(faults) = self.closed {
+            return Err(JournalFault::Closed { faults });
+        }
+        let Some(next) = next_of(&mut self.disk, place, self.end)? else {
+            return Err(JournalFault::Damaged { place });
+        };
+        if next - place - 5 != into.len() as u64 {
+            return Err(JournalFault::Damaged { place });
+        }
+        self.disk.read(place + 5, into)?;
+        Ok(next)
+    }
+
     /// The number of the first payload, whether it is there or not.
     pub fn first(&self) -> u64
         ensures value { result ≡ self.now.first }
@@ -162,7 +220,8 @@ impl<D: Disk> Journal<D> {
         self.count
     }
 
-    /// The disk's count of failures when an append failed, after which the journal takes no more; `None` while it is open.
+    /// The disk's count of failures when an append failed, after which the journal takes no more;
+    /// `None` while it is open.
     pub fn closed(&self) -> Option<u64>
         ensures { result ≡ self.now.closed }
     {

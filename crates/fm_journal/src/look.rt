@@ -1,18 +1,23 @@
 // What is found at a gate.
-ghost use Rattle.std.specs.Prelude.{◌≡◌, ℕ, ◌+◌, ◌<◌, ◌≤◌, ◌^◌, List, [], ◌∷◌, length, Some, IfOk, OnErr};
+ghost use Rattle.std.specs.Prelude.{◌≡◌, ℕ, ◌+◌, ◌-◌, ◌<◌, ◌≤◌, ◌^◌, List, [], ◌∷◌, length, min};
+ghost use Rattle.std.specs.Prelude.{Some, IfOk, OnOk};
 ghost use Rattle.byteorder.specs.Endian.{big_bytes};
 ghost use Rattle.fm_outer.specs.Bytes.{range};
-ghost use Rattle.fm_outer.specs.Failures.{Rose};
-ghost use Rattle.fm_journal.specs.Look.{LiesWithin, Shows};
-ghost use Rattle.fm_journal.specs.OnlyRead.{OnlyRead};
+ghost use Rattle.fm_outer.specs.Failures.{HasCause};
+ghost use Rattle.fm_outer.specs.Moments.{OnlyRead};
+ghost use Rattle.fm_journal.specs.Look.{LiesWithin, Shows, IsPiece};
 
-use crate::fetch::{byte_at, size_at};
 use crate::frame::MAX_LENGTH;
+use crate::piece::Piece;
 use crate::refuse::MAX_BYTES;
+use byteorder::{BigEndian, ByteOrder};
 use fm_outer::{Disk, Failed};
 
 /// An open gate, behind which a record stands.
 const OPEN: u8 = 1;
+
+/// The bytes that tell whether a record stands at a gate: the gate, the length, and one more.
+pub(crate) const FRONT: u64 = 6;
 
 /// What is found at a gate.
 #[derive(Clone, Copy, Drop)]
@@ -25,13 +30,20 @@ pub(crate) enum Look {
     Bad,
 }
 
-/// What a length behind the open gate at `at` makes of it: the payload has to be short enough, and the gate behind
-/// it lies inside the disk of `size` bytes and within the limit.
+/// The number that four bytes spell.
+fn word_of(bytes: &[u8; 4]) -> u32
+    ensures { big_bytes 4 result ≡ bytes.now }
+{
+    BigEndian::read_u32(bytes)
+}
+
+/// What a length behind the open gate at `at` makes of it: the payload has to be short enough, and
+/// the gate behind it lies inside the disk of `size` bytes and within the limit.
 fn record_of(at: u64, size: u64, count: u32) -> Look
     requires { at < 2 ^ 40 }
     ensures within { LiesWithin at size result }
-    ensures shows { (bytes : List ℕ) → size ≡ length bytes → range at 1 bytes ≡ 1 ∷ [] → range (at + 1) 4 bytes ≡ big_bytes 4 count
-        → Shows bytes at result }
+    ensures shows { (bytes : List ℕ) → size ≡ length bytes → range at 1 bytes ≡ 1 ∷ []
+        → range (at + 1) 4 bytes ≡ big_bytes 4 count → Shows bytes at result }
 {
     let next = at + 5 + count as u64;
     if count > MAX_LENGTH {
@@ -46,23 +58,45 @@ fn record_of(at: u64, size: u64, count: u32) -> Look
     Look::Record(next)
 }
 
-/// What is found at the gate at a place of a disk of so many bytes.
-pub(crate) fn look_at<D: Disk>(disk: &mut D, at: u64, size: u64) -> Result<Look, Failed>
+/// What the bytes from a gate on tell of it, where the disk has `size` bytes. They are six at
+/// least, or all that there are.
+pub(crate) fn look_in(front: &[u8], at: u64, size: u64) -> Look
+    requires inside { at < size }
+    requires small { at < 2 ^ 40 }
+    requires enough { min 6 (size - at) ≤ length front.now }
+    ensures within { LiesWithin at size result }
+    ensures shows { (bytes : List ℕ) → size ≡ length bytes
+        → range at (length front.now) bytes ≡ front.now → Shows bytes at result }
+{
+    if front[0] != OPEN {
+        return Look::Shut;
+    }
+    if size - at < FRONT {
+        return Look::Bad;
+    }
+    let mut count = [0; 4];
+    count.copy_from_slice(&front[1..5]);
+    record_of(at, size, word_of(&count))
+}
+
+/// What is found at the gate at a place of a disk of `size` bytes.
+pub(crate) fn look_at<D: Disk>(
+    disk: &mut D,
+    piece: &mut Piece,
+    at: u64,
+    size: u64,
+) -> Result<Look, Failed>
     requires inside { at < size }
     requires small { at < 2 ^ 40 }
     requires told { (bytes : List ℕ) → D.seen disk.old ≡ Some bytes → size ≡ length bytes }
+    requires read { IsPiece (D.seen disk.old) piece.old }
     ensures within { IfOk result (LiesWithin at size) }
-    ensures shows { IfOk result (λ look. (bytes : List ℕ) → D.seen disk.old ≡ Some bytes → Shows bytes at look) }
-    ensures still { OnlyRead D.seen D.images D.moment D.left_since D.name D.failures disk.old disk.new }
-    ensures failed { OnErr result (Rose (D.failures disk.old) (D.failures disk.new)) }
+    ensures shows { IfOk result (λ look. (bytes : List ℕ) → D.seen disk.old ≡ Some bytes
+        → Shows bytes at look) }
+    ensures read { OnOk result (IsPiece (D.seen disk.old) piece.new) }
+    ensures still { OnlyRead D.Disk disk.old disk.new }
+    ensures cause { HasCause (D.failures disk.old) (D.failures disk.new) result }
 {
-    let gate = byte_at(disk, at)?;
-    if gate != OPEN {
-        return Ok(Look::Shut);
-    }
-    if size - at < 6 {
-        return Ok(Look::Bad);
-    }
-    let count = size_at(disk, at + 1)?;
-    Ok(record_of(at, size, count))
+    piece.reach(disk, at, FRONT.min(size - at), size)?;
+    Ok(look_in(piece.from(at), at, size))
 }

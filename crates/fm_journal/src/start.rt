@@ -1,9 +1,9 @@
 // The making of a journal.
 ghost use Rattle.std.specs.Prelude.{◌≡◌, ℕ, ◌≤◌, ◌++◌, [], ◌∷◌, List, take, Some, OnOk, OnErr};
 ghost use Rattle.std.specs.Option.{option_map};
-ghost use Rattle.fm_outer.specs.Failures.{Rose};
-ghost use Rattle.fm_outer.specs.Crash.{OnlySeen, LeavesOnly};
-ghost use Rattle.fm_journal.specs.Crash.{IsFrontOf, IsFrontOrEmpty, StartsOver, StartsOrStops};
+ghost use Rattle.fm_outer.specs.Failures.{HasCause};
+ghost use Rattle.fm_outer.specs.Moments.{IsSettled, LeavesOnly};
+ghost use Rattle.fm_journal.specs.Crash.{IsFrontOf, StartsOver, StartsOrStops};
 ghost use Rattle.fm_journal.specs.Format.{header};
 
 use crate::header::header_of;
@@ -21,11 +21,10 @@ fn empty_journal(first: u64) -> [u8; 17]
 /// Cuts the disk to nothing, and syncs.
 fn empty<D: Disk>(disk: &mut D) -> Result<(), Failed>
     ensures emptied { OnOk result (D.seen disk.new ≡ option_map (take 0) (D.seen disk.old)) }
-    ensures settled { OnOk result (OnlySeen (D.seen disk.new) (D.images disk.new)) }
-    ensures any_moment { LeavesOnly D.moment D.left_since disk.old disk.new (IsFrontOf (D.images disk.old)) }
+    ensures settled { OnOk result (IsSettled D.Disk disk.new) }
+    ensures any_moment { LeavesOnly D.Disk disk.old disk.new (IsFrontOf (D.images disk.old)) }
     ensures same_disk { D.name disk.new ≡ D.name disk.old }
-    ensures later { D.failures disk.old ≤ D.failures disk.new }
-    ensures failed { OnErr result (Rose (D.failures disk.old) (D.failures disk.new)) }
+    ensures cause { HasCause (D.failures disk.old) (D.failures disk.new) result }
 {
     disk.cut(0)?;
     disk.sync()
@@ -33,14 +32,13 @@ fn empty<D: Disk>(disk: &mut D) -> Result<(), Failed>
 
 /// Makes the disk a journal without payloads.
 pub(crate) fn start<D: Disk>(disk: &mut D, first: u64) -> Result<(), Failed>
-    ensures made { OnOk result (D.seen disk.new ≡ option_map (λ _. header first ++ 0 ∷ []) (D.seen disk.old)) }
-    ensures settled { OnOk result (OnlySeen (D.seen disk.new) (D.images disk.new)) }
-    ensures parts { OnOk result (StartsOver D.moment D.left_since D.images disk.old disk.new) }
-    ensures part { OnErr result (StartsOrStops D.moment D.left_since D.images disk.old disk.new) }
-    ensures any_moment { LeavesOnly D.moment D.left_since disk.old disk.new (IsFrontOrEmpty (D.images disk.old)) }
+    ensures made { OnOk result (D.seen disk.new
+        ≡ option_map (λ _. header first ++ 0 ∷ []) (D.seen disk.old)) }
+    ensures settled { OnOk result (IsSettled D.Disk disk.new) }
+    ensures two_phases { OnOk result (StartsOver D.Disk disk.old disk.new) }
+    ensures phases { OnErr result (StartsOrStops D.Disk disk.old disk.new) }
     ensures same_disk { D.name disk.new ≡ D.name disk.old }
-    ensures later { D.failures disk.old ≤ D.failures disk.new }
-    ensures failed { OnErr result (Rose (D.failures disk.old) (D.failures disk.new)) }
+    ensures cause { HasCause (D.failures disk.old) (D.failures disk.new) result }
 {
     empty(disk)?;
     write_through(disk, 0, &empty_journal(first))

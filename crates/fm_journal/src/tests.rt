@@ -1,4 +1,5 @@
-// What no clause says: the bytes of the format, that calls succeed, and what a disk that fails or stops leaves.
+// What no clause says: the bytes of the format, that calls succeed, and what a disk that fails or
+// stops leaves.
 use super::*;
 use fm_outer::{Disk, Image, MemDisk};
 use std::alloc::Global;
@@ -16,12 +17,11 @@ const TICKED: [u8; 31] = *b"FMAJRNL1\0\0\0\0\0\0\0\0\x01\0\0\0\x09\x02\0\0\0\0\0
 const TWO: [u8; 37] =
     *b"FMAJRNL1\0\0\0\0\0\0\0\0\x01\0\0\0\x09\x02\0\0\0\0\0\0\0\x05\x01\0\0\0\x01y\0";
 
-const THREE: [u8; 43] =
-    *b"FMAJRNL1\0\0\0\0\0\0\0\0\x01\0\0\0\x09\x02\0\0\0\0\0\0\0\x05\x01\0\0\0\x01y\x01\0\0\0\x01z\0";
+const THREE: [u8; 43] = *b"FMAJRNL1\0\0\0\0\0\0\0\0\x01\0\0\0\x09\x02\0\0\0\0\0\0\0\x05\
+    \x01\0\0\0\x01y\x01\0\0\0\x01z\0";
 
-/// How many calls it takes to open the journal with two payloads: a sync, the length, the header, three gates and two
-/// lengths.
-const OPENING: u64 = 8;
+/// How many calls it takes to open the journal with two payloads: a sync, the length and one read.
+const OPENING: u64 = 3;
 
 /// What is left of each range that was not synced.
 const IMAGES: [Image; 6] = [
@@ -118,7 +118,8 @@ fn front(bytes: &[u8], length: usize) -> &[u8] {
 #[test]
 fn damage_has_its_place(rt: HostRuntime) -> Result<(), Fail> {
     let alloc = rt.alloc();
-    // The length that is left, a byte that is changed and its new value, and what an opening answers.
+    // The length that is left, a byte that is changed and its new value, and what an opening
+    // answers.
     let cases: [(usize, usize, u8, Result<u64, u64>); 16] = [
         (37, 0, b'F', Ok(2)),
         (10, 0, b'F', Err(0)),
@@ -168,7 +169,7 @@ fn each_failing_call_is_told(rt: HostRuntime) -> Result<(), Fail> {
         assert_eq!(rt; (disk.calls(), disk.faults()), (call + 1, 1));
     }
     let frame = Frame::new(alloc, b"z")?;
-    for (call, left) in [(8, 2), (9, 2), (10, 2), (11, 3)] {
+    for (call, left) in [(3, 2), (4, 2), (5, 2), (6, 3)] {
         let mut journal = Journal::open(disk_of(alloc, &TWO, &[call])?)
             .ok()
             .ok_or("not opened")?;
@@ -248,6 +249,92 @@ fn a_stopped_making_leaves_a_front_or_nothing(rt: HostRuntime) -> Result<(), Fai
                 );
             }
         }
+    }
+    Ok(())
+}
+
+/// The journal with two payloads, opened.
+fn two(alloc: Global, fails: &[u64]) -> Result<Journal<MemDisk>, Fail> {
+    Ok(
+        Journal::open(disk_of(alloc, &TWO, fails)?)
+            .ok()
+            .ok_or("not opened")?,
+    )
+}
+
+#[test]
+fn payloads_are_read_at_their_places(rt: HostRuntime) -> Result<(), Fail> {
+    let mut journal = two(rt.alloc(), &[])?;
+    let mut tick = [0; 9];
+    let mut last = [0; 1];
+    assert_eq!(rt; journal.size(16), Ok(Some(9)));
+    assert_eq!(rt; journal.read(16, &mut tick), Ok(30));
+    assert_eq!(rt; tick, TICK);
+    assert_eq!(rt; journal.size(30), Ok(Some(1)));
+    assert_eq!(rt; journal.read(30, &mut last), Ok(36));
+    assert_eq!(rt; last, *b"y");
+    assert_eq!(rt; journal.size(36), Ok(None));
+    Ok(())
+}
+
+#[test]
+fn no_record_is_damage_at_its_place(rt: HostRuntime) -> Result<(), Fail> {
+    let mut journal = two(rt.alloc(), &[])?;
+    for place in [0, 17, 31, 35, 37, 100] {
+        assert_eq!(rt; journal.size(place), Err(JournalFault::Damaged { place }));
+    }
+    let damaged = Err(JournalFault::Damaged { place: 16 });
+    assert_eq!(rt; journal.read(16, &mut [0; 8]), damaged);
+    assert_eq!(rt; journal.read(16, &mut [0; 10]), damaged);
+    assert_eq!(rt;
+        journal.read(36, &mut []),
+        Err(JournalFault::Damaged { place: 36 })
+    );
+    Ok(())
+}
+
+#[test]
+fn a_closed_journal_is_not_read(rt: HostRuntime) -> Result<(), Fail> {
+    let alloc = rt.alloc();
+    let mut journal = two(alloc, &[4])?;
+    let frame = Frame::new(alloc, b"z")?;
+    assert_eq!(rt; journal.append(&frame), Err(JournalFault::Disk));
+    let closed = JournalFault::Closed { faults: 1 };
+    assert_eq!(rt; journal.size(36), Err(closed));
+    assert_eq!(rt; journal.read(30, &mut [0; 1]), Err(closed));
+    let mut failing = two(alloc, &[3])?;
+    assert_eq!(rt; failing.size(16), Err(JournalFault::Disk));
+    assert_eq!(rt; failing.size(16), Ok(Some(9)));
+    Ok(())
+}
+
+/// A journal of so many payloads, each of so many bytes.
+fn many(alloc: Global, count: usize, length: u32) -> Result<Vec<u8>, Fail> {
+    let mut bytes = EMPTY.to_vec(alloc)?;
+    let payload = vec![in alloc; 7; length as usize]?;
+    for _ in 0..count {
+        bytes.pop();
+        bytes.push(1)?;
+        bytes.extend_from_slice(&length.to_be_bytes())?;
+        bytes.extend_from_slice(&payload)?;
+        bytes.push(0)?;
+    }
+    Ok(bytes)
+}
+
+#[test]
+fn opening_reads_in_pieces(rt: HostRuntime) -> Result<(), Fail> {
+    let alloc = rt.alloc();
+    // Payloads, the bytes of each, and how many calls the opening makes: a sync, the length, and one
+    // read for each piece of 65,536 bytes, or from one gate to the next where a payload is longer.
+    let cases: [(usize, u32, u64); 4] = [(0, 0, 3), (3639, 13, 3), (10000, 13, 5), (3, 70000, 6)];
+    for (count, length, calls) in cases {
+        let bytes = many(alloc, count, length)?;
+        let room = bytes.len() as u64;
+        let disk = MemDisk::new(alloc, &bytes, room, 16, Vec::new(alloc))?;
+        let (disk, found) = count_on(disk);
+        assert_eq!(rt; found, Ok(count as u64));
+        assert_eq!(rt; disk.calls(), calls);
     }
     Ok(())
 }

@@ -1,5 +1,6 @@
 -- The words of a line, cut off one by one.
-use Rattle.std.proofs.Common.{◌≡◌, ℕ, ◌+◌, ◌<◌, ◌∷◌, [], List, length, position, Some, None, refl, sym, ap, ◌∙◌, arith, take, drop, get_or, ◌-◌, length-drop, Err}
+use Rattle.std.proofs.Common.{◌≡◌, ℕ, ◌+◌, ◌<◌, ◌∷◌, [], List, length, position, Some, None, refl}
+use Rattle.std.proofs.Common.{sym, ap, ◌∙◌, arith, take, drop, get_or, ◌-◌, length-drop, Err}
 use Rattle.std.specs.List.{slice_split}
 use Rattle.std.proofs.lemmas.List.Splits.{slice_split_none, slice_split_at, length-slice_split}
 use Rattle.std.proofs.Math.Seq.{take-length}
@@ -13,18 +14,21 @@ unfolding words
 words_none line none = slice_split_none is_space line (fails_all is_space line none)
 
 -- the first word ends at the first space
-pub words_at : (line : List ℕ) (at : ℕ) → position is_space line ≡ Some at → words line ≡ take at line ∷ words (drop (at + 1) line)
+pub words_at : (line : List ℕ) (at : ℕ) → position is_space line ≡ Some at
+    → words line ≡ take at line ∷ words (drop (at + 1) line)
 unfolding words
 words_at line at found =
     ap (slice_split is_space) (parts_at is_space line at found)
-    ∙ slice_split_at is_space (take at line) (get_or line at 0) (drop (at + 1) line) (fails_before is_space line at found) (passes_at is_space line at found)
+    ∙ slice_split_at is_space (take at line) (get_or line at 0) (drop (at + 1) line)
+    (fails_before is_space line at found) (passes_at is_space line at found)
 
 -- a line has a word
 words_some : (line : List ℕ) → 0 < length (words line)
 unfolding words
 words_some line = omega (arith, length-slice_split is_space line)
 
-five_words : (a b c d : List ℕ) (more : List (List ℕ)) → 0 < length more → words_entry (a ∷ b ∷ c ∷ d ∷ more) ≡ Err Shape
+five_words : (a b c d : List ℕ) (more : List (List ℕ)) → 0 < length more
+    → words_entry (a ∷ b ∷ c ∷ d ∷ more) ≡ Err Shape
 five_words a b c d [] some = absurd (omega arith)
 five_words a b c d (e ∷ more) some = refl
 
@@ -34,4 +38,5 @@ words_past a b c d line = five_words a b c d (words line) (words_some line)
 
 -- the rest of a list is all of the rest
 pub drop_whole : (n : ℕ) (line : List ℕ) → take (length line - n) (drop n line) ≡ drop n line
-drop_whole n line = ap (λ m. take m (drop n line)) (sym (length-drop n line)) ∙ take-length (drop n line)
+drop_whole n line = ap (λ m. take m (drop n line)) (sym (length-drop n line))
+    ∙ take-length (drop n line)

@@ -1,12 +1,14 @@
 -- No float stands in what a list is as JSON.
-use Rattle.std.proofs.Common.{◌≡◌, ℕ, ℤ, pos, negsuc, List, [], ◌∷◌, Bool, true, false, ◌||◌, Ordering, Less, Equal, Greater, refl, ap, ◌∙◌, nat_cmp}
+use Rattle.std.proofs.Common.{◌≡◌, ℕ, ℤ, pos, negsuc, List, [], ◌∷◌, Bool, true, false, ◌||◌}
+use Rattle.std.proofs.Common.{Ordering, Less, Equal, Greater, refl, ap, ◌∙◌, nat_cmp}
 use Rattle.std.specs.Ordering.{match_ordering}
 use Rattle.std.specs.Cmp.Lexicographic.{slice_cmp}
 use Rattle.serde_json.specs.Data.{Data, Members, no_members, member, put}
 use Rattle.serde_json.specs.Find.{is_float, of_integer}
 use Rattle.serde_json.specs.Written.{has_float, items_have_float, members_have_float}
 use Rattle.fm_nv.specs.Data as nv
-use Rattle.fm_line.specs.Printed.{data_of, lists_items, members_onto, payload_data, numbers_items, texts_items, report_data}
+use Rattle.fm_line.specs.Printed.{data_of, lists_items, members_onto, payload_data, numbers_items}
+use Rattle.fm_line.specs.Printed.{texts_items, report_data}
 
 neither : (a b : Bool) → a ≡ false → b ≡ false → (a || b) ≡ false
 neither a b p q = ap (λ t. t || b) p ∙ q
@@ -19,19 +21,24 @@ second_of_neither : (a b : Bool) → (a || b) ≡ false → b ≡ false
 second_of_neither true b h = cc
 second_of_neither false b h = h
 
-chosen : (o : Ordering) (a b c : Members) → members_have_float a ≡ false → members_have_float b ≡ false → members_have_float c ≡ false
+chosen : (o : Ordering) (a b c : Members) → members_have_float a ≡ false
+    → members_have_float b ≡ false → members_have_float c ≡ false
     → members_have_float (match_ordering o a b c) ≡ false
 chosen Less a b c p q r = p
 chosen Equal a b c p q r = q
 chosen Greater a b c p q r = r
 
-put_floatless : (k : List ℕ) (d : Data) (ms : Members) → has_float d ≡ false → members_have_float ms ≡ false → members_have_float (put k d ms) ≡ false
+put_floatless : (k : List ℕ) (d : Data) (ms : Members) → has_float d ≡ false
+    → members_have_float ms ≡ false → members_have_float (put k d ms) ≡ false
 put_floatless k d no_members p q = neither (has_float d) false p refl
 put_floatless k d (member l e ms) p q =
-    chosen (slice_cmp nat_cmp k l) (member k d (member l e ms)) (member l d ms) (member l e (put k d ms))
+    chosen (slice_cmp nat_cmp k l) (member k d (member l e ms)) (member l d ms)
+    (member l e (put k d ms))
     (neither (has_float d) (has_float e || members_have_float ms) p q)
-    (neither (has_float d) (members_have_float ms) p (second_of_neither (has_float e) (members_have_float ms) q))
-    (neither (has_float e) (members_have_float (put k d ms)) (first_of_neither (has_float e) (members_have_float ms) q)
+    (neither (has_float d) (members_have_float ms) p
+    (second_of_neither (has_float e) (members_have_float ms) q))
+    (neither (has_float e) (members_have_float (put k d ms))
+    (first_of_neither (has_float e) (members_have_float ms) q)
     (put_floatless k d ms p (second_of_neither (has_float e) (members_have_float ms) q)))
 
 integer_floatless : (z : ℤ) → is_float (of_integer z) ≡ false
@@ -60,14 +67,20 @@ mutual
   lists_floatless : (ls : nv.Lists) → items_have_float (lists_items ls) ≡ false
   lists_floatless nv.no_lists = refl
   lists_floatless (nv.list_then ps ls) =
-      neither (members_have_float (members_onto no_members ps)) (items_have_float (lists_items ls)) (onto_floatless no_members ps refl) (lists_floatless ls)
+      neither (members_have_float (members_onto no_members ps)) (items_have_float (lists_items ls))
+      (onto_floatless no_members ps refl) (lists_floatless ls)
 
-  onto_floatless : (found : Members) (ps : nv.Pairs) → members_have_float found ≡ false → members_have_float (members_onto found ps) ≡ false
+  onto_floatless : (found : Members) (ps : nv.Pairs) → members_have_float found ≡ false
+      → members_have_float (members_onto found ps) ≡ false
   onto_floatless found nv.no_pairs h = h
-  onto_floatless found (nv.pair k d ps) h = onto_floatless (put k (data_of d) found) ps (put_floatless k (data_of d) found (data_floatless d) h)
+  onto_floatless found (nv.pair k d ps) h =
+      onto_floatless (put k (data_of d) found) ps
+      (put_floatless k (data_of d) found (data_floatless d) h)
 
 pub payload_floatless : (ps : nv.Pairs) → has_float (payload_data ps) ≡ false
 payload_floatless ps = onto_floatless no_members ps refl
 
-pub report_floatless : (class path : List ℕ) (moment : ℕ) (ps : nv.Pairs) → has_float (report_data class path moment ps) ≡ false
-report_floatless class path moment ps = neither (has_float (payload_data ps)) false (payload_floatless ps) refl
+pub report_floatless : (class path : List ℕ) (moment : ℕ) (ps : nv.Pairs)
+    → has_float (report_data class path moment ps) ≡ false
+report_floatless class path moment ps =
+    neither (has_float (payload_data ps)) false (payload_floatless ps) refl

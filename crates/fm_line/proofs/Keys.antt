@@ -5,7 +5,8 @@ use Rattle.serde_json.specs.Events.{members_len}
 use Rattle.serde_json.specs.Find.{as_object}
 use Rattle.fm_line.specs.Forms.{key_count}
 
-pub key_count_object : (d : Data) (ms : Members) → Some ms ≡ as_object d → members_len ms ≡ key_count d
+pub key_count_object : (d : Data) (ms : Members) → Some ms ≡ as_object d
+    → members_len ms ≡ key_count d
 key_count_object null ms is = cc
 key_count_object (boolean b) ms is = cc
 key_count_object (number n) ms is = cc

@@ -1,9 +1,11 @@
 -- The faults of a line, by their numbers.
 use Rattle.std.specs.Prelude.{ℕ, Option, Some, None}
 use Rattle.fm_line.specs.declared.fault.LineFault.{LineFault}
-use Rattle.fm_line.specs.declared.fault.LineFault.TheVariants.{Json, Shape, Class, Path, Time, Value, TooLong, NoMemory}
+use Rattle.fm_line.specs.declared.fault.LineFault.TheVariants.{Json, Shape, Class, Path, Time}
+use Rattle.fm_line.specs.declared.fault.LineFault.TheVariants.{Value, TooLong, NoMemory}
 
--- the number by which a refusal names the fault; want of memory is no fault of the line and has none
+-- the number by which a refusal names the fault; want of memory is no fault of the line and has
+-- none
 abbrev pub code_of : LineFault → Option ℕ
 code_of Json = Some 1
 code_of Shape = Some 2

@@ -1,27 +1,28 @@
 -- The entry that a line says, or its first fault: the forms of a line, over its bytes.
-use Rattle.std.specs.Prelude.{ℕ, ◌-◌, ◌==◌, ◌&&◌, not, Bool, true, false, List, [], ◌∷◌, length, take, codes, slice_index, nat_lt, find, if◌then◌else◌, Option, Some, None, option_and_then, Result, Ok, Err, bytes_eq}
+use Rattle.std.specs.Prelude.{ℕ, ◌-◌, ◌==◌, ◌&&◌, not, Bool, false, List, [], ◌∷◌, length}
+use Rattle.std.specs.Prelude.{take, codes, slice_index, nat_lt, find, if◌then◌else◌, Option, Some}
+use Rattle.std.specs.Prelude.{None, option_and_then, Result, Ok, Err, bytes_eq}
 use Rattle.std.specs.List.{slice_split}
 use Rattle.std.specs.Str.{is_utf8}
 use Rattle.serde_json.specs.Data.{Data, null, boolean, number, string, array, object}
 use Rattle.serde_json.specs.Events.{members_len}
 use Rattle.serde_json.specs.Find.{get, as_str, as_number, as_u64}
 use Rattle.serde_json.specs.Read.{read}
-use Rattle.fm_name.specs.Category.{category_of}
-use Rattle.fm_name.specs.Class.{is_class}
+use Rattle.fm_name.specs.Category.{is_ereport}
 use Rattle.fm_name.specs.Path.{is_path}
-use Rattle.fm_name.specs.declared.classes.Category.{Category}
-use Rattle.fm_name.specs.declared.classes.Category.TheVariants.{Ereport}
 use Rattle.fm_nv.specs.Data.{Pairs, no_pairs}
 use Rattle.fm_entry.specs.declared.case_name.CaseName.{CaseName}
 use Rattle.fm_entry.specs.declared.entry.Entry.{Entry}
-use Rattle.fm_entry.specs.declared.entry.Entry.TheVariants.{Report, Tick, Repaired, Replaced, Acquit}
+use Rattle.fm_entry.specs.declared.entry.Entry.TheVariants.{Report, Tick, Repaired, Replaced}
+use Rattle.fm_entry.specs.declared.entry.Entry.TheVariants.{Acquit}
 use Rattle.fm_entry.specs.CaseText.{case_named}
-use Rattle.fm_line.specs.Blank.{is_blank_byte}
+use Rattle.fm_line.specs.Blank.{is_blank}
 use Rattle.fm_line.specs.Lines.{line_limit}
 use Rattle.fm_line.specs.Numbers.{as_moment, moment_of_word}
 use Rattle.fm_line.specs.Payload.{list_of}
 use Rattle.fm_line.specs.declared.fault.LineFault.{LineFault}
-use Rattle.fm_line.specs.declared.fault.LineFault.TheVariants.{Json, Shape, Class, Path, Time, Value, TooLong}
+use Rattle.fm_line.specs.declared.fault.LineFault.TheVariants.{Json, Shape, Class, Path, Time}
+use Rattle.fm_line.specs.declared.fault.LineFault.TheVariants.{Value, TooLong}
 
 -- ---- the parts of an entry, each found or not
 
@@ -29,14 +30,9 @@ use Rattle.fm_line.specs.declared.fault.LineFault.TheVariants.{Json, Shape, Clas
 unfoldable pub text_of : List ℕ → Option (List ℕ)
 text_of bytes = if is_utf8 bytes then Some bytes else None
 
--- whether a category is that of reports
-abbrev pub is_ereport : Option Category → Bool
-is_ereport (Some Ereport) = true
-is_ereport _ = false
-
 -- the class of a report
 unfoldable pub class_in : Option (List ℕ) → Option (List ℕ)
-class_in text = option_and_then (λ class. if is_class class then (if is_ereport (category_of class) then Some class else None) else None) text
+class_in text = option_and_then (λ class. if is_ereport class then Some class else None) text
 
 -- a path
 unfoldable pub path_in : Option (List ℕ) → Option (List ℕ)
@@ -53,13 +49,17 @@ moment_in d = option_and_then as_moment (option_and_then as_u64 (as_number d))
 -- ---- the entries, each of its parts, and the fault of the first part that is not there
 
 -- what comes of a part that is needed
-abbrev pub needed : {A B : Type 0} → Option A → LineFault → (A → Result B LineFault) → Result B LineFault
+abbrev pub needed : {A B : Type 0} → Option A → LineFault → (A → Result B LineFault)
+    → Result B LineFault
 needed (Some x) fault next = next x
 needed None fault next = Err fault
 
-unfoldable pub report : Option (List ℕ) → Option (List ℕ) → Option ℕ → Option Pairs → Result Entry LineFault
+unfoldable pub report : Option (List ℕ) → Option (List ℕ) → Option ℕ → Option Pairs
+    → Result Entry LineFault
 report class path moment payload =
-    needed class Class (λ c. needed path Path (λ p. needed moment Time (λ t. needed payload Value (λ y. Ok (Report c p t y)))))
+    needed class Class (λ c.
+    needed path Path (λ p.
+    needed moment Time (λ t. needed payload Value (λ y. Ok (Report c p t y)))))
 
 unfoldable pub tick : Option ℕ → Result Entry LineFault
 tick moment = needed moment Time (λ t. Ok (Tick t))
@@ -88,18 +88,23 @@ words_after None = []
 words_after (Some rest) = words rest
 
 unfoldable pub two_words : List ℕ → List ℕ → Result Entry LineFault
-two_words first moment = if bytes_eq first (codes "tick") then tick (moment_of_word moment) else Err Shape
+two_words first moment =
+    if bytes_eq first (codes "tick") then tick (moment_of_word moment) else Err Shape
 
 unfoldable pub three_words : List ℕ → List ℕ → List ℕ → Result Entry LineFault
 three_words first what moment =
-    if bytes_eq first (codes "repaired") then repaired (path_in (text_of what)) (moment_of_word moment)
-    else (if bytes_eq first (codes "replaced") then replaced (path_in (text_of what)) (moment_of_word moment)
-    else (if bytes_eq first (codes "acquit") then acquit (case_in (text_of what)) (moment_of_word moment)
+    if bytes_eq first (codes "repaired") then repaired (path_in (text_of what))
+    (moment_of_word moment)
+    else (if bytes_eq first (codes "replaced") then replaced (path_in (text_of what))
+    (moment_of_word moment)
+    else (if bytes_eq first (codes "acquit") then acquit (case_in (text_of what))
+    (moment_of_word moment)
     else Err Shape))
 
 unfoldable pub four_words : List ℕ → List ℕ → List ℕ → List ℕ → Result Entry LineFault
 four_words first class path moment =
-    if bytes_eq first (codes "report") then report (class_in (text_of class)) (path_in (text_of path)) (moment_of_word moment) (Some no_pairs)
+    if bytes_eq first (codes "report") then report (class_in (text_of class))
+    (path_in (text_of path)) (moment_of_word moment) (Some no_pairs)
     else Err Shape
 
 -- by the number of words
@@ -128,7 +133,8 @@ one_key d = needed (get (codes "tick") d) Shape (λ t. tick (moment_in t))
 
 -- two keys: `acquit` and `time`
 unfoldable pub acquit_keys : Data → Data → Result Entry LineFault
-acquit_keys d t = needed (get (codes "acquit") d) Shape (λ c. acquit (case_in (as_str c)) (moment_in t))
+acquit_keys d t = needed (get (codes "acquit") d) Shape
+    (λ c. acquit (case_in (as_str c)) (moment_in t))
 
 -- two keys: `replaced` and `time`, or those of an acquittal
 unfoldable pub replaced_keys : Option Data → Data → Data → Result Entry LineFault
@@ -146,7 +152,8 @@ two_keys d = needed (get (codes "time") d) Shape (λ t. repaired_keys (get (code
 -- the keys `class`, `path` and `time`, with the payload that stands beside them
 unfoldable pub report_keys : Data → Option Pairs → Result Entry LineFault
 report_keys d payload =
-    needed (get (codes "class") d) Shape (λ c. needed (get (codes "path") d) Shape (λ p. needed (get (codes "time") d) Shape (λ t.
+    needed (get (codes "class") d) Shape
+    (λ c. needed (get (codes "path") d) Shape (λ p. needed (get (codes "time") d) Shape (λ t.
     report (class_in (as_str c)) (path_in (as_str p)) (moment_in t) payload)))
 
 -- four keys: those and `payload`
@@ -173,11 +180,13 @@ json_entry line = needed (json_of line) Json object_entry
 
 -- the line without its final carriage return
 unfoldable pub without_return : List ℕ → List ℕ
-without_return line = if nat_lt 0 (length line) && (slice_index line (length line - 1) == 13) then take (length line - 1) line else line
+without_return line =
+    if nat_lt 0 (length line) && (slice_index line (length line - 1) == 13) then take
+    (length line - 1) line else line
 
 -- a byte that is no blank
 abbrev pub is_inked : ℕ → Bool
-is_inked b = not (is_blank_byte b)
+is_inked b = not (is_blank b)
 
 -- the byte opens an object
 abbrev pub opens : Option ℕ → Bool
@@ -191,6 +200,8 @@ is_json line = opens (find is_inked line)
 unfoldable pub content_entry : List ℕ → Result Entry LineFault
 content_entry line = if is_json line then json_entry line else words_entry (words line)
 
--- the entry of a line, or the first of its faults: the length counts the final carriage return, which is dropped then
+-- the entry of a line, or the first of its faults: the length counts the final carriage return,
+-- which is dropped then
 unfoldable pub line_entry : List ℕ → Result Entry LineFault
-line_entry line = if nat_lt line_limit (length line) then Err TooLong else content_entry (without_return line)
+line_entry line = if nat_lt line_limit (length line) then Err TooLong else content_entry
+    (without_return line)

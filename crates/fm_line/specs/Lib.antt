@@ -1,5 +1,4 @@
 pub mod Blank
-pub mod Cases
 pub mod Faults
 pub mod Forms
 pub mod Lines

@@ -1,6 +1,8 @@
--- The lines of a stream of bytes, as a function of the whole stream: what stands between its newlines, and
--- after the last newline what stands there, if anything does. A line that is too long is a line without bytes.
-use Rattle.std.specs.Prelude.{ℕ, ◌≡◌, ◌==◌, ◌+◌, ◌≤◌, ◌++◌, ◌∷◌, min, [], List, Bool, false, length, map, nat_le, if◌then◌else◌, Option, Some, None, All}
+-- The lines of a stream of bytes, as a function of the whole stream: what stands between its
+-- newlines, and after the last newline what stands there, if anything does. A line that is too long
+-- is a line without bytes.
+use Rattle.std.specs.Prelude.{ℕ, ◌≡◌, ◌==◌, ◌+◌, ◌≤◌, ◌++◌, ◌∷◌, min, [], List, Bool, false, length}
+use Rattle.std.specs.Prelude.{map, nat_le, if◌then◌else◌, Option, Some, None, All}
 use Rattle.std.specs.List.{slice_split, after_first, position_or_len}
 use Rattle.fm_line.specs.declared.split.Whole.{Whole}
 use Rattle.fm_line.specs.declared.split.Whole.TheVariants.{Line, TooLong}
@@ -39,21 +41,22 @@ abbrev pub grown : Option (List ℕ) → List ℕ → Option (List ℕ)
 grown (Some front) piece = kept (front ++ piece)
 grown None _ = None
 
--- a line that has ended, by what is told of it and the bytes that are handed out
-abbrev pub told : Whole → List ℕ → Option (List ℕ)
-told Line line = Some line
-told TooLong _ = None
+-- a line that has ended, by how it ended and the bytes that are handed out
+abbrev pub ended_line : Whole → List ℕ → Option (List ℕ)
+ended_line Line line = Some line
+ended_line TooLong _ = None
 
 -- the lines that one call ended: none, or the one that it tells of
-abbrev pub lines_told : Option Whole → List ℕ → List (Option (List ℕ))
-lines_told None _ = []
-lines_told (Some whole) line = told whole line ∷ []
+abbrev pub ended_lines : Option Whole → List ℕ → List (Option (List ℕ))
+ended_lines None _ = []
+ended_lines (Some whole) line = ended_line whole line ∷ []
 
 -- how many bytes of a piece belong to the line in progress, its newline with them
 abbrev pub taken_len : List ℕ → ℕ
 taken_len piece = min (position_or_len is_newline piece + 1) (length piece)
 
--- both buffers have room for a line of the greatest length, and what is pending is within the limit and has no newline
+-- both buffers have room for a line of the greatest length, and what is pending is within the limit
+-- and has no newline
 pub record IsBuffered (pending_room line_room : ℕ) (pending : List ℕ) : Type 0 where
   pub pending_fits : line_limit ≤ pending_room
   pub line_fits : line_limit ≤ line_room

@@ -1,6 +1,10 @@
--- What a JSON value says as a payload: the list that an object is, or nothing where a value in it is not allowed.
-use Rattle.std.specs.Prelude.{ℕ, List, [], ◌∷◌, ◌++◌, Option, Some, None, option_map, option_and_then}
-use Rattle.serde_json.specs.Data.{Num, unsigned, negative, float, Data, null, boolean, number, string, array, object, Items, no_items, item, Members, no_members, member}
+-- What a JSON value says as a payload: the list that an object is, or nothing where a value in it
+-- is not allowed.
+use Rattle.std.specs.Prelude.{ℕ, List, [], ◌∷◌, ◌++◌, Option, Some, None, option_map}
+use Rattle.std.specs.Prelude.{option_and_then}
+use Rattle.serde_json.specs.Data.{Num, unsigned, negative, float, Data, null, boolean, number}
+use Rattle.serde_json.specs.Data.{string, array, object, Items, no_items, item, Members, no_members}
+use Rattle.serde_json.specs.Data.{member}
 use Rattle.serde_json.specs.Find.{as_number, as_u64, as_str}
 use Rattle.fm_nv.specs.Data as nv
 use Rattle.fm_nv.specs.Refusal.{pushed}
@@ -30,7 +34,8 @@ number_value (negative z) = Some (nv.signed z)
 number_value (float x) = None
 
 -- an array of integers from 0, which an array without items is too, else of texts, else of objects
-abbrev pub array_value : Option (List ℕ) → Option (List (List ℕ)) → Option (List nv.Pairs) → Option nv.Data
+abbrev pub array_value : Option (List ℕ) → Option (List (List ℕ)) → Option (List nv.Pairs)
+    → Option nv.Data
 array_value (Some ns) ts ls = Some (nv.unsigneds ns)
 array_value None (Some ts) ls = Some (nv.texts ts)
 array_value None None (Some ls) = Some (nv.lists (nv.lists_of ls))
@@ -67,8 +72,9 @@ abbrev mutual
   -- the pairs of an object, in its order, behind those that were found
   pub pairs_onto : nv.Pairs → Members → Option nv.Pairs
   pairs_onto found no_members = Some found
-  pairs_onto found (member k d ms) = option_and_then (λ more. pairs_onto more ms) (added k (value_of d) found)
+  pairs_onto found (member k d ms) =
+      option_and_then (λ more. pairs_onto more ms) (added k (value_of d) found)
 
 -- the items that were found, with those that are still to come
-abbrev pub behind : {A : Type 0} → List A → Option (List A) → Option (List A)
-behind found others = option_map (λ xs. found ++ xs) others
+abbrev pub after_found : {A : Type 0} → List A → Option (List A) → Option (List A)
+after_found found others = option_map (λ xs. found ++ xs) others

@@ -6,7 +6,7 @@ ghost use Rattle.serde_json.specs.View.{view, items_of};
 ghost use Rattle.fm_nv.specs.View.{datum};
 ghost use Rattle.fm_line.specs.Printed.{data_of, payload_data, numbers_items, texts_items};
 
-use crate::no_memory::NoMemory;
+use fm_bytes::NoMemory;
 use fm_nv::{Nv, NvText, Value};
 use serde_json::{Map, Value as Json};
 use std::alloc::Global;

@@ -2,16 +2,17 @@
 
 ghost use Rattle.std.specs.Prelude.{◌≡◌};
 
-use crate::no_memory::NoMemory;
+use fm_bytes::NoMemory;
 use std::alloc::{AllocError, AllocFailed};
 
-/// Why a line gives no entry. Of the faults that hold of a line the first counts, `TooLong` before all
-/// others and the others in the order of their codes.
+/// Why a line gives no entry. Of the faults that hold of a line the first counts, `TooLong` before
+/// all others and the others in the order of their codes.
 #[derive(Clone, Copy, Debug, PartialEq, Eq)]
 pub enum LineFault {
     /// The JSON form can't be read as JSON.
     Json,
-    /// The line is none of the forms, by its first word and the number of its words, or by its keys.
+    /// The line is none of the forms, by its first word and the number of its words, or by its
+    /// keys.
     Shape,
     /// The class is no text in the grammar of classes, or not of category `ereport`.
     Class,

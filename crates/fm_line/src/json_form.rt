@@ -5,7 +5,9 @@ ghost use Rattle.serde_json.specs.View.{view};
 ghost use Rattle.serde_json.specs.Find.{get};
 ghost use Rattle.fm_nv.specs.Data.{no_pairs};
 ghost use Rattle.fm_line.specs.Faults.{IsOfLine};
-ghost use Rattle.fm_line.specs.Forms.{key_count, one_key, acquit_keys, replaced_keys, repaired_keys, two_keys, report_keys, four_keys, object_entry, json_entry};
+ghost use Rattle.fm_line.specs.Forms.{key_count, one_key, acquit_keys, replaced_keys};
+ghost use Rattle.fm_line.specs.Forms.{repaired_keys, two_keys, report_keys, four_keys};
+ghost use Rattle.fm_line.specs.Forms.{object_entry, json_entry};
 
 use crate::fault::LineFault;
 use crate::parts::{
@@ -40,7 +42,8 @@ fn one_key(json: &Json) -> Result<Entry, LineFault>
 #[tactic(auto, unfolding(crate::specs::Forms::acquit_keys))]
 fn acquit_keys(json: &Json, moment: &Json) -> Result<Entry, LineFault>
     ensures ok { IfOk result (λ e. acquit_keys (view json.now) (view moment.now) ≡ Ok e) }
-    ensures err { IfErr result (λ f. IsOfLine f → acquit_keys (view json.now) (view moment.now) ≡ Err f) }
+    ensures err { IfErr result
+        (λ f. IsOfLine f → acquit_keys (view json.now) (view moment.now) ≡ Err f) }
 {
     let case = json.get("acquit").ok_or(LineFault::Shape)?;
     acquit(case_in(case.as_str()), moment_in(moment))
@@ -49,8 +52,12 @@ fn acquit_keys(json: &Json, moment: &Json) -> Result<Entry, LineFault>
 /// The replacement of an object with two keys, or its acquittal.
 #[tactic(auto, unfolding(crate::specs::Forms::replaced_keys))]
 fn replaced_keys(alloc: Global, json: &Json, moment: &Json) -> Result<Entry, LineFault>
-    ensures ok { IfOk result (λ e. replaced_keys (get (codes "replaced") (view json.now)) (view json.now) (view moment.now) ≡ Ok e) }
-    ensures err { IfErr result (λ f. IsOfLine f → replaced_keys (get (codes "replaced") (view json.now)) (view json.now) (view moment.now) ≡ Err f) }
+    ensures ok { IfOk result
+        (λ e. replaced_keys (get (codes "replaced") (view json.now)) (view json.now)
+        (view moment.now) ≡ Ok e) }
+    ensures err { IfErr result
+        (λ f. IsOfLine f → replaced_keys (get (codes "replaced") (view json.now)) (view json.now)
+        (view moment.now) ≡ Err f) }
 {
     match json.get("replaced") {
         Some(path) => replaced(path_in(alloc, path.as_str())?, moment_in(moment)),
@@ -61,8 +68,12 @@ fn replaced_keys(alloc: Global, json: &Json, moment: &Json) -> Result<Entry, Lin
 /// The repair of an object with two keys, or another of its entries.
 #[tactic(auto, unfolding(crate::specs::Forms::repaired_keys))]
 fn repaired_keys(alloc: Global, json: &Json, moment: &Json) -> Result<Entry, LineFault>
-    ensures ok { IfOk result (λ e. repaired_keys (get (codes "repaired") (view json.now)) (view json.now) (view moment.now) ≡ Ok e) }
-    ensures err { IfErr result (λ f. IsOfLine f → repaired_keys (get (codes "repaired") (view json.now)) (view json.now) (view moment.now) ≡ Err f) }
+    ensures ok { IfOk result
+        (λ e. repaired_keys (get (codes "repaired") (view json.now)) (view json.now)
+        (view moment.now) ≡ Ok e) }
+    ensures err { IfErr result
+        (λ f. IsOfLine f → repaired_keys (get (codes "repaired") (view json.now)) (view json.now)
+        (view moment.now) ≡ Err f) }
 {
     match json.get("repaired") {
         Some(path) => repaired(path_in(alloc, path.as_str())?, moment_in(moment)),

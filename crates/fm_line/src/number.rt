@@ -3,16 +3,16 @@
 ghost use Rattle.std.specs.Prelude.{◌≡◌};
 ghost use Rattle.fm_line.specs.Numbers.{as_moment, moment_of_word};
 
-use fm_entry::read_below;
+use fm_bytes::read_numeral;
 
-/// No moment reaches this.
-const MOMENT_LIMIT: u64 = 1 << 62;
+/// The last moment.
+const LAST_MOMENT: u64 = (1 << 62) - 1;
 
 /// The number, where it is a moment.
 pub(crate) fn as_moment(number: u64) -> Option<u64>
     ensures { result ≡ as_moment number }
 {
-    if number < MOMENT_LIMIT {
+    if number <= LAST_MOMENT {
         Some(number)
     } else {
         None
@@ -23,5 +23,5 @@ pub(crate) fn as_moment(number: u64) -> Option<u64>
 pub(crate) fn read_moment(word: &[u8]) -> Option<u64>
     ensures { result ≡ moment_of_word word.now }
 {
-    read_below(MOMENT_LIMIT, word)
+    read_numeral(word, LAST_MOMENT)
 }

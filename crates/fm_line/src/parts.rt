@@ -2,13 +2,14 @@
 
 ghost use Rattle.std.specs.Prelude.{◌≡◌, IfOk, option_map};
 ghost use Rattle.serde_json.specs.View.{view};
-ghost use Rattle.fm_line.specs.Forms.{text_of, class_in, path_in, case_in, moment_in, report, tick, repaired, replaced, acquit};
+ghost use Rattle.fm_line.specs.Forms.{text_of, class_in, path_in, case_in, moment_in, report, tick};
+ghost use Rattle.fm_line.specs.Forms.{repaired, replaced, acquit};
 
 use crate::fault::LineFault;
-use crate::no_memory::NoMemory;
 use crate::number::as_moment;
+use fm_bytes::NoMemory;
 use fm_entry::{CaseName, Entry, read_case_name};
-use fm_name::{Category, Class, Fmri, read_class, read_fmri};
+use fm_name::{Class, Fmri, read_class, read_fmri};
 use fm_nv::Nv;
 use serde_json::Value as Json;
 use std::alloc::Global;
@@ -35,7 +36,7 @@ pub(crate) fn class_in(alloc: Global, text: Option<&str>) -> Result<Option<Class
     let Some(class) = read_class(alloc, text)? else {
         return Ok(None);
     };
-    if class.category() == Some(Category::Ereport) {
+    if class.is_ereport() {
         return Ok(Some(class));
     }
     Ok(None)

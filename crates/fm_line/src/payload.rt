@@ -5,10 +5,11 @@ ghost use Rattle.serde_json.specs.View.{view, items_view, members_view, number_v
 ghost use Rattle.fm_nv.specs.Data.{no_pairs};
 ghost use Rattle.fm_nv.specs.Refusal.{pushed};
 ghost use Rattle.fm_nv.specs.View.{datum};
-ghost use Rattle.fm_line.specs.Payload.{unsigneds_of, texts_of, number_value, array_value, added, value_of, lists_from, list_of, pairs_onto};
+ghost use Rattle.fm_line.specs.Payload.{unsigneds_of, texts_of, number_value, array_value, added};
+ghost use Rattle.fm_line.specs.Payload.{value_of, lists_from, list_of, pairs_onto};
 
-use crate::no_memory::NoMemory;
-use fm_nv::{Numbers, Nv, NvFault, NvLists, NvText, NvTexts, Value};
+use fm_bytes::NoMemory;
+use fm_nv::{Nv, NvFault, NvLists, NvNumbers, NvText, NvTexts, Value};
 use serde_json::{Map, Number, Value as Json};
 use std::alloc::Global;
 
@@ -24,7 +25,7 @@ fn add_pair(mut list: Nv, name: &str, value: Value) -> Result<Option<Nv>, NoMemo
 }
 
 /// The items, where all of them are integers from 0.
-fn unsigneds_from(alloc: Global, items: &Vec<Json>) -> Result<Option<Numbers>, NoMemory>
+fn unsigneds_from(alloc: Global, items: &Vec<Json>) -> Result<Option<NvNumbers>, NoMemory>
     ensures { IfOk result (λ found. found ≡ unsigneds_of (items_view items.now.items)) }
 {
     let mut found = Vec::new(alloc);
@@ -34,7 +35,7 @@ fn unsigneds_from(alloc: Global, items: &Vec<Json>) -> Result<Option<Numbers>, N
         };
         found.push(number)?;
     }
-    Ok(Some(Numbers::from_vec(found)))
+    Ok(Some(NvNumbers::new(found)))
 }
 
 /// The items, where all of them are texts.
@@ -48,7 +49,7 @@ fn texts_from(alloc: Global, items: &Vec<Json>) -> Result<Option<NvTexts>, NoMem
         };
         found.push(NvText::new(alloc, text)?)?;
     }
-    Ok(Some(NvTexts::from_vec(found)))
+    Ok(Some(NvTexts::new(found)))
 }
 
 /// The value of a number: a float is refused.
@@ -79,7 +80,8 @@ fn lists_from(alloc: Global, items: &Vec<Json>) -> Result<Option<NvLists>, NoMem
 /// The value of an array.
 #[cycle(convert)]
 fn array_from(alloc: Global, items: &Vec<Json>) -> Result<Option<Value>, NoMemory>
-    ensures { IfOk result (λ found. option_map datum found ≡ array_value (unsigneds_of (items_view items.now.items))
+    ensures { IfOk result
+        (λ found. option_map datum found ≡ array_value (unsigneds_of (items_view items.now.items))
         (texts_of (items_view items.now.items)) (lists_from (items_view items.now.items))) }
 {
     if let Some(numbers) = unsigneds_from(alloc, items)? {
@@ -97,7 +99,8 @@ fn array_from(alloc: Global, items: &Vec<Json>) -> Result<Option<Value>, NoMemor
 /// The list that the members of an object are.
 #[cycle(convert)]
 fn pairs_from(alloc: Global, members: &Map<String, Json>) -> Result<Option<Nv>, NoMemory>
-    ensures { IfOk result (λ found. found ≡ pairs_onto no_pairs (members_view members.now.entries)) }
+    ensures { IfOk result
+        (λ found. found ≡ pairs_onto no_pairs (members_view members.now.entries)) }
 {
     let mut list = Nv::new(alloc);
     for (name, member) in members.iter() {

@@ -2,7 +2,8 @@
 
 ghost use Rattle.std.specs.Prelude.{◌≡◌, ◌∷◌, IfOk, IfErr, Ok, Err, option_map, position};
 ghost use Rattle.fm_line.specs.Faults.{IsOfLine};
-ghost use Rattle.fm_line.specs.Forms.{is_space, words, words_after, words_entry, two_words, three_words, four_words};
+ghost use Rattle.fm_line.specs.Forms.{is_space, words, words_after, words_entry, two_words};
+ghost use Rattle.fm_line.specs.Forms.{three_words, four_words};
 
 use crate::fault::LineFault;
 use crate::number::read_moment;
@@ -45,7 +46,8 @@ fn two_words(first: &[u8], moment: &[u8]) -> Result<Entry, LineFault>
 #[tactic(auto, unfolding(crate::specs::Forms::three_words))]
 fn three_words(alloc: Global, first: &[u8], what: &[u8], moment: &[u8]) -> Result<Entry, LineFault>
     ensures ok { IfOk result (λ e. three_words first.now what.now moment.now ≡ Ok e) }
-    ensures err { IfErr result (λ f. IsOfLine f → three_words first.now what.now moment.now ≡ Err f) }
+    ensures err { IfErr result
+        (λ f. IsOfLine f → three_words first.now what.now moment.now ≡ Err f) }
 {
     if first == "repaired".as_bytes() {
         return repaired(path_in(alloc, text_of(what))?, read_moment(moment));
@@ -69,7 +71,8 @@ fn four_words(
     moment: &[u8],
 ) -> Result<Entry, LineFault>
     ensures ok { IfOk result (λ e. four_words first.now class.now path.now moment.now ≡ Ok e) }
-    ensures err { IfErr result (λ f. IsOfLine f → four_words first.now class.now path.now moment.now ≡ Err f) }
+    ensures err { IfErr result
+        (λ f. IsOfLine f → four_words first.now class.now path.now moment.now ≡ Err f) }
 {
     if first != "report".as_bytes() {
         return Err(LineFault::Shape);
@@ -87,8 +90,11 @@ fn with_three(
     third: &[u8],
     rest: &[u8],
 ) -> Result<Entry, LineFault>
-    ensures ok { IfOk result (λ e. words_entry (first.now ∷ second.now ∷ third.now ∷ words rest.now) ≡ Ok e) }
-    ensures err { IfErr result (λ f. IsOfLine f → words_entry (first.now ∷ second.now ∷ third.now ∷ words rest.now) ≡ Err f) }
+    ensures ok { IfOk result
+        (λ e. words_entry (first.now ∷ second.now ∷ third.now ∷ words rest.now) ≡ Ok e) }
+    ensures err { IfErr result
+        (λ f. IsOfLine f → words_entry (first.now ∷ second.now ∷ third.now ∷ words rest.now)
+        ≡ Err f) }
 {
     match cut_word(rest) {
         (fourth, None) => four_words(alloc, first, second, third, fourth),
@@ -99,7 +105,8 @@ fn with_three(
 /// The entry of two words and those of `rest`.
 fn with_two(alloc: Global, first: &[u8], second: &[u8], rest: &[u8]) -> Result<Entry, LineFault>
     ensures ok { IfOk result (λ e. words_entry (first.now ∷ second.now ∷ words rest.now) ≡ Ok e) }
-    ensures err { IfErr result (λ f. IsOfLine f → words_entry (first.now ∷ second.now ∷ words rest.now) ≡ Err f) }
+    ensures err { IfErr result
+        (λ f. IsOfLine f → words_entry (first.now ∷ second.now ∷ words rest.now) ≡ Err f) }
 {
     match cut_word(rest) {
         (third, None) => three_words(alloc, first, second, third),
@@ -110,7 +117,8 @@ fn with_two(alloc: Global, first: &[u8], second: &[u8], rest: &[u8]) -> Result<E
 /// The entry of one word and those of `rest`.
 fn with_one(alloc: Global, first: &[u8], rest: &[u8]) -> Result<Entry, LineFault>
     ensures ok { IfOk result (λ e. words_entry (first.now ∷ words rest.now) ≡ Ok e) }
-    ensures err { IfErr result (λ f. IsOfLine f → words_entry (first.now ∷ words rest.now) ≡ Err f) }
+    ensures err { IfErr result
+        (λ f. IsOfLine f → words_entry (first.now ∷ words rest.now) ≡ Err f) }
 {
     match cut_word(rest) {
         (second, None) => two_words(first, second),

@@ -1,15 +1,16 @@
 //! Printing an entry as a line.
 
-ghost use Rattle.std.specs.Prelude.{◌≡◌, ◌++◌, OnOk, OnErr, IfOk, string_bytes, Some};
+ghost use Rattle.std.specs.Prelude.{◌≡◌, ◌++◌, false, OnOk, OnErr, IfOk, string_bytes, Some};
 ghost use Rattle.serde_json.specs.View.{view};
+ghost use Rattle.fm_entry.specs.Entries.{is_reload};
 ghost use Rattle.fm_entry.specs.declared.entry.Entry.TheVariants as Entry;
 ghost use Rattle.fm_line.specs.Forms.{json_of};
-ghost use Rattle.fm_line.specs.Sound.{IsShortest, ReadsAsJson, ReadsBack};
-ghost use Rattle.fm_line.specs.Printed.{line_text, payload_text, plain_report, report_data, json_report, report_line};
+ghost use Rattle.fm_line.specs.Sound.{ReadsAsJson};
+ghost use Rattle.fm_line.specs.Printed.{line_text, payload_text, plain_report, report_data};
+ghost use Rattle.fm_line.specs.Printed.{json_report, report_line};
 
 use crate::data::list_json;
-use crate::no_memory::NoMemory;
-use crate::read::prove_payload;
+use fm_bytes::NoMemory;
 use fm_entry::{CaseName, Entry};
 use fm_name::{Class, Fmri};
 use fm_nv::Nv;
@@ -53,7 +54,8 @@ fn report_object(
 {
     let payload = list_json(alloc, payload)?;
     Ok(
-        json!(in alloc; {"class": class.text(), "path": path.text(), "payload": payload, "time": moment})?,
+        json!(in alloc; {"class": class.text(), "path": path.text(), "payload": payload,
+            "time": moment})?,
     )
 }
 
@@ -65,8 +67,11 @@ fn json_report(
     moment: u64,
     payload: &Nv,
 ) -> Result<Vec<u8>, NoMemory>
-    ensures text { IfOk result (λ text. text.items ≡ json_report class.now path.now moment payload.now) }
-    ensures reads { IfOk result (λ _. json_of (json_report class.now path.now moment payload.now) ≡ Some (report_data class.now path.now moment payload.now)) }
+    ensures text { IfOk result
+        (λ text. text.items ≡ json_report class.now path.now moment payload.now) }
+    ensures reads { IfOk result
+        (λ _. json_of (json_report class.now path.now moment payload.now)
+        ≡ Some (report_data class.now path.now moment payload.now)) }
 {
     let depth = payload.depth();
     prove!(depth <= 8);
@@ -92,7 +97,8 @@ fn print_report(
     payload: &Nv,
     out: &mut Vec<u8>,
 ) -> Result<(), NoMemory>
-    ensures ok { OnOk result (out.new.items ≡ out.old.items ++ report_line class.now path.now moment payload.now) }
+    ensures ok { OnOk result
+        (out.new.items ≡ out.old.items ++ report_line class.now path.now moment payload.now) }
     ensures err { OnErr result (out.new.items ≡ out.old.items) }
     ensures reads { OnOk result (ReadsAsJson (Entry.Report class.now path.now moment payload.now)) }
 {
@@ -111,7 +117,8 @@ fn print_acquit(
     moment: u64,
     out: &mut Vec<u8>,
 ) -> Result<(), NoMemory>
-    ensures ok { OnOk result (out.new.items ≡ out.old.items ++ line_text (Entry.Acquit case.now moment)) }
+    ensures ok { OnOk result
+        (out.new.items ≡ out.old.items ++ line_text (Entry.Acquit case.now moment)) }
     ensures err { OnErr result (out.new.items ≡ out.old.items) }
 {
     let module = case.module;
@@ -122,8 +129,10 @@ fn print_acquit(
     )
 }
 
-/// Appends the entry's line. A report with a payload reads as its object.
-fn print_any(alloc: Global, entry: &Entry, out: &mut Vec<u8>) -> Result<(), NoMemory>
+/// Appends the entry's line, without a newline: the plain form, or the JSON form where it is a
+/// report with a payload, whose text reads as its object. A reload has no line.
+pub fn print_line(alloc: Global, entry: &Entry, out: &mut Vec<u8>) -> Result<(), NoMemory>
+    requires { is_reload entry.now ≡ false }
     ensures ok { OnOk result (out.new.items ≡ out.old.items ++ line_text entry.now) }
     ensures err { OnErr result (out.new.items ≡ out.old.items) }
     ensures reads { OnOk result (ReadsAsJson entry.now) }
@@ -145,17 +154,6 @@ fn print_any(alloc: Global, entry: &Entry, out: &mut Vec<u8>) -> Result<(), NoMe
             out,
         ),
         Entry::Acquit { case, moment } => print_acquit(alloc, case, *moment, out),
+        Entry::Reload { .. } => unreachable!(),
     }
-}
-
-/// Appends the entry's line, without a newline: the plain form, or the JSON form where it is a report with
-/// a payload. The line of an entry that `read_line` gave reads as that entry, and is no longer than what was read.
-pub fn print_line(alloc: Global, entry: &Entry, out: &mut Vec<u8>) -> Result<(), NoMemory>
-    ensures ok { OnOk result (out.new.items ≡ out.old.items ++ line_text entry.now) }
-    ensures err { OnErr result (out.new.items ≡ out.old.items) }
-    ensures back { OnOk result (ReadsBack entry.now) }
-    ensures shortest { IsShortest entry.now }
-{
-    prove_payload(entry);
-    print_any(alloc, entry, out)
 }

@@ -1,7 +1,7 @@
 //! Reading a line.
 
-ghost use Rattle.std.specs.Prelude.{◌≡◌, IfOk, IfErr, Ok, Err, find};
-ghost use Rattle.fm_entry.specs.Entries.{IsSpelled};
+ghost use Rattle.std.specs.Prelude.{◌≡◌, false, IfOk, IfErr, Ok, Err, find};
+ghost use Rattle.fm_entry.specs.Entries.{IsSpelled, is_reload};
 ghost use Rattle.fm_line.specs.Sound.{HasSpelledPayload};
 ghost use Rattle.fm_line.specs.Faults.{IsOfLine};
 ghost use Rattle.fm_line.specs.Forms.{without_return, is_inked, is_json, content_entry, line_entry};
@@ -78,11 +78,13 @@ pub(crate) fn prove_payload(entry: &Entry)
     }
 }
 
-/// Reads one line, without its newline, in the plain or the JSON form. A final carriage return is dropped.
+/// Reads one line, without its newline, in the plain or the JSON form. A final carriage return is
+/// dropped.
 pub fn read_line(alloc: Global, line: &[u8]) -> Result<Entry, LineFault>
     ensures ok { IfOk result (λ entry. line_entry line.now ≡ Ok entry) }
     ensures err { IfErr result (λ fault. IsOfLine fault → line_entry line.now ≡ Err fault) }
     ensures spelled { IfOk result IsSpelled }
+    ensures no_reload { IfOk result (λ entry. is_reload entry ≡ false) }
 {
     let entry = any_line(alloc, line)?;
     prove_payload(&entry);

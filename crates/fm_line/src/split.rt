@@ -1,13 +1,16 @@
 //! The lines of a stream that comes in pieces.
 //!
-//! A splitter keeps the bytes of the line in progress, as long as they are within one line's limit, and
-//! the line last ended. Both buffers are made once, each for one line's limit.
+//! A splitter keeps the bytes of the line in progress, as long as they are within one line's limit,
+//! and the line last ended. Both buffers are made once, each for one line's limit.
 
-ghost use Rattle.std.specs.Prelude.{◌≡◌, ◌↔◌, ◌+◌, ◌≤◌, ◌++◌, [], ℕ, List, Option, Some, None, length, drop, IfOk, IsNone, IsTrue, IfNone, IfSome, position, nat_lt, if◌then◌else◌};
+ghost use Rattle.std.specs.Prelude.{◌≡◌, ◌↔◌, ◌+◌, ◌≤◌, ◌++◌, [], ℕ, List, Option, Some, None};
+ghost use Rattle.std.specs.Prelude.{length, drop, IfOk, IsNone, IsTrue, IfNone, IfSome, position};
+ghost use Rattle.std.specs.Prelude.{nat_lt, if◌then◌else◌};
 ghost use Rattle.std.specs.List.{before_first};
-ghost use Rattle.fm_line.specs.Lines.{is_newline, HasNoNewline, lines_from, grown, told, lines_told, taken_len};
+ghost use Rattle.fm_line.specs.Lines.{is_newline, HasNoNewline, lines_from, grown, ended_line};
+ghost use Rattle.fm_line.specs.Lines.{ended_lines, taken_len};
 
-use crate::no_memory::NoMemory;
+use fm_bytes::NoMemory;
 use memchr::memchr;
 use std::alloc::Global;
 use std::marker::Model;
@@ -35,9 +38,14 @@ impl Model for Splitter {
 
     ghost Value = { Splitting };
 
-    ghost view = { λ s. record { pending = (if s.is_long then None else Some s.pending.items); line = s.line.items } };
+    ghost view = { λ s. record {
+      pending =
+          (if s.is_long then None else Some s.pending.items);
+      line = s.line.items;
+    } };
 
-    ghost invariant = { λ s. IsBuffered (vec_capacity s.pending) (vec_capacity s.line) s.pending.items };
+    ghost invariant = { λ s. IsBuffered (vec_capacity s.pending) (vec_capacity s.line)
+        s.pending.items };
 }
 
 /// The place of the first newline.
@@ -88,7 +96,7 @@ impl Splitter {
     /// Ends the line in progress.
     fn end(&mut self) -> Whole
         ensures pending { self.new.pending ≡ Some [] }
-        ensures line { told result self.new.line ≡ self.old.pending }
+        ensures line { ended_line result self.new.line ≡ self.old.pending }
         ensures empty { result ≡ Whole.TooLong → self.new.line ≡ [] }
     {
         self.line.clear();
@@ -101,20 +109,25 @@ impl Splitter {
         Whole::Line
     }
 
-    /// Takes the bytes of `piece` up to and with its first newline, or all of them where it has none.
-    /// Tells how many these are, and how a line ended, where one did. Takes no memory.
+    /// Takes the bytes of `piece` up to and with its first newline, or all of them where it has
+    /// none. Tells how many these are, and how a line ended, where one did. Takes no memory.
     pub fn take(&mut self, piece: &[u8]) -> (usize, Option<Whole>)
         ensures count { result.0 ≡ taken_len piece.now }
         ensures none { IsNone result.1 ↔ HasNoNewline piece.now }
-        ensures grows { IfNone result.1 (self.new ≡ record self.old { pending = grown self.old.pending piece.now }) }
-        ensures ends { IfSome result.1 (λ whole. told whole self.new.line ≡ grown self.old.pending (before_first is_newline piece.now)) }
+        ensures grows { IfNone result.1
+            (self.new ≡ record self.old { pending = grown self.old.pending piece.now }) }
+        ensures ends { IfSome result.1
+            (λ whole. ended_line whole self.new.line
+            ≡ grown self.old.pending (before_first is_newline piece.now)) }
         ensures afresh { IfSome result.1 (λ _. self.new.pending ≡ Some []) }
         ensures empty { result.1 ≡ Some Whole.TooLong → self.new.line ≡ [] }
 
-        // However the stream is cut: the lines of what was pending, the piece and whatever follows are
-        // the line that is told of, if any, and those of what is pending now, the rest and what follows.
+        // However the stream is cut: the lines of what was pending, the piece and whatever follows
+        // are the line that is told of, if any, and those of what is pending now, the rest and what
+        // follows.
         ensures lines { (more : List ℕ) → lines_from self.old.pending (piece.now ++ more)
-            ≡ lines_told result.1 self.new.line ++ lines_from self.new.pending (drop result.0 piece.now ++ more) }
+            ≡ ended_lines result.1 self.new.line
+            ++ lines_from self.new.pending (drop result.0 piece.now ++ more) }
     {
         let _ = &self.pending;
         match newline_place(piece) {
@@ -133,10 +146,10 @@ impl Splitter {
     pub fn finish(&mut self) -> Option<Whole>
         ensures none { IsNone result ↔ (self.old.pending ≡ Some []) }
         ensures same { IfNone result (self.new ≡ self.old) }
-        ensures ends { IfSome result (λ whole. told whole self.new.line ≡ self.old.pending) }
+        ensures ends { IfSome result (λ whole. ended_line whole self.new.line ≡ self.old.pending) }
         ensures afresh { self.new.pending ≡ Some [] }
         ensures empty { result ≡ Some Whole.TooLong → self.new.line ≡ [] }
-        ensures lines { lines_from self.old.pending [] ≡ lines_told result self.new.line }
+        ensures lines { lines_from self.old.pending [] ≡ ended_lines result self.new.line }
     {
         let _ = &self.pending;
         if self.is_between() {

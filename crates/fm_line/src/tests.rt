@@ -1,8 +1,7 @@
 //! Lines from outside the proofs: what each is answered, and how streams fall into lines.
 
 use crate::{
-    LineFault, NoMemory, Splitter, Whole, faults_by_cases, is_blank_line, print_line,
-    print_payload, read_line,
+    LineFault, NoMemory, Splitter, Whole, is_blank_line, print_line, print_payload, read_line,
 };
 use fm_entry::Entry;
 use std::alloc::Global;
@@ -164,7 +163,8 @@ fn payloads_are_read_and_refused(rt: HostRuntime) -> Result<(), Fail> {
     Ok(())
 }
 
-/// Takes a piece, and puts each line that ends down in brackets, or a mark where it was too long or blank.
+/// Takes a piece, and puts each line that ends down in brackets, or a mark where it was too long or
+/// blank.
 fn put_lines(splitter: &mut Splitter, piece: &[u8], out: &mut Vec<u8>) -> Result<(), NoMemory> {
     let mut rest = piece;
     for _ in 0..piece.len() {
@@ -263,6 +263,5 @@ fn a_line_has_at_most_65536_bytes(rt: HostRuntime) -> Result<(), Fail> {
     assert_eq!(rt; splitter.take(b"\nb"), (1, Some(Whole::TooLong)));
     assert_eq!(rt; splitter.line(), b"".as_slice());
     assert_eq!(rt; splitter.finish(), None);
-    faults_by_cases();
     Ok(())
 }

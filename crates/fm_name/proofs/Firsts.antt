@@ -5,7 +5,8 @@ use Rattle.std.proofs.lemmas.Grind.{common_steps}
 use Rattle.std.proofs.lemmas.List.{take_all}
 
 -- where one passes, it is at that place
-pub before_some : (p : ℕ → Bool) (xs : List ℕ) (at : ℕ) → position p xs ≡ Some at → take at xs ≡ before_first p xs
+pub before_some : (p : ℕ → Bool) (xs : List ℕ) (at : ℕ) → position p xs ≡ Some at
+    → take at xs ≡ before_first p xs
 before_some p xs at e =
     let same : position_or_len p xs ≡ at = grind (arith, common_steps) in
     ap (λ n. take n xs) (sym same)

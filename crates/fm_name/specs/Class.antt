@@ -1,5 +1,6 @@
 -- The grammar of classes, over the bytes of a text.
-use Rattle.std.specs.Prelude.{ℕ, Bool, ◌&&◌, ◌||◌, ◌==◌, nat_le, nat_lt, List, [], ◌∷◌, length, false}
+use Rattle.std.specs.Prelude.{ℕ, Bool, ◌&&◌, ◌||◌, ◌==◌, nat_le, nat_lt, List, [], ◌∷◌, length}
+use Rattle.std.specs.Prelude.{false}
 use Rattle.std.specs.Char.{is_ascii_alphabetic, is_ascii_alphanumeric}
 use Rattle.std.specs.List.{slice_split, list_all}
 
@@ -13,7 +14,8 @@ is_piece bytes = nat_lt 0 (length bytes) && list_all is_piece_byte bytes
 
 -- a component: pieces joined by single hyphens, at most 32 bytes together
 unfoldable pub is_component : List ℕ → Bool
-is_component bytes = nat_le (length bytes) 32 && list_all is_piece (slice_split (λ b. b == 45) bytes)
+is_component bytes =
+    nat_le (length bytes) 32 && list_all is_piece (slice_split (λ b. b == 45) bytes)
 
 -- the first byte is an ASCII letter
 abbrev pub starts_with_letter : List ℕ → Bool
@@ -31,4 +33,6 @@ are_components bytes = list_all is_component (components_of bytes)
 -- a class: two or more components joined by dots, at most 255 bytes, the first a letter
 unfoldable pub is_class : List ℕ → Bool
 is_class bytes =
-    nat_le (length bytes) 255 && (starts_with_letter bytes && (nat_le 2 (length (components_of bytes)) && are_components bytes))
+    nat_le (length bytes) 255
+    && (starts_with_letter bytes
+    && (nat_le 2 (length (components_of bytes)) && are_components bytes))

@@ -7,4 +7,4 @@ pub mod Events
 pub mod Cut
 pub mod OrderLaws
 pub mod Tail
-pub mod Text
+pub mod InlineText

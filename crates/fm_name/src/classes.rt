@@ -1,17 +1,19 @@
-ghost use Rattle.std.specs.Prelude.{◌≡◌, ◌≤◌, ◌==◌, refl, length, IfOk, IsTrue, Some, nat_eq, if◌then◌else◌};
+ghost use Rattle.std.specs.Prelude.{◌≡◌, ◌≤◌, ◌==◌, refl, length, IfOk, IsTrue, Some, nat_eq};
+ghost use Rattle.std.specs.Prelude.{if◌then◌else◌};
 ghost use Rattle.std.specs.Ordering.{nat_cmp};
 ghost use Rattle.std.specs.Cmp.{partial_equiv_from_equiv};
-ghost use Rattle.std.specs.Cmp.Lexicographic.{pointwise, slice_cmp, nat_list_eq_equiv, nat_list_cmp_total, texts_ties, texts_po};
+ghost use Rattle.std.specs.Cmp.Lexicographic.{pointwise, slice_cmp, nat_list_eq_equiv};
+ghost use Rattle.std.specs.Cmp.Lexicographic.{nat_list_cmp_total, texts_ties, texts_po};
 ghost use Rattle.std.specs.Cmp.Rules.{hashing};
 ghost use Rattle.std.specs.Hash as fed;
 ghost use Rattle.std.proofs.Common.{rules};
 ghost use Rattle.fm_name.specs.Class.{is_class};
-ghost use Rattle.fm_name.specs.Category.{category_of, category_named};
+ghost use Rattle.fm_name.specs.Category.{category_of, category_named, is_ereport};
 ghost use Rattle.std.specs.List.{before_first, position};
 
 use crate::grammar::spells_class;
-use crate::no_memory::NoMemory;
-use crate::text::Text;
+use crate::inline_text::InlineText;
+use fm_bytes::{Copies, NoMemory};
 use std::alloc::Global;
 use std::cmp::Ordering;
 use std::fmt;
@@ -30,10 +32,19 @@ pub enum Category {
     Serd,
 }
 
+impl Category {
+    /// The same category.
+    pub fn copy(&self) -> Category
+        ensures { result ≡ self.now }
+    {
+        *self
+    }
+}
+
 /// A class: two or more components joined by dots. Contracts see its text, as bytes.
 #[derive(Debug, Drop)]
 pub struct Class {
-    text: Text,
+    text: InlineText,
 }
 
 impl Model for Class {
@@ -54,7 +65,7 @@ pub fn read_class(alloc: Global, text: &str) -> Result<Option<Class>, NoMemory>
     if !spells_class(text.as_bytes()) {
         return Ok(None);
     }
-    let text = Text::new(alloc, text)?;
+    let text = InlineText::new(alloc, text)?;
     Ok(Some(Class { text }))
 }
 
@@ -107,6 +118,20 @@ impl Class {
         category_named(first_component(self.text.as_str().as_bytes()))
     }
 
+    /// Whether the class is of what detectors report: its first component is `ereport`.
+    pub fn is_ereport(&self) -> bool
+        ensures { result ≡ is_ereport self.now }
+    {
+        match self.category() {
+            Some(Category::Ereport) => {
+                // for the proof alone: that the text is a class
+                let _ = &self.text;
+                true
+            }
+            _ => false,
+        }
+    }
+
     /// The text that was read, of at most 255 bytes.
     #[tactic(auto, unfolding(crate::specs::Class::is_class))]
     pub fn text(&self) -> &str
@@ -125,6 +150,12 @@ impl Class {
     {
         let text = self.text.copy()?;
         Ok(Class { text })
+    }
+}
+
+impl Copies for Class {
+    fn copy(&self, _alloc: Global) -> Result<Class, NoMemory> {
+        self.copy()
     }
 }
 

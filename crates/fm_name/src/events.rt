@@ -4,11 +4,13 @@ ghost use Rattle.std.specs.Cmp.{partial_order_from_agreeing_total};
 ghost use Rattle.std.specs.Cmp.Lexicographic.{pointwise};
 ghost use Rattle.std.specs.Cmp.Rules.{comparing};
 ghost use Rattle.std.proofs.Common.{rules};
-ghost use Rattle.fm_name.specs.Events.{event_cmp, event_cmp_total, event_cmp_ties};
+ghost use Rattle.fm_name.specs.Events.{event_eq, event_cmp, event_cmp_total, event_cmp_partial};
+ghost use Rattle.fm_name.specs.Events.{event_cmp_ties};
 
 use crate::classes::Class;
-use crate::no_memory::NoMemory;
 use crate::paths::Fmri;
+use fm_bytes::{Copies, NoMemory};
+use std::alloc::Global;
 use std::cmp::Ordering;
 
 /// An event: a class at a path.
@@ -29,8 +31,14 @@ impl EventName {
     }
 }
 
+impl Copies for EventName {
+    fn copy(&self, _alloc: Global) -> Result<EventName, NoMemory> {
+        self.copy()
+    }
+}
+
 impl PartialEq for EventName {
-    ghost eq = { eq_of_both (on (λ e. e.path) (pointwise nat_eq)) (on (λ e. e.class) (pointwise nat_eq)) };
+    ghost eq = { event_eq };
 
     ghost laws = { Prim.search (comparing, rules) };
 
@@ -46,7 +54,7 @@ impl Eq for EventName {
 impl PartialOrd for EventName {
     ghost partial_cmp = { λ x y. Some (event_cmp x y) };
 
-    ghost laws = { partial_order_from_agreeing_total event_cmp event_cmp_total (λ x y. refl) event_cmp_ties };
+    ghost laws = { event_cmp_partial };
 
     fn partial_cmp(&self, other: &EventName) -> Option<Ordering> {
         Some(self.cmp(other))

@@ -1,6 +1,7 @@
 ghost use Rattle.std.specs.Prelude.{◌≡◌, ◌==◌, nat_le, length};
 ghost use Rattle.std.specs.List.{slice_split, list_all};
-ghost use Rattle.fm_name.specs.Class.{is_piece_byte, is_piece, components_of, is_component, are_components, starts_with_letter, is_class};
+ghost use Rattle.fm_name.specs.Class.{is_piece_byte, is_piece, components_of, is_component};
+ghost use Rattle.fm_name.specs.Class.{are_components, starts_with_letter, is_class};
 
 /// Whether a byte may stand in a piece.
 pub fn is_in_piece(byte: u8) -> bool
@@ -19,8 +20,8 @@ pub fn begins_with_letter(bytes: &[u8]) -> bool
     }
 }
 
-/// Whether the bytes are one or more components joined by dots, in one pass. Most bytes are letters, so these are
-/// tried first.
+/// Whether the bytes are one or more components joined by dots, in one pass. Most bytes are
+/// letters, so these are tried first.
 #[tactic(auto, using(crate::proofs::Scanning::scan_start))]
 pub fn joins_components(bytes: &[u8]) -> bool
     ensures { result ≡ are_components bytes.now }

@@ -1,16 +1,19 @@
-ghost use Rattle.std.specs.Prelude.{◌≡◌, ◌<◌, ◌==◌, ◌&&◌, ◌∷◌, IsTrue, IfSome, Some, ◌≤◌, slice_get, length, map, option_map};
-ghost use Rattle.std.specs.List.{slice_split, list_all};
-ghost use Rattle.std.specs.Str.Parse.{digits_value};
-ghost use Rattle.fm_name.specs.Path.{is_name, is_instance, is_part, part_of};
+ghost use Rattle.std.specs.Prelude.{◌≡◌, ◌<◌, ◌==◌, ◌&&◌, ◌∷◌, IsTrue, IfSome, Some, ◌≤◌};
+ghost use Rattle.std.specs.Prelude.{slice_get, length, map, option_map};
+ghost use Rattle.std.specs.List.{list_all};
+ghost use Rattle.fm_bytes.specs.Decimals.{number_of};
+ghost use Rattle.fm_name.specs.Path.{slash_texts, is_name, is_instance, is_part, part_of};
 ghost use Rattle.fm_name.specs.Order.{part_cmp, part_eq, parts_cmp, begins_with_parts};
 ghost use Rattle.fm_name.specs.Cut.{texts_left};
 
 use crate::grammar::{begins_with_letter, spells_component};
+use fm_bytes::read_numeral;
 use std::cmp::Ordering;
 
 /// The text before the first slash, and what is left after it.
 pub fn cut(text: &str) -> (&str, Option<&str>)
-    ensures texts { slice_split (λ b. b == 47) text.now ≡ result.0.now ∷ texts_left (option_map (λ s. s.now) result.1) }
+    ensures texts { slash_texts text.now ≡ result.0.now ∷ texts_left
+        (option_map (λ s. s.now) result.1) }
     ensures shorter { IfSome result.1 (λ rest. length rest.now < length text.now) }
 {
     match text.split_once('/') {
@@ -21,12 +24,13 @@ pub fn cut(text: &str) -> (&str, Option<&str>)
 
 /// The first part of a text of parts, and what is left after it.
 #[tactic(auto, using(crate::proofs::Cutting::all_left))]
-fn cut_part(text: &str) -> (&str, Option<&str>)
-    requires { IsTrue (list_all is_part (slice_split (λ b. b == 47) text.now)) }
-    ensures texts { slice_split (λ b. b == 47) text.now ≡ result.0.now ∷ texts_left (option_map (λ s. s.now) result.1) }
+pub fn cut_part(text: &str) -> (&str, Option<&str>)
+    requires { IsTrue (list_all is_part (slash_texts text.now)) }
+    ensures texts { slash_texts text.now ≡ result.0.now ∷ texts_left
+        (option_map (λ s. s.now) result.1) }
     ensures shorter { IfSome result.1 (λ rest. length rest.now < length text.now) }
     ensures first { IsTrue (is_part result.0.now) }
-    ensures rest { IfSome result.1 (λ rest. IsTrue (list_all is_part (slice_split (λ b. b == 47) rest.now))) }
+    ensures rest { IfSome result.1 (λ rest. IsTrue (list_all is_part (slash_texts rest.now))) }
 {
     cut(text)
 }
@@ -34,8 +38,8 @@ fn cut_part(text: &str) -> (&str, Option<&str>)
 /// How many texts stand between the slashes.
 #[tactic(auto, using(crate::proofs::Cutting::one_more))]
 pub fn count_texts(text: &str) -> usize
-    requires { length (slice_split (λ b. b == 47) text.now) ≤ 16 }
-    ensures { result ≡ length (slice_split (λ b. b == 47) text.now) }
+    requires { length (slash_texts text.now) ≤ 16 }
+    ensures { result ≡ length (slash_texts text.now) }
 {
     let (_, rest) = cut(text);
     match rest {
@@ -54,13 +58,14 @@ pub fn is_name(text: &str) -> bool
 }
 
 /// The number that the digits of an instance mean.
+#[tactic(auto, using(crate::proofs::Digits::instance_read))]
 fn instance_value(digits: &str) -> u32
     requires { IsTrue (is_instance digits.now) }
-    ensures { result ≡ digits_value 10 digits.now }
+    ensures { result ≡ number_of digits.now }
 {
-    match digits.parse::<u32>() {
-        Ok(value) => value,
-        Err(_) => unreachable!(),
+    match read_numeral(digits.as_bytes(), u64::from(u32::MAX)) {
+        Some(value) => value as u32,
+        None => unreachable!(),
     }
 }
 
@@ -101,11 +106,12 @@ fn same_part(ours: &str, theirs: &str) -> bool
 }
 
 /// The order of two texts of parts joined by slashes.
-#[tactic(auto, using(crate::proofs::Cutting::less_first, crate::proofs::Cutting::greater_first), unfolding(crate::specs::Order::parts_cmp))]
+#[tactic(auto, using(crate::proofs::Cutting::shorter), unfolding(crate::specs::Order::parts_cmp))]
 pub fn compare_tails(ours: &str, theirs: &str) -> Ordering
-    requires ours { IsTrue (list_all is_part (slice_split (λ b. b == 47) ours.now)) }
-    requires theirs { IsTrue (list_all is_part (slice_split (λ b. b == 47) theirs.now)) }
-    ensures { result ≡ parts_cmp (map part_of (slice_split (λ b. b == 47) ours.now)) (map part_of (slice_split (λ b. b == 47) theirs.now)) }
+    requires ours { IsTrue (list_all is_part (slash_texts ours.now)) }
+    requires theirs { IsTrue (list_all is_part (slash_texts theirs.now)) }
+    ensures { result ≡ parts_cmp (map part_of (slash_texts ours.now))
+        (map part_of (slash_texts theirs.now)) }
 {
     let (first, rest) = cut_part(ours);
     let (other_first, other_rest) = cut_part(theirs);
@@ -124,9 +130,10 @@ pub fn compare_tails(ours: &str, theirs: &str) -> Ordering
 /// Whether the parts of one text begin with those of another.
 #[tactic(auto, using(crate::proofs::Cutting::not_begun))]
 pub fn begins_with_parts(text: &str, above: &str) -> bool
-    requires text { IsTrue (list_all is_part (slice_split (λ b. b == 47) text.now)) }
-    requires above { IsTrue (list_all is_part (slice_split (λ b. b == 47) above.now)) }
-    ensures { result ≡ begins_with_parts (map part_of (slice_split (λ b. b == 47) text.now)) (map part_of (slice_split (λ b. b == 47) above.now)) }
+    requires text { IsTrue (list_all is_part (slash_texts text.now)) }
+    requires above { IsTrue (list_all is_part (slash_texts above.now)) }
+    ensures { result ≡ begins_with_parts (map part_of (slash_texts text.now))
+        (map part_of (slash_texts above.now)) }
 {
     let (first, rest) = cut_part(text);
     let (other_first, other_rest) = cut_part(above);
@@ -143,9 +150,9 @@ pub fn begins_with_parts(text: &str, above: &str) -> bool
 /// The text of the part at a place.
 #[tactic(auto, using(crate::proofs::Cutting::one_text))]
 pub fn part_text(tail: &str, at: usize) -> &str
-    requires within { at < length (slice_split (λ b. b == 47) tail.now) }
-    requires parts { IsTrue (list_all is_part (slice_split (λ b. b == 47) tail.now)) }
-    ensures same { slice_get (slice_split (λ b. b == 47) tail.now) at ≡ Some result.now }
+    requires within { at < length (slash_texts tail.now) }
+    requires parts { IsTrue (list_all is_part (slash_texts tail.now)) }
+    ensures same { slice_get (slash_texts tail.now) at ≡ Some result.now }
     ensures part { IsTrue (is_part result.now) }
 {
     let (first, rest) = cut_part(tail);

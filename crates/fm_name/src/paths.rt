@@ -1,19 +1,23 @@
-ghost use Rattle.std.specs.Prelude.{◌≡◌, ◌≤◌, ◌<◌, ◌==◌, refl, length, drop, slice_get, codes, IfOk, IsTrue, Some, nat_eq, if◌then◌else◌};
+ghost use Rattle.std.specs.Prelude.{◌≡◌, ◌≤◌, ◌<◌, ◌==◌, refl, length, map, drop, slice_get, codes};
+ghost use Rattle.std.specs.Prelude.{IfOk, IsTrue, Some, nat_eq, if◌then◌else◌};
 ghost use Rattle.std.specs.Ordering.{nat_cmp};
 ghost use Rattle.std.specs.Cmp.{partial_equiv_from_equiv, partial_order_from_agreeing_total};
-ghost use Rattle.std.specs.List.{slice_split, list_all};
-ghost use Rattle.fm_name.specs.OrderLaws.{path_cmp_total, path_cmp_ties};
-ghost use Rattle.std.specs.Cmp.Lexicographic.{pointwise, slice_cmp, nat_list_eq_equiv, nat_list_cmp_total, texts_ties, texts_po};
+ghost use Rattle.std.specs.List.{list_all};
+ghost use Rattle.fm_name.specs.OrderLaws.{path_cmp_total, path_cmp_partial, path_cmp_ties};
+ghost use Rattle.std.specs.Cmp.Lexicographic.{pointwise, slice_cmp, nat_list_eq_equiv};
+ghost use Rattle.std.specs.Cmp.Lexicographic.{nat_list_cmp_total, texts_ties, texts_po};
 ghost use Rattle.std.specs.Cmp.Rules.{hashing};
 ghost use Rattle.std.specs.Hash as fed;
 ghost use Rattle.std.proofs.Common.{rules};
-ghost use Rattle.fm_name.specs.Path.{is_name, is_instance, is_part, is_path, parts_of, names_of, instances_of};
+ghost use Rattle.fm_name.specs.Path.{slash_texts, is_part, is_path, parts_of, names_of};
+ghost use Rattle.fm_name.specs.Path.{instances_of};
 ghost use Rattle.fm_name.specs.Order.{path_cmp, parts_cmp, is_under};
 
-use crate::no_memory::NoMemory;
-use crate::parts::{begins_with_parts, compare_tails, count_texts, part_text, read_part};
+use crate::inline_text::InlineText;
+use crate::parts::{begins_with_parts, compare_tails, count_texts, cut_part, part_text, read_part};
 use crate::tails::joins_parts;
-use crate::text::Text;
+use arrayvec::ArrayVec;
+use fm_bytes::{Copies, NoMemory};
 use std::alloc::Global;
 use std::cmp::Ordering;
 use std::fmt;
@@ -23,7 +27,7 @@ use std::marker::Model;
 /// A path: `hc:///` and parts `name=instance` joined by slashes. Contracts see its text, as bytes.
 #[derive(Debug, Drop)]
 pub struct Fmri {
-    text: Text,
+    text: InlineText,
 }
 
 impl Model for Fmri {
@@ -58,18 +62,18 @@ pub fn read_fmri(alloc: Global, text: &str) -> Result<Option<Fmri>, NoMemory>
     if !spells_path(text) {
         return Ok(None);
     }
-    let text = Text::new(alloc, text)?;
+    let text = InlineText::new(alloc, text)?;
     Ok(Some(Fmri { text }))
 }
 
 /// The parts of a path, joined by slashes.
-#[tactic(auto, using(crate::proofs::Cutting::some_text), unfolding(crate::specs::Path::is_path, crate::specs::Path::are_parts))]
+#[tactic(auto, using(crate::proofs::Cutting::some_text), unfolding(crate::specs::Path::on_path))]
 fn tail_of(text: &str) -> &str
     requires { IsTrue (is_path text.now) }
     ensures same { result.now ≡ drop 6 text.now }
-    ensures parts { IsTrue (list_all is_part (slice_split (λ b. b == 47) result.now)) }
-    ensures some { 1 ≤ length (slice_split (λ b. b == 47) result.now) }
-    ensures most { length (slice_split (λ b. b == 47) result.now) ≤ 16 }
+    ensures parts { IsTrue (list_all is_part (slash_texts result.now)) }
+    ensures some { 1 ≤ length (slash_texts result.now) }
+    ensures most { length (slash_texts result.now) ≤ 16 }
 {
     match text.strip_prefix("hc:///") {
         Some(tail) => tail,
@@ -79,7 +83,7 @@ fn tail_of(text: &str) -> &str
 
 impl Fmri {
     /// How many parts the path has, 1 to 16.
-    #[tactic(auto, using(crate::proofs::Cutting::count_map), unfolding(crate::specs::Path::parts_of))]
+    #[tactic(auto, using(crate::proofs::Cutting::placed), unfolding(crate::specs::Path::parts_of))]
     pub fn depth(&self) -> usize
         ensures same { result ≡ length (parts_of self.now) }
         ensures some { 1 ≤ result }
@@ -89,7 +93,7 @@ impl Fmri {
     }
 
     /// The name of the part at a place, counted from the root.
-    #[tactic(auto, using(crate::proofs::Cutting::count_map, crate::proofs::Cutting::name_at), unfolding(crate::specs::Path::parts_of))]
+    #[tactic(auto, using(crate::proofs::Cutting::placed), unfolding(crate::specs::Path::parts_of))]
     pub fn name(&self, at: usize) -> &str
         requires { at < length (parts_of self.now) }
         ensures { slice_get (names_of self.now) at ≡ Some result.now }
@@ -98,7 +102,7 @@ impl Fmri {
     }
 
     /// The instance of the part at a place, counted from the root.
-    #[tactic(auto, using(crate::proofs::Cutting::count_map, crate::proofs::Cutting::instance_at), unfolding(crate::specs::Path::parts_of))]
+    #[tactic(auto, using(crate::proofs::Cutting::placed), unfolding(crate::specs::Path::parts_of))]
     pub fn instance(&self, at: usize) -> u32
         requires { at < length (parts_of self.now) }
         ensures { slice_get (instances_of self.now) at ≡ Some result }
@@ -106,7 +110,38 @@ impl Fmri {
         read_part(part_text(tail_of(self.text.as_str()), at)).1
     }
 
-    /// Whether the parts of this path begin with those of another; each path is under itself. Takes no memory.
+    /// The instances of the parts, from the root on, in one pass over the text.
+    #[tactic(auto, unfolding(crate::specs::Path::parts_of, crate::specs::Path::instances_of))]
+    pub fn instances(&self) -> ArrayVec<u32, 16>
+        ensures { result.items ≡ instances_of self.now }
+    {
+        let mut found = ArrayVec::new();
+        let mut left = Some(tail_of(self.text.as_str()));
+        'parts: while let Some(tail) = left {
+            let (part, rest) = cut_part(tail);
+            found.push(read_part(part).1);
+            left = rest;
+        }
+        found
+    }
+
+    /// The names of the parts, from the root on, in one pass over the text.
+    #[tactic(auto, unfolding(crate::specs::Path::parts_of, crate::specs::Path::names_of))]
+    pub fn names(&self) -> ArrayVec<&str, 16>
+        ensures { map (λ name. name.now) result.items ≡ names_of self.now }
+    {
+        let mut found = ArrayVec::new();
+        let mut left = Some(tail_of(self.text.as_str()));
+        'parts: while let Some(tail) = left {
+            let (part, rest) = cut_part(tail);
+            found.push(read_part(part).0);
+            left = rest;
+        }
+        found
+    }
+
+    /// Whether the parts of this path begin with those of another; each path is under itself. Takes
+    /// no memory.
     #[tactic(auto, unfolding(crate::specs::Order::is_under, crate::specs::Path::parts_of))]
     pub fn is_under(&self, above: &Fmri) -> bool
         ensures { result ≡ is_under self.now above.now }
@@ -135,6 +170,12 @@ impl Fmri {
     }
 }
 
+impl Copies for Fmri {
+    fn copy(&self, _alloc: Global) -> Result<Fmri, NoMemory> {
+        self.copy()
+    }
+}
+
 impl PartialEq for Fmri {
     ghost eq = { pointwise nat_eq };
 
@@ -152,7 +193,7 @@ impl Eq for Fmri {
 impl PartialOrd for Fmri {
     ghost partial_cmp = { λ x y. Some (path_cmp x y) };
 
-    ghost laws = { partial_order_from_agreeing_total path_cmp path_cmp_total (λ x y. refl) path_cmp_ties };
+    ghost laws = { path_cmp_partial };
 
     fn partial_cmp(&self, other: &Fmri) -> Option<Ordering> {
         Some(self.cmp(other))
@@ -168,7 +209,7 @@ impl Ord for Fmri {
 
     ghost matches_eq = { path_cmp_ties };
 
-    #[tactic(auto, using(crate::proofs::Same::path_cmp_is), unfolding(crate::specs::Order::path_cmp, crate::specs::Path::parts_of))]
+    #[tactic(auto, using(crate::proofs::Same::path_cmp_is), unfolding(crate::specs::Order::orders))]
     fn cmp(&self, other: &Fmri) -> Ordering
         ensures whole { result ≡ path_cmp self.now other.now }
         ensures by_parts { result ≡ parts_cmp (parts_of self.now) (parts_of other.now) }

@@ -1,15 +1,18 @@
-ghost use Rattle.std.specs.Prelude.{◌≡◌, ◌&&◌, IfOk, IsTrue, Some, nat_lt, nat_eq, length, if◌then◌else◌};
+ghost use Rattle.std.specs.Prelude.{◌≡◌, ◌&&◌, IfOk, IsTrue, Some, nat_lt, nat_eq, length};
+ghost use Rattle.std.specs.Prelude.{if◌then◌else◌};
 ghost use Rattle.std.specs.List.{starts_with};
-ghost use Rattle.fm_name.specs.Pattern.{is_prefix_pattern, is_pattern, prefix_matches, pattern_matches};
+ghost use Rattle.fm_name.specs.Pattern.{is_prefix_pattern, is_pattern, prefix_matches};
+ghost use Rattle.fm_name.specs.Pattern.{pattern_matches};
 
 use crate::classes::Class;
 use crate::grammar::{joins_components, spells_class};
-use crate::no_memory::NoMemory;
+use fm_bytes::{Copies, NoMemory};
 use std::alloc::Global;
 use std::fmt;
 use std::marker::Model;
 
-/// A pattern of classes: `*`, a class, or components and then `.*`. Contracts see its text, as bytes.
+/// A pattern of classes: `*`, a class, or components and then `.*`. Contracts see its text, as
+/// bytes.
 #[derive(Debug, Drop)]
 pub struct Pattern {
     text: String,
@@ -55,7 +58,8 @@ pub fn read_pattern(alloc: Global, text: &str) -> Result<Option<Pattern>, NoMemo
 
 /// Whether the class begins with the prefix and is longer.
 fn goes_on(class: &[u8], prefix: &[u8]) -> bool
-    ensures { result ≡ (nat_lt (length prefix.now) (length class.now) && starts_with nat_eq class.now prefix.now) }
+    ensures { result ≡ (nat_lt (length prefix.now) (length class.now)
+        && starts_with nat_eq class.now prefix.now) }
 {
     prefix.len() < class.len() && class.starts_with(prefix)
 }
@@ -93,6 +97,12 @@ impl Pattern {
     {
         let text = self.text.clone()?;
         Ok(Pattern { text })
+    }
+}
+
+impl Copies for Pattern {
+    fn copy(&self, _alloc: Global) -> Result<Pattern, NoMemory> {
+        self.copy()
     }
 }
 

@@ -1,8 +1,7 @@
 //! The reading of what stands behind the root of a path, in one pass over its bytes.
 
 ghost use Rattle.std.specs.Prelude.{◌≡◌, ◌==◌, length, true, false, option_map};
-ghost use Rattle.std.specs.List.{slice_split};
-ghost use Rattle.fm_name.specs.Path.{are_parts};
+ghost use Rattle.fm_name.specs.Path.{slash_texts, are_parts};
 ghost use Rattle.fm_name.specs.Tail.{starts_piece, name_rest, instance_rest, part_rest};
 
 use crate::grammar::is_in_piece;
@@ -17,8 +16,8 @@ fn begins_piece(bytes: &[u8]) -> bool
     }
 }
 
-/// What is left after a name and its `=`, where the bytes follow the first byte of the name. Most bytes of a name are
-/// letters, so these are tried first.
+/// What is left after a name and its `=`, where the bytes follow the first byte of the name. Most
+/// bytes of a name are letters, so these are tried first.
 #[tactic(auto, using(crate::proofs::PartScans::begun_first, crate::proofs::PartScans::none_first))]
 fn after_name(bytes: &[u8]) -> Option<&[u8]>
     ensures { option_map (λ s. s.now) result ≡ name_rest (length bytes.now) true bytes.now }
@@ -75,7 +74,7 @@ fn after_part(bytes: &[u8]) -> Option<&[u8]>
 /// Whether the bytes are one or more parts joined by slashes, and not more than there is room for.
 #[tactic(auto, using(crate::proofs::PartScans::no_room, crate::proofs::PartScans::parts_start))]
 pub fn joins_parts(bytes: &[u8], room: usize) -> bool
-    ensures { result ≡ are_parts room (slice_split (λ b. b == 47) bytes.now) }
+    ensures { result ≡ are_parts room (slash_texts bytes.now) }
 {
     if room == 0 {
         return false;

@@ -1,10 +1,7 @@
-pub mod Booleans
 pub mod Places
 pub mod Steps
 pub mod Adding
 pub mod Cells
-pub mod ReadLoops
-pub mod Numbering
 pub mod Apart
 pub mod Readers
 pub mod ValueKinds

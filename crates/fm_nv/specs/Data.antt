@@ -1,5 +1,6 @@
 -- What a list of names and values is, as data: its pairs in order, and the eight kinds of a value.
-use Rattle.std.specs.Prelude.{ℕ, zero, suc, ◌+◌, ◌*◌, max, ℤ, Bool, false, ◌||◌, if◌then◌else◌, bytes_eq, List, [], ◌∷◌, Option, Some, None}
+use Rattle.std.specs.Prelude.{ℕ, zero, suc, ◌+◌, ◌*◌, max, ℤ, Bool, false, ◌||◌, if◌then◌else◌}
+use Rattle.std.specs.Prelude.{bytes_eq, List, [], ◌∷◌, Option, Some, None}
 
 mutual
   -- the pairs of a list, in order

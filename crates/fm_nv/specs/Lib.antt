@@ -3,7 +3,7 @@ pub mod Stored
 pub mod View
 pub mod Kept
 pub mod Falls
-pub mod Numbers
 pub mod Spelled
 pub mod Refusal
 pub mod Reading
+pub mod Laws

@@ -1,11 +1,15 @@
 -- Which pairs a list refuses, and by which fault.
-use Rattle.std.specs.Prelude.{ℕ, Bool, true, not, ◌&&◌, ◌||◌, if◌then◌else◌, nat_lt, nat_le, is_none, List, length, Option, Some, None}
+use Rattle.std.specs.Prelude.{ℕ, Bool, true, not, ◌&&◌, ◌||◌, if◌then◌else◌, nat_lt, nat_le}
+use Rattle.std.specs.Prelude.{is_none, List, length, Option, Some, None}
 use Rattle.std.specs.List.{list_all}
-use Rattle.fm_nv.specs.Data.{Pairs, Data, boolean, unsigned, signed, text, nested, unsigneds, texts, lists, lists_count, count, depth, has, add}
+use Rattle.fm_nv.specs.Data.{Pairs, Data, boolean, unsigned, signed, text, nested, unsigneds, texts}
+use Rattle.fm_nv.specs.Data.{lists, lists_count, count, depth, has, add}
 use Rattle.fm_nv.specs.declared.fault.NvFault.{NvFault}
-use Rattle.fm_nv.specs.declared.fault.NvFault.TheVariants.{BadName, Twice, TooDeep, TooMany, NoMemory}
+use Rattle.fm_nv.specs.declared.fault.NvFault.TheVariants.{BadName, Twice, TooDeep, TooMany}
+use Rattle.fm_nv.specs.declared.fault.NvFault.TheVariants.{NoMemory}
 
--- no text of the value has over 65,536 bytes, and the value is no array of over 65,535 items; a list in it keeps its own limits
+-- no text of the value has over 65,536 bytes, and the value is no array of over 65,535 items; a
+-- list in it keeps its own limits
 abbrev pub is_within : Data → Bool
 is_within (boolean b) = true
 is_within (unsigned n) = true

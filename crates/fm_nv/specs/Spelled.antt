@@ -1,14 +1,17 @@
 -- Which lists have a spelling, and what it is.
-use Rattle.std.specs.Prelude.{ℕ, ◌^◌, ◌≤◌, ℤ, pos, negsuc, Bool, true, not, ◌&&◌, if◌then◌else◌, nat_lt, nat_le, IsTrue, List, [], ◌∷◌, ◌++◌, length, flat_map}
+use Rattle.std.specs.Prelude.{ℕ, ◌^◌, ◌≤◌, ℤ, pos, negsuc, Bool, true, not, ◌&&◌, if◌then◌else◌}
+use Rattle.std.specs.Prelude.{nat_lt, nat_le, IsTrue, List, [], ◌∷◌, ◌++◌, length, flat_map}
 use Rattle.std.specs.List.{list_all}
 use Rattle.std.specs.Str.{is_utf8}
 use Rattle.std.specs.Int.{w64, cast_unsigned}
-use Rattle.fm_nv.specs.Data.{Pairs, Data, Lists, no_pairs, pair, boolean, unsigned, signed, text, nested, unsigneds, texts, lists, no_lists, list_then, count, lists_count, has, depth}
-use Rattle.fm_nv.specs.Numbers.{is_unsigned, u16_bytes, u64_bytes, long_text}
+use Rattle.fm_nv.specs.Data.{Pairs, Data, Lists, no_pairs, pair, boolean, unsigned, signed, text}
+use Rattle.fm_nv.specs.Data.{nested, unsigneds, texts, lists, no_lists, list_then, count}
+use Rattle.fm_nv.specs.Data.{lists_count, has, depth}
+use Rattle.fm_bytes.specs.Numbers.{is_unsigned, u16_bytes, u64_bytes, long_text}
 
 -- a name is a text of 1 to 255 bytes
-abbrev pub is_name : List ℕ → Bool
-is_name k = is_utf8 k && (nat_lt 0 (length k) && nat_le (length k) 255)
+abbrev pub is_pair_name : List ℕ → Bool
+is_pair_name k = is_utf8 k && (nat_lt 0 (length k) && nat_le (length k) 255)
 
 -- a text has at most 65,536 bytes
 abbrev pub is_text : List ℕ → Bool
@@ -17,7 +20,7 @@ is_text t = is_utf8 t && nat_le (length t) 65536
 -- each name is one
 abbrev pub names_fit : Pairs → Bool
 names_fit no_pairs = true
-names_fit (pair k d ps) = is_name k && names_fit ps
+names_fit (pair k d ps) = is_pair_name k && names_fit ps
 
 -- a signed number of 64 bits
 abbrev pub is_signed : ℤ → Bool
@@ -37,7 +40,7 @@ is_counted ps = nat_le (count ps) 65535 && distinct ps
 abbrev mutual
   pub pairs_fit : Pairs → Bool
   pairs_fit no_pairs = true
-  pairs_fit (pair k d ps) = is_name k && (value_fits d && pairs_fit ps)
+  pairs_fit (pair k d ps) = is_pair_name k && (value_fits d && pairs_fit ps)
 
   pub value_fits : Data → Bool
   value_fits (boolean b) = true
@@ -57,7 +60,8 @@ abbrev mutual
 abbrev pub list_fits : Pairs → Bool
 list_fits ps = is_counted ps && pairs_fit ps
 
--- a list has a spelling: the names are distinct and the counts, names and values within their limits, and no list in it is deeper than 8
+-- a list has a spelling: the names are distinct and the counts, names and values within their
+-- limits, and no list in it is deeper than 8
 pub record IsSpelledList (ps : Pairs) : Type 0 where
   pub fits : IsTrue (list_fits ps)
   pub shallow : depth ps ≤ 8
@@ -66,7 +70,8 @@ pub record IsSpelledList (ps : Pairs) : Type 0 where
 abbrev pub name_bytes : List ℕ → List ℕ
 name_bytes k = length k ∷ k
 
--- The spelling of a value is its tag and its content; a list is the number of its pairs, and each name with its value.
+-- The spelling of a value is its tag and its content; a list is the number of its pairs, and each
+-- name with its value.
 abbrev mutual
   pub body_bytes : Pairs → List ℕ
   body_bytes no_pairs = []

@@ -1,8 +1,11 @@
--- How a list of names and values is kept as a tree of numbers, by which a proof tells two lists apart.
-use Rattle.std.specs.Prelude.{◌≡◌, ℕ, zero, suc, ℤ, pos, negsuc, Bool, true, false, List, [], ◌∷◌, refl}
+-- How a list of names and values is kept as a tree of numbers, by which a proof tells two lists
+-- apart.
+use Rattle.std.specs.Prelude.{◌≡◌, ℕ, zero, suc, ℤ, pos, negsuc, Bool, true, false, List, [], ◌∷◌}
+use Rattle.std.specs.Prelude.{refl}
 use Rattle.std.proofs.Common.{sym, ap, ◌∙◌}
 use base.Stored.{Gv, gnil, gnum, gcons, Coded, num}
-use Rattle.fm_nv.specs.Data.{Pairs, Data, Lists, no_pairs, pair, boolean, unsigned, signed, text, nested, unsigneds, texts, lists, no_lists, list_then}
+use Rattle.fm_nv.specs.Data.{Pairs, Data, Lists, no_pairs, pair, boolean, unsigned, signed, text}
+use Rattle.fm_nv.specs.Data.{nested, unsigneds, texts, lists, no_lists, list_then}
 
 abbrev first : Gv → Gv
 first gnil = gnil
@@ -79,7 +82,15 @@ record Back : Type 0 where
   after : Data × Pairs
 
 abbrev no_back : Back
-no_back = record { numbers = []; words = []; datum = boolean false; pairs = no_pairs; arrays = no_lists; after = (boolean false, no_pairs) }
+no_back = record {
+  numbers = [];
+  words = [];
+  datum = boolean false;
+  pairs = no_pairs;
+  arrays =
+      no_lists;
+  after = (boolean false, no_pairs);
+}
 
 abbrev by_tag : ℕ → Gv → Back → Data
 by_tag zero g r = boolean (bit_back (num g))
@@ -131,4 +142,8 @@ mutual
   lists_same (list_then ps ls) = λ i. list_then (pairs_same ps i) (lists_same ls i)
 
 pub stored_pairs : Coded Pairs
-stored_pairs = record { code = pairs_code; inj = λ x y e. sym (pairs_same x) ∙ ap (λ g. (back g).pairs) e ∙ pairs_same y }
+stored_pairs = record {
+  code = pairs_code;
+  inj = λ x y e. sym (pairs_same x)
+      ∙ ap (λ g. (back g).pairs) e ∙ pairs_same y;
+}

@@ -1,9 +1,12 @@
 -- How the values of the program are seen as data.
-use Rattle.std.specs.Prelude.{◌≡◌, ℕ, zero, suc, ◌-◌, ◌*◌, ◌≤◌, IsTrue, List, [], ◌∷◌, length, take, drop}
-use Rattle.fm_nv.specs.Data.{Pairs, Data, no_pairs, pair, boolean, unsigned, signed, text, nested, unsigneds, texts, lists, lists_of, depth}
+use Rattle.std.specs.Prelude.{◌≡◌, ℕ, zero, suc, ◌-◌, ◌*◌, ◌≤◌, IsTrue, List, [], ◌∷◌, length, take}
+use Rattle.std.specs.Prelude.{drop}
+use Rattle.fm_nv.specs.Data.{Pairs, Data, no_pairs, pair, boolean, unsigned, signed, text, nested}
+use Rattle.fm_nv.specs.Data.{unsigneds, texts, lists, lists_of, depth}
 use Rattle.fm_nv.specs.Spelled.{names_fit}
 use Rattle.fm_nv.specs.declared.nv.Value.{Value}
-use Rattle.fm_nv.specs.declared.nv.Value.TheVariants.{Bool, Unsigned, Signed, Text, List as Nested, Unsigneds, Texts, Lists}
+use Rattle.fm_nv.specs.declared.nv.Value.TheVariants.{Bool, Unsigned, Signed, Text, List as Nested}
+use Rattle.fm_nv.specs.declared.nv.Value.TheVariants.{Unsigneds, Texts, Lists}
 use Rattle.fm_nv.specs.declared.nv.Cell.{Cell}
 
 -- a value as data
@@ -24,7 +27,8 @@ between begin end names = take (end - begin) (drop begin names)
 -- the pairs of the cells, whose names stand one behind the other from a place on
 abbrev pub pairs_in : List ℕ → ℕ → List Cell → Pairs
 pairs_in names begin [] = no_pairs
-pairs_in names begin (c ∷ cs) = pair (between begin c.end names) (datum c.value) (pairs_in names c.end cs)
+pairs_in names begin (c ∷ cs) =
+    pair (between begin c.end names) (datum c.value) (pairs_in names c.end cs)
 
 -- where the name at a place begins, counted from 0: where the one before it ends
 abbrev pub begins : ℕ → List Cell → ℕ → ℕ

@@ -1,12 +1,13 @@
 //! Pairs, kept with their names one behind the other.
 
 ghost use Rattle.std.specs.Prelude.{◌≡◌, ◌+◌, ◌<◌, ◌≤◌, OnOk, OnErr, IsTrue, length, option_map};
-ghost use Rattle.fm_nv.specs.Data.{no_pairs, add, count, depth, data_depth, find, name_at, value_at};
-ghost use Rattle.fm_nv.specs.Spelled.{is_name};
+ghost use Rattle.fm_nv.specs.Data.{no_pairs, add, count, depth, data_depth, find, name_at};
+ghost use Rattle.fm_nv.specs.Data.{value_at};
+ghost use Rattle.fm_nv.specs.Spelled.{is_pair_name};
 ghost use Rattle.fm_nv.specs.View.{AreEnds, begins, between, datum, pairs_in};
 
-use crate::no_memory::NoMemory;
 use crate::nv::{Cell, Content, Value};
+use fm_bytes::NoMemory;
 use std::alloc::Global;
 
 impl Content {
@@ -40,7 +41,7 @@ impl Content {
     pub(crate) fn name_bytes(&self, at: usize) -> &[u8]
         requires { at < count self.now }
         ensures name { result.now ≡ name_at at self.now }
-        ensures fits { IsTrue (is_name (name_at at self.now)) }
+        ensures fits { IsTrue (is_pair_name (name_at at self.now)) }
     {
         name_in(&self.names, &self.cells, at)
     }
@@ -70,7 +71,7 @@ impl Content {
 
     /// Adds a pair at the end, whether its name is there or not.
     pub(crate) fn push(&mut self, name: &str, value: Value) -> Result<(), NoMemory>
-        requires name { IsTrue (is_name name.now) }
+        requires name { IsTrue (is_pair_name name.now) }
         requires room { count self.old < 65535 }
         ensures ok { OnOk result (self.new ≡ add name.now (datum value) self.old) }
         ensures kept { OnErr result (self.new ≡ self.old) }

@@ -2,9 +2,8 @@
 
 ghost use Rattle.std.specs.Prelude.{◌≡◌, IfOk};
 
-use crate::no_memory::NoMemory;
-use crate::numbers::{Numbers, NvTexts};
 use crate::nv::{Cell, Content, Nv, NvLists, Value};
+use fm_bytes::{Copies, NoMemory};
 use std::alloc::Global;
 
 impl Nv {
@@ -89,29 +88,5 @@ impl NvLists {
             items.push(list.copy(alloc)?)?;
         }
         Ok(NvLists::from_vec(items))
-    }
-}
-
-impl Numbers {
-    /// The same array once more.
-    pub fn copy(&self, alloc: Global) -> Result<Numbers, NoMemory>
-        ensures { IfOk result (λ array. array ≡ self.now) }
-    {
-        let items = Vec::from_slice(alloc, self.as_slice())?;
-        Ok(Numbers::from_vec(items))
-    }
-}
-
-impl NvTexts {
-    /// The same array once more.
-    pub fn copy(&self, alloc: Global) -> Result<NvTexts, NoMemory>
-        ensures { IfOk result (λ array. array ≡ self.now) }
-    {
-        let texts = self.as_slice();
-        let mut items = Vec::new(alloc);
-        'items: for text in texts {
-            items.push(text.copy(alloc)?)?;
-        }
-        Ok(NvTexts::from_vec(items))
     }
 }

@@ -3,13 +3,13 @@
 ghost use Rattle.std.specs.Prelude.{◌≡◌, IfOk};
 ghost use Rattle.fm_nv.specs.Spelled.{distinct};
 
-use crate::no_memory::NoMemory;
 use crate::nv::Content;
+use fm_bytes::NoMemory;
 use std::alloc::Global;
 use std::collections::BTreeSet;
 
-/// Whether no name stands twice. The names are looked up in a set of those that stand behind, so the
-/// time is that of a sort, whatever the names are.
+/// Whether no name stands twice. The names are looked up in a set of those that stand behind, so
+/// the time is that of a sort, whatever the names are.
 pub(crate) fn are_distinct(alloc: Global, pairs: &Content) -> Result<bool, NoMemory>
     ensures { IfOk result (λ b. b ≡ distinct pairs.now) }
 {

@@ -2,7 +2,7 @@
 
 ghost use Rattle.std.specs.Prelude.{◌≡◌, ◌+◌, ◌==◌, ◌<◌, ◌≤◌, IsTrue, Some, option_map};
 ghost use Rattle.fm_nv.specs.Data.{no_pairs, count, depth, data_depth, find, name_at, value_at};
-ghost use Rattle.fm_nv.specs.Spelled.{IsSpelledList, is_name};
+ghost use Rattle.fm_nv.specs.Spelled.{IsSpelledList, is_pair_name};
 ghost use Rattle.fm_nv.specs.View.{datum};
 
 use crate::nv::{Nv, Value};
@@ -86,7 +86,7 @@ impl Nv {
     pub(crate) fn name_bytes(&self, at: usize) -> &[u8]
         requires { at < count self.now }
         ensures name { result.now ≡ name_at at self.now }
-        ensures fits { IsTrue (is_name (name_at at self.now)) }
+        ensures fits { IsTrue (is_pair_name (name_at at self.now)) }
     {
         match &self.content {
             None => unreachable!(),

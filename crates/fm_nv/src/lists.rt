@@ -37,8 +37,8 @@ impl NvLists {
         self.items.len()
     }
 
-    /// How deep the deepest of the lists is, and 0 where there is none. It takes one step a list, since
-    /// each list keeps its own depth.
+    /// How deep the deepest of the lists is, and 0 where there is none. It takes one step a list,
+    /// since each list keeps its own depth.
     pub fn depth(&self) -> u64
         ensures deep { result ≡ lists_depth (lists_of self.now) }
         ensures bound { result ≤ 8 }

@@ -1,6 +1,6 @@
 //! Lists of names and values.
 
-use crate::numbers::{Numbers, NvTexts};
+use crate::numbers::{NvNumbers, NvTexts};
 use crate::text::NvText;
 use std::alloc::Global;
 use std::marker::Model;
@@ -20,7 +20,7 @@ pub enum Value {
     /// A list in the list.
     List(Nv),
     /// An array of numbers from 0.
-    Unsigneds(Numbers),
+    Unsigneds(NvNumbers),
     /// An array of texts.
     Texts(NvTexts),
     /// An array of lists.
@@ -41,9 +41,9 @@ pub(crate) struct Cell {
 pub(crate) struct Content {
     /// How deep the list of the pairs is.
     pub(crate) deep: u64,
-    /// The names, one behind the other: each begins where the name before it ends. They are bytes and
-    /// no `String`, since each name is a text by itself, and is cut out and compared without a look at
-    /// where characters begin.
+    /// The names, one behind the other: each begins where the name before it ends. They are bytes
+    /// and no `String`, since each name is a text by itself, and is cut out and compared without a
+    /// look at where characters begin.
     pub(crate) names: Vec<u8>,
     /// A cell for each pair.
     pub(crate) cells: Vec<Cell>,

@@ -1,23 +1,24 @@
 //! A pair more in a list.
 
-ghost use Rattle.std.specs.Prelude.{◌≡◌, ◌≤◌, ◌&&◌, true, Err, None, OnOk, OnErr, IfOk, IfErr, IfNone, IfSome, IsTrue, length, nat_lt, nat_le};
+ghost use Rattle.std.specs.Prelude.{◌≡◌, ◌≤◌, ◌&&◌, true, Err, None, OnOk, OnErr, IfOk, IfErr};
+ghost use Rattle.std.specs.Prelude.{IfNone, IfSome, IsTrue, length, nat_lt, nat_le};
 ghost use Rattle.std.specs.Bool.{OnTrue};
 ghost use Rattle.std.specs.List.{list_all};
 ghost use Rattle.std.specs.Str.{is_utf8};
 ghost use Rattle.fm_nv.specs.Data.{no_pairs, add, has, depth, data_depth};
 ghost use Rattle.fm_nv.specs.Refusal.{refusal, is_within, IsWant};
-ghost use Rattle.fm_nv.specs.Spelled.{is_name, value_fits, is_text};
+ghost use Rattle.fm_nv.specs.Spelled.{is_pair_name, value_fits, is_text};
 ghost use Rattle.fm_nv.specs.View.{datum};
 
 use crate::fault::NvFault;
-use crate::numbers::NvTexts;
+use crate::numbers::{NvTexts, are_few};
 use crate::nv::{Content, Nv, Value};
 use crate::text::NvText;
 use std::alloc::Global;
 
 impl Nv {
-    /// Adds a pair at the end. The first fault in the order of the variants refuses it, and takes no
-    /// memory; a list that refused a pair is as it was.
+    /// Adds a pair at the end. The first fault in the order of the variants refuses it, and takes
+    /// no memory; a list that refused a pair is as it was.
     pub fn push(&mut self, name: &str, value: Value) -> Result<(), NvFault>
         ensures ok { OnOk result (self.new ≡ add name.now (datum value) self.old) }
         ensures kept { OnErr result (self.new ≡ self.old) }
@@ -50,7 +51,7 @@ impl Nv {
 
 /// A pair alone.
 fn only_pair(alloc: Global, name: &str, value: Value) -> Result<Box<Content>, NvFault>
-    requires { IsTrue (is_name name.now) }
+    requires { IsTrue (is_pair_name name.now) }
     ensures ok { IfOk result (λ content. content.value ≡ add name.now (datum value) no_pairs) }
     ensures want { IfErr result IsWant }
 {
@@ -133,7 +134,7 @@ impl Value {
             }
             Value::Text(text) => is_short(text),
             Value::List(list) => list.depth() <= 8,
-            Value::Unsigneds(numbers) => numbers.are_few(),
+            Value::Unsigneds(numbers) => are_few(numbers),
             Value::Texts(texts) => texts.as_slice().len() <= 65535 && are_short(texts),
             Value::Lists(lists) => lists.depth() <= 8 && lists.len() <= 65535,
         }

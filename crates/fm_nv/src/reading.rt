@@ -2,27 +2,28 @@
 
 ghost use Rattle.std.specs.Prelude.{◌≡◌, ◌<◌, ◌≤◌, false, Some, None, IfOk, IfErr, IsTrue, OnOk};
 ghost use Rattle.std.specs.Int.{w64, cast_signed};
-ghost use Rattle.fm_nv.specs.Data.{add, count, depth, boolean, unsigned, signed, text, nested, unsigneds, texts, lists, lists_of};
-ghost use Rattle.fm_nv.specs.Reading.{IsMisspelled, made, number_from, flag_from, value_text_from, name_from, items_from, array_from, tagged_from, value_from, pair_from, list_from, to_pairs};
-ghost use Rattle.fm_nv.specs.Spelled.{distinct, is_name, pairs_fit};
+ghost use Rattle.fm_nv.specs.Data.{add, count, depth, boolean, unsigned, signed, text, nested};
+ghost use Rattle.fm_nv.specs.Data.{unsigneds, texts, lists, lists_of};
+ghost use Rattle.fm_nv.specs.Reading.{name_from, tagged_from, value_from, pair_from, list_from};
+ghost use Rattle.fm_nv.specs.Reading.{to_pairs};
+ghost use Rattle.fm_bytes.specs.Reading.{IsMisspelled, made, number_from, flag_from};
+ghost use Rattle.fm_bytes.specs.Reading.{long_text_from, items_from, counted_from};
+ghost use Rattle.fm_nv.specs.Spelled.{distinct, is_pair_name, pairs_fit};
 ghost use Rattle.fm_nv.specs.View.{datum};
 
 use crate::distinct::are_distinct;
-use crate::fault::ReadFault;
-use crate::input::Input;
-use crate::numbers::{Numbers, NvTexts};
+use crate::numbers::{NvNumbers, NvTexts};
 use crate::nv::{Content, Nv, NvLists, Value};
 use crate::text::NvText;
+use fm_bytes::{Input, ReadFault};
 use std::alloc::Global;
 
-impl<'a> Input<'a> {
-    /// A list of names and values.
-    pub fn list(&mut self, alloc: Global) -> Result<Nv, ReadFault>
-        ensures ok { IfOk result (λ ps. list_from 8 self.old ≡ Some (ps, self.new)) }
-        ensures err { IfErr result (λ f. IsMisspelled f → list_from 8 self.old ≡ None) }
-    {
-        read_list(self, alloc, 8)
-    }
+/// A list of names and values, read from the front of what is left.
+pub fn take_nv(input: &mut Input, alloc: Global) -> Result<Nv, ReadFault>
+    ensures ok { IfOk result (λ ps. list_from 8 input.old ≡ Some (ps, input.new)) }
+    ensures err { IfErr result (λ f. IsMisspelled f → list_from 8 input.old ≡ None) }
+{
+    read_list(input, alloc, 8)
 }
 
 /// A list that is at most so deep.
@@ -42,13 +43,16 @@ fn read_list(input: &mut Input, alloc: Global, deep: u64) -> Result<Nv, ReadFaul
 
 /// The pairs of a list, behind their number. Lists in them are at most so deep.
 #[cycle(reading)]
-#[tactic(auto, unfolding(crate::specs::Reading::array_from))]
+#[tactic(auto, unfolding(fm_bytes::specs::Reading::counted_from))]
 fn read_pairs(input: &mut Input, alloc: Global, deep: u64) -> Result<Content, ReadFault>
     requires { deep < 8 }
-    ensures ok { IfOk result (λ ps. array_from (pair_from (list_from deep)) input.old ≡ Some (to_pairs ps, input.new)) }
-    ensures err { IfErr result (λ f. IsMisspelled f → array_from (pair_from (list_from deep)) input.old ≡ None) }
+    ensures ok { IfOk result
+        (λ ps. counted_from 2 (pair_from (list_from deep)) input.old
+        ≡ Some (to_pairs ps, input.new)) }
+    ensures err { IfErr result
+        (λ f. IsMisspelled f → counted_from 2 (pair_from (list_from deep)) input.old ≡ None) }
 {
-    let count = input.short()?;
+    let count = input.take_u16()?;
     read_each_pair(input, alloc, deep, count)
 }
 
@@ -61,8 +65,11 @@ fn read_each_pair(
     count: u16,
 ) -> Result<Content, ReadFault>
     requires { deep < 8 }
-    ensures ok { IfOk result (λ ps. items_from (pair_from (list_from deep)) count input.old ≡ Some (to_pairs ps, input.new)) }
-    ensures err { IfErr result (λ f. IsMisspelled f → items_from (pair_from (list_from deep)) count input.old ≡ None) }
+    ensures ok { IfOk result
+        (λ ps. items_from (pair_from (list_from deep)) count input.old
+        ≡ Some (to_pairs ps, input.new)) }
+    ensures err { IfErr result
+        (λ f. IsMisspelled f → items_from (pair_from (list_from deep)) count input.old ≡ None) }
 {
     let mut content = Content::new(alloc);
     'pairs: for at in 0..count {
@@ -83,7 +90,9 @@ fn read_pair(
 ) -> Result<(), ReadFault>
     requires deep { deep < 8 }
     requires room { count content.old < 65535 }
-    ensures ok { OnOk result (made (λ p. add p.0 p.1 content.old) (pair_from (list_from deep) input.old) ≡ Some (content.new, input.new)) }
+    ensures ok { OnOk result
+        (made (λ p. add p.0 p.1 content.old) (pair_from (list_from deep) input.old)
+        ≡ Some (content.new, input.new)) }
     ensures err { IfErr result (λ f. IsMisspelled f → pair_from (list_from deep) input.old ≡ None) }
 {
     let name = read_name(input)?;
@@ -97,13 +106,13 @@ fn read_pair(
 fn read_name<'a>(input: &mut Input<'a>) -> Result<&'a str, ReadFault>
     ensures ok { IfOk result (λ t. name_from input.old ≡ Some (t.now, input.new)) }
     ensures err { IfErr result (λ f. IsMisspelled f → name_from input.old ≡ None) }
-    ensures fits { IfOk result (λ t. IsTrue (is_name t.now)) }
+    ensures fits { IfOk result (λ t. IsTrue (is_pair_name t.now)) }
 {
-    let length = input.byte()?;
+    let length = input.take_u8()?;
     if length == 0 {
         return Err(ReadFault::NoSpelling);
     }
-    input.text(usize::from(length))
+    input.take_text(usize::from(length))
 }
 
 /// A value: its tag, and its content.
@@ -111,10 +120,12 @@ fn read_name<'a>(input: &mut Input<'a>) -> Result<&'a str, ReadFault>
 #[tactic(auto, unfolding(crate::specs::Reading::value_from))]
 fn read_value(input: &mut Input, alloc: Global, deep: u64) -> Result<Value, ReadFault>
     requires { deep < 8 }
-    ensures ok { IfOk result (λ v. value_from (list_from deep) input.old ≡ Some (datum v, input.new)) }
-    ensures err { IfErr result (λ f. IsMisspelled f → value_from (list_from deep) input.old ≡ None) }
+    ensures ok { IfOk result
+        (λ v. value_from (list_from deep) input.old ≡ Some (datum v, input.new)) }
+    ensures err { IfErr result
+        (λ f. IsMisspelled f → value_from (list_from deep) input.old ≡ None) }
 {
-    let tag = input.byte()?;
+    let tag = input.take_u8()?;
     read_tagged(input, alloc, deep, tag)
 }
 
@@ -123,8 +134,10 @@ fn read_value(input: &mut Input, alloc: Global, deep: u64) -> Result<Value, Read
 #[tactic(auto, unfolding(crate::specs::Reading::tagged_from))]
 fn read_tagged(input: &mut Input, alloc: Global, deep: u64, tag: u8) -> Result<Value, ReadFault>
     requires { deep < 8 }
-    ensures ok { IfOk result (λ v. tagged_from (list_from deep) tag input.old ≡ Some (datum v, input.new)) }
-    ensures err { IfErr result (λ f. IsMisspelled f → tagged_from (list_from deep) tag input.old ≡ None) }
+    ensures ok { IfOk result
+        (λ v. tagged_from (list_from deep) tag input.old ≡ Some (datum v, input.new)) }
+    ensures err { IfErr result
+        (λ f. IsMisspelled f → tagged_from (list_from deep) tag input.old ≡ None) }
 {
     match tag {
         1 => read_flag(input),
@@ -140,12 +153,12 @@ fn read_tagged(input: &mut Input, alloc: Global, deep: u64, tag: u8) -> Result<V
 }
 
 /// A truth value.
-#[tactic(auto, unfolding(crate::specs::Reading::flag_from))]
+#[tactic(auto, unfolding(fm_bytes::specs::Reading::flag_from))]
 fn read_flag(input: &mut Input) -> Result<Value, ReadFault>
     ensures ok { IfOk result (λ v. made boolean (flag_from input.old) ≡ Some (datum v, input.new)) }
     ensures err { IfErr result (λ f. IsMisspelled f → made boolean (flag_from input.old) ≡ None) }
 {
-    match input.byte()? {
+    match input.take_u8()? {
         0 => Ok(Value::Bool(false)),
         1 => Ok(Value::Bool(true)),
         _ => Err(ReadFault::NoSpelling),
@@ -154,41 +167,36 @@ fn read_flag(input: &mut Input) -> Result<Value, ReadFault>
 
 /// A number from 0.
 fn read_unsigned(input: &mut Input) -> Result<Value, ReadFault>
-    ensures ok { IfOk result (λ v. made unsigned (number_from 8 input.old) ≡ Some (datum v, input.new)) }
-    ensures err { IfErr result (λ f. IsMisspelled f → made unsigned (number_from 8 input.old) ≡ None) }
+    ensures ok { IfOk result
+        (λ v. made unsigned (number_from 8 input.old) ≡ Some (datum v, input.new)) }
+    ensures err { IfErr result
+        (λ f. IsMisspelled f → made unsigned (number_from 8 input.old) ≡ None) }
 {
-    let number = input.long()?;
+    let number = input.take_u64()?;
     Ok(Value::Unsigned(number))
 }
 
 /// A number with a sign.
 fn read_signed(input: &mut Input) -> Result<Value, ReadFault>
-    ensures ok { IfOk result (λ v. made (λ n. signed (cast_signed w64 n)) (number_from 8 input.old) ≡ Some (datum v, input.new)) }
-    ensures err { IfErr result (λ f. IsMisspelled f → made (λ n. signed (cast_signed w64 n)) (number_from 8 input.old) ≡ None) }
+    ensures ok { IfOk result
+        (λ v. made (λ n. signed (cast_signed w64 n)) (number_from 8 input.old)
+        ≡ Some (datum v, input.new)) }
+    ensures err { IfErr result
+        (λ f. IsMisspelled f → made (λ n. signed (cast_signed w64 n)) (number_from 8 input.old)
+        ≡ None) }
 {
-    let number = input.long()?;
+    let number = input.take_u64()?;
     Ok(Value::Signed(number.cast_signed()))
-}
-
-/// A text of at most 65,536 bytes behind its length in four bytes.
-#[tactic(auto, unfolding(crate::specs::Reading::value_text_from))]
-fn read_text<'a>(input: &mut Input<'a>) -> Result<&'a str, ReadFault>
-    ensures ok { IfOk result (λ t. value_text_from input.old ≡ Some (t.now, input.new)) }
-    ensures err { IfErr result (λ f. IsMisspelled f → value_text_from input.old ≡ None) }
-{
-    let length = input.word()?;
-    if length > 65536 {
-        return Err(ReadFault::NoSpelling);
-    }
-    input.text(length as usize)
 }
 
 /// A text.
 fn read_text_value(input: &mut Input, alloc: Global) -> Result<Value, ReadFault>
-    ensures ok { IfOk result (λ v. made text (value_text_from input.old) ≡ Some (datum v, input.new)) }
-    ensures err { IfErr result (λ f. IsMisspelled f → made text (value_text_from input.old) ≡ None) }
+    ensures ok { IfOk result
+        (λ v. made text (long_text_from 65536 input.old) ≡ Some (datum v, input.new)) }
+    ensures err { IfErr result
+        (λ f. IsMisspelled f → made text (long_text_from 65536 input.old) ≡ None) }
 {
-    let text = read_text(input)?;
+    let text = input.take_long_text(65536)?;
     Ok(Value::Text(NvText::new(alloc, text)?))
 }
 
@@ -196,57 +204,70 @@ fn read_text_value(input: &mut Input, alloc: Global) -> Result<Value, ReadFault>
 #[cycle(reading)]
 fn read_nested(input: &mut Input, alloc: Global, deep: u64) -> Result<Value, ReadFault>
     requires { deep < 8 }
-    ensures ok { IfOk result (λ v. made nested (list_from deep input.old) ≡ Some (datum v, input.new)) }
-    ensures err { IfErr result (λ f. IsMisspelled f → made nested (list_from deep input.old) ≡ None) }
+    ensures ok { IfOk result
+        (λ v. made nested (list_from deep input.old) ≡ Some (datum v, input.new)) }
+    ensures err { IfErr result
+        (λ f. IsMisspelled f → made nested (list_from deep input.old) ≡ None) }
 {
     let list = read_list(input, alloc, deep)?;
     Ok(Value::List(list))
 }
 
 /// An array of numbers.
-#[tactic(auto, unfolding(crate::specs::Reading::array_from))]
+#[tactic(auto, unfolding(fm_bytes::specs::Reading::counted_from))]
 fn read_unsigneds(input: &mut Input, alloc: Global) -> Result<Value, ReadFault>
-    ensures ok { IfOk result (λ v. made unsigneds (array_from (number_from 8) input.old) ≡ Some (datum v, input.new)) }
-    ensures err { IfErr result (λ f. IsMisspelled f → made unsigneds (array_from (number_from 8) input.old) ≡ None) }
+    ensures ok { IfOk result
+        (λ v. made unsigneds (counted_from 2 (number_from 8) input.old)
+        ≡ Some (datum v, input.new)) }
+    ensures err { IfErr result
+        (λ f. IsMisspelled f → made unsigneds (counted_from 2 (number_from 8) input.old) ≡ None) }
 {
-    let count = input.short()?;
+    let count = input.take_u16()?;
     let items = read_each_number(input, alloc, count)?;
-    Ok(Value::Unsigneds(Numbers::from_vec(items)))
+    Ok(Value::Unsigneds(NvNumbers::new(items)))
 }
 
 /// So many numbers.
 fn read_each_number(input: &mut Input, alloc: Global, count: u16) -> Result<Vec<u64>, ReadFault>
-    ensures ok { IfOk result (λ v. items_from (number_from 8) count input.old ≡ Some (v.items, input.new)) }
-    ensures err { IfErr result (λ f. IsMisspelled f → items_from (number_from 8) count input.old ≡ None) }
+    ensures ok { IfOk result
+        (λ v. items_from (number_from 8) count input.old ≡ Some (v.items, input.new)) }
+    ensures err { IfErr result
+        (λ f. IsMisspelled f → items_from (number_from 8) count input.old ≡ None) }
 {
     let mut items = Vec::new(alloc);
     'items: for at in 0..count {
         let _at = at;
-        items.push(input.long()?)?;
+        items.push(input.take_u64()?)?;
     }
     Ok(items)
 }
 
 /// An array of texts.
-#[tactic(auto, unfolding(crate::specs::Reading::array_from))]
+#[tactic(auto, unfolding(fm_bytes::specs::Reading::counted_from))]
 fn read_texts(input: &mut Input, alloc: Global) -> Result<Value, ReadFault>
-    ensures ok { IfOk result (λ v. made texts (array_from value_text_from input.old) ≡ Some (datum v, input.new)) }
-    ensures err { IfErr result (λ f. IsMisspelled f → made texts (array_from value_text_from input.old) ≡ None) }
+    ensures ok { IfOk result
+        (λ v. made texts (counted_from 2 (long_text_from 65536) input.old)
+        ≡ Some (datum v, input.new)) }
+    ensures err { IfErr result
+        (λ f. IsMisspelled f → made texts (counted_from 2 (long_text_from 65536) input.old)
+        ≡ None) }
 {
-    let count = input.short()?;
+    let count = input.take_u16()?;
     let items = read_each_text(input, alloc, count)?;
-    Ok(Value::Texts(NvTexts::from_vec(items)))
+    Ok(Value::Texts(NvTexts::new(items)))
 }
 
 /// So many texts.
 fn read_each_text(input: &mut Input, alloc: Global, count: u16) -> Result<Vec<NvText>, ReadFault>
-    ensures ok { IfOk result (λ v. items_from value_text_from count input.old ≡ Some (v.items, input.new)) }
-    ensures err { IfErr result (λ f. IsMisspelled f → items_from value_text_from count input.old ≡ None) }
+    ensures ok { IfOk result
+        (λ v. items_from (long_text_from 65536) count input.old ≡ Some (v.items, input.new)) }
+    ensures err { IfErr result
+        (λ f. IsMisspelled f → items_from (long_text_from 65536) count input.old ≡ None) }
 {
     let mut items = Vec::new(alloc);
     'items: for at in 0..count {
         let _at = at;
-        let text = read_text(input)?;
+        let text = input.take_long_text(65536)?;
         items.push(NvText::new(alloc, text)?)?;
     }
     Ok(items)
@@ -254,13 +275,17 @@ fn read_each_text(input: &mut Input, alloc: Global, count: u16) -> Result<Vec<Nv
 
 /// An array of lists.
 #[cycle(reading)]
-#[tactic(auto, unfolding(crate::specs::Reading::array_from))]
+#[tactic(auto, unfolding(fm_bytes::specs::Reading::counted_from))]
 fn read_lists(input: &mut Input, alloc: Global, deep: u64) -> Result<Value, ReadFault>
     requires { deep < 8 }
-    ensures ok { IfOk result (λ v. made (λ ls. lists (lists_of ls)) (array_from (list_from deep) input.old) ≡ Some (datum v, input.new)) }
-    ensures err { IfErr result (λ f. IsMisspelled f → made (λ ls. lists (lists_of ls)) (array_from (list_from deep) input.old) ≡ None) }
+    ensures ok { IfOk result
+        (λ v. made (λ ls. lists (lists_of ls)) (counted_from 2 (list_from deep) input.old)
+        ≡ Some (datum v, input.new)) }
+    ensures err { IfErr result
+        (λ f. IsMisspelled f → made (λ ls. lists (lists_of ls))
+        (counted_from 2 (list_from deep) input.old) ≡ None) }
 {
-    let count = input.short()?;
+    let count = input.take_u16()?;
     let items = read_each_list(input, alloc, deep, count)?;
     Ok(Value::Lists(NvLists::from_vec(items)))
 }
@@ -274,8 +299,10 @@ fn read_each_list(
     count: u16,
 ) -> Result<Vec<Nv>, ReadFault>
     requires { deep < 8 }
-    ensures ok { IfOk result (λ v. items_from (list_from deep) count input.old ≡ Some (v.items, input.new)) }
-    ensures err { IfErr result (λ f. IsMisspelled f → items_from (list_from deep) count input.old ≡ None) }
+    ensures ok { IfOk result
+        (λ v. items_from (list_from deep) count input.old ≡ Some (v.items, input.new)) }
+    ensures err { IfErr result
+        (λ f. IsMisspelled f → items_from (list_from deep) count input.old ≡ None) }
 {
     let mut items = Vec::new(alloc);
     'items: for at in 0..count {

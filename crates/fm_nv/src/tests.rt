@@ -1,9 +1,7 @@
 //! Bytes and answers that are known from outside, and each call once with ample memory.
 
-use crate::{
-    Input, Numbers, Nv, NvFault, NvLists, NvText, NvTexts, Value, put_byte, put_long,
-    put_long_text, put_short, put_short_text, put_word, read_nv, write_nv,
-};
+use crate::{Nv, NvFault, NvLists, NvNumbers, NvText, NvTexts, Value, read_nv, take_nv, write_nv};
+use fm_bytes::{Copies, Input, put_u8, put_u16};
 use std::alloc::Global;
 use std::process::Abort;
 use std::test::Fail;
@@ -31,7 +29,7 @@ fn text(alloc: Global, text: &str) -> Result<Value, Fail> {
 /// An array of two numbers.
 fn numbers(alloc: Global) -> Result<Value, Fail> {
     let numbers = vec![in alloc; 1u64, 2u64]?;
-    Ok(Value::Unsigneds(Numbers::from_vec(numbers)))
+    Ok(Value::Unsigneds(NvNumbers::new(numbers)))
 }
 
 /// An array of two texts.
@@ -39,7 +37,7 @@ fn texts(alloc: Global, first: &str) -> Result<Value, Fail> {
     let mut texts = Vec::new(alloc);
     texts.push(NvText::new(alloc, first)?)?;
     texts.push(NvText::new(alloc, "yz")?)?;
-    Ok(Value::Texts(NvTexts::from_vec(texts)))
+    Ok(Value::Texts(NvTexts::new(texts)))
 }
 
 /// An array of two lists.
@@ -57,7 +55,8 @@ fn spelling(alloc: Global, list: &Nv) -> Result<Vec<u8>, Fail> {
     Ok(out)
 }
 
-/// A list that has a value of each kind, and a list and an array of lists that are as deep as wanted.
+/// A list that has a value of each kind, and a list and an array of lists that are as deep as
+/// wanted.
 fn of_each_kind(alloc: Global) -> Result<Nv, Fail> {
     let mut list = Nv::new(alloc);
     add(&mut list, "flag", Value::Bool(true))?;
@@ -202,7 +201,7 @@ fn a_value_beyond_its_limits_is_refused(rt: HostRuntime) -> Result<(), Fail> {
         Err(NvFault::TooMany)
     );
     let numbers = vec![in alloc; 0u64; 65536]?;
-    let many = Value::Unsigneds(Numbers::from_vec(numbers));
+    let many = Value::Unsigneds(NvNumbers::new(numbers));
     assert_eq!(rt; add(&mut list, "numbers", many), Err(NvFault::TooMany));
     assert_eq!(rt; add(&mut list, "text", text(alloc, &most)?), Ok(()));
     assert_eq!(rt; list.len(), 1);
@@ -253,9 +252,9 @@ fn an_array_is_copied_and_given_back(rt: HostRuntime) -> Result<(), Fail> {
 fn a_full_list_is_read_and_takes_no_more(rt: HostRuntime) -> Result<(), Fail> {
     let alloc = rt.alloc();
     let mut bytes = Vec::new(alloc);
-    put_short(65535, &mut bytes)?;
+    put_u16(65535, &mut bytes)?;
     for number in 0..65535u32 {
-        put_byte(8, &mut bytes)?;
+        put_u8(8, &mut bytes)?;
         let name = format!(in alloc; "{number:08}")?;
         bytes.extend_from_slice(name.as_bytes())?;
         bytes.extend_from_slice(b"\x01\x01")?;
@@ -272,35 +271,9 @@ fn a_full_list_is_read_and_takes_no_more(rt: HostRuntime) -> Result<(), Fail> {
 }
 
 #[test]
-fn numbers_and_texts_are_written(rt: HostRuntime) -> Result<(), Fail> {
-    let mut bytes = Vec::new(rt.alloc());
-    put_byte(1, &mut bytes)?;
-    put_short(258, &mut bytes)?;
-    put_word(0x0102_0304, &mut bytes)?;
-    put_long(0x0102_0304_0506_0708, &mut bytes)?;
-    put_short_text("ab", &mut bytes)?;
-    put_long_text("c", &mut bytes)?;
-    let expected =
-        b"\x01\x01\x02\x01\x02\x03\x04\x01\x02\x03\x04\x05\x06\x07\x08\x00\x02ab\x00\x00\x00\x01c";
-    assert_eq!(rt; bytes.as_slice(), expected.as_slice());
-    Ok(())
-}
-
-#[test]
-fn numbers_and_texts_are_read(rt: HostRuntime) -> Result<(), Fail> {
-    let mut input = Input::new(
-        b"\x01\x01\x02\x01\x02\x03\x04\x01\x02\x03\x04\x05\x06\x07\x08\x00\x02ab\x00c",
-    );
-    assert_eq!(rt; input.byte()?, 1);
-    assert_eq!(rt; input.short()?, 258);
-    assert_eq!(rt; input.word()?, 0x0102_0304);
-    assert_eq!(rt; input.long()?, 0x0102_0304_0506_0708);
-    assert_eq!(rt; input.short_text()?, "ab");
-    assert_eq!(rt; input.left(), 2);
-    assert_eq!(rt; input.piece(1)?, b"\x00".as_slice());
-    assert_eq!(rt; input.text(1)?, "c");
-    assert!(rt; input.byte().is_err());
+fn a_list_is_taken_from_the_front(rt: HostRuntime) -> Result<(), Fail> {
+    let alloc = rt.alloc();
     let mut list = Input::new(b"\x00\x00");
-    assert!(rt; list.list(rt.alloc())?.is_empty());
+    assert!(rt; take_nv(&mut list, alloc)?.is_empty());
     Ok(())
 }

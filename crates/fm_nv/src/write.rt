@@ -1,17 +1,18 @@
 //! The spelling of a list, written.
 
-ghost use Rattle.std.specs.Prelude.{◌≡◌, ◌++◌, ◌∷◌, [], ◌&&◌, ◌≤◌, OnOk, OnErr, IsTrue, length, flat_map, nat_le, if◌then◌else◌};
+ghost use Rattle.std.specs.Prelude.{◌≡◌, ◌++◌, ◌∷◌, [], ◌&&◌, ◌≤◌, OnOk, OnErr, IsTrue, length};
+ghost use Rattle.std.specs.Prelude.{flat_map, nat_le, if◌then◌else◌};
 ghost use Rattle.std.specs.List.{list_all};
 ghost use Rattle.std.specs.Int.{w64, cast_unsigned};
 ghost use Rattle.fm_nv.specs.Data.{lists_count, lists_of};
-ghost use Rattle.fm_nv.specs.Numbers.{u16_bytes, u64_bytes, long_text};
-ghost use Rattle.fm_nv.specs.Spelled.{IsSpelledList, is_name, is_text, value_fits, name_bytes, value_bytes, body_bytes, lists_bytes, pairs_bytes};
+ghost use Rattle.fm_bytes.specs.Numbers.{u16_bytes, u64_bytes, long_text};
+ghost use Rattle.fm_nv.specs.Spelled.{IsSpelledList, is_pair_name, is_text, value_fits, name_bytes};
+ghost use Rattle.fm_nv.specs.Spelled.{value_bytes, body_bytes, lists_bytes, pairs_bytes};
 ghost use Rattle.fm_nv.specs.View.{datum};
 
-use crate::no_memory::NoMemory;
-use crate::numbers::{Numbers, NvTexts};
+use crate::numbers::{NvNumbers, NvTexts};
 use crate::nv::{Nv, NvLists, Value};
-use crate::output::{put_byte, put_long, put_long_text, put_short};
+use fm_bytes::{NoMemory, put_long_text, put_u8, put_u16, put_u64};
 
 /// Writes the spelling of a list behind what `out` holds. Each list has one.
 pub fn write_nv(nv: &Nv, out: &mut Vec<u8>) -> Result<(), NoMemory>
@@ -31,7 +32,7 @@ pub fn write_nv(nv: &Nv, out: &mut Vec<u8>) -> Result<(), NoMemory>
 fn put_list(nv: &Nv, out: &mut Vec<u8>) -> Result<(), NoMemory>
     ensures ok { OnOk result (out.new.items ≡ out.old.items ++ pairs_bytes nv.now) }
 {
-    put_short(nv.len() as u16, out)?;
+    put_u16(nv.len() as u16, out)?;
     put_pairs(nv, out)
 }
 
@@ -51,9 +52,10 @@ fn put_pairs(nv: &Nv, out: &mut Vec<u8>) -> Result<(), NoMemory>
 /// Writes a name behind its length, and the value.
 #[cycle(writing)]
 fn put_pair(name: &[u8], value: &Value, out: &mut Vec<u8>) -> Result<(), NoMemory>
-    requires name { IsTrue (is_name name.now) }
+    requires name { IsTrue (is_pair_name name.now) }
     requires value { IsTrue (value_fits (datum value.now)) }
-    ensures ok { OnOk result (out.new.items ≡ out.old.items ++ (name_bytes name.now ++ value_bytes (datum value.now))) }
+    ensures ok { OnOk result
+        (out.new.items ≡ out.old.items ++ (name_bytes name.now ++ value_bytes (datum value.now))) }
 {
     put_name(name, out)?;
     put_value(value, out)
@@ -61,10 +63,10 @@ fn put_pair(name: &[u8], value: &Value, out: &mut Vec<u8>) -> Result<(), NoMemor
 
 /// Writes a name behind its length in one byte.
 fn put_name(name: &[u8], out: &mut Vec<u8>) -> Result<(), NoMemory>
-    requires { IsTrue (is_name name.now) }
+    requires { IsTrue (is_pair_name name.now) }
     ensures ok { OnOk result (out.new.items ≡ out.old.items ++ name_bytes name.now) }
 {
-    put_byte(name.len() as u8, out)?;
+    put_u8(name.len() as u8, out)?;
     out.extend_from_slice(name)?;
     Ok(())
 }
@@ -91,24 +93,25 @@ fn put_value(value: &Value, out: &mut Vec<u8>) -> Result<(), NoMemory>
 fn put_flag(flag: bool, out: &mut Vec<u8>) -> Result<(), NoMemory>
     ensures ok { OnOk result (out.new.items ≡ out.old.items ++ 1 ∷ (if flag then 1 else 0) ∷ []) }
 {
-    put_byte(1, out)?;
-    put_byte(u8::from(flag), out)
+    put_u8(1, out)?;
+    put_u8(u8::from(flag), out)
 }
 
 /// Writes a number from 0 with its tag.
 fn put_unsigned(number: u64, out: &mut Vec<u8>) -> Result<(), NoMemory>
     ensures ok { OnOk result (out.new.items ≡ out.old.items ++ 2 ∷ u64_bytes number) }
 {
-    put_byte(2, out)?;
-    put_long(number, out)
+    put_u8(2, out)?;
+    put_u64(number, out)
 }
 
 /// Writes a number with a sign, with its tag.
 fn put_signed(number: i64, out: &mut Vec<u8>) -> Result<(), NoMemory>
-    ensures ok { OnOk result (out.new.items ≡ out.old.items ++ 3 ∷ u64_bytes (cast_unsigned w64 number)) }
+    ensures ok { OnOk result
+        (out.new.items ≡ out.old.items ++ 3 ∷ u64_bytes (cast_unsigned w64 number)) }
 {
-    put_byte(3, out)?;
-    put_long(number.cast_unsigned(), out)
+    put_u8(3, out)?;
+    put_u64(number.cast_unsigned(), out)
 }
 
 /// Writes a text with its tag.
@@ -116,7 +119,7 @@ fn put_text(text: &str, out: &mut Vec<u8>) -> Result<(), NoMemory>
     requires { IsTrue (is_text text.now) }
     ensures ok { OnOk result (out.new.items ≡ out.old.items ++ 4 ∷ long_text text.now) }
 {
-    put_byte(4, out)?;
+    put_u8(4, out)?;
     put_long_text(text, out)
 }
 
@@ -125,20 +128,22 @@ fn put_text(text: &str, out: &mut Vec<u8>) -> Result<(), NoMemory>
 fn put_nested(list: &Nv, out: &mut Vec<u8>) -> Result<(), NoMemory>
     ensures ok { OnOk result (out.new.items ≡ out.old.items ++ 5 ∷ pairs_bytes list.now) }
 {
-    put_byte(5, out)?;
+    put_u8(5, out)?;
     put_list(list, out)
 }
 
 /// Writes an array of numbers with its tag.
-fn put_unsigneds(numbers: &Numbers, out: &mut Vec<u8>) -> Result<(), NoMemory>
+fn put_unsigneds(numbers: &NvNumbers, out: &mut Vec<u8>) -> Result<(), NoMemory>
     requires { length numbers.now ≤ 65535 }
-    ensures ok { OnOk result (out.new.items ≡ out.old.items ++ 6 ∷ (u16_bytes (length numbers.now) ++ flat_map u64_bytes numbers.now)) }
+    ensures ok { OnOk result
+        (out.new.items ≡ out.old.items
+        ++ 6 ∷ (u16_bytes (length numbers.now) ++ flat_map u64_bytes numbers.now)) }
 {
     let items = numbers.as_slice();
-    put_byte(6, out)?;
-    put_short(items.len() as u16, out)?;
+    put_u8(6, out)?;
+    put_u16(items.len() as u16, out)?;
     'items: for number in items {
-        put_long(*number, out)?;
+        put_u64(*number, out)?;
     }
     Ok(())
 }
@@ -147,11 +152,13 @@ fn put_unsigneds(numbers: &Numbers, out: &mut Vec<u8>) -> Result<(), NoMemory>
 fn put_texts(texts: &NvTexts, out: &mut Vec<u8>) -> Result<(), NoMemory>
     requires count { length texts.now ≤ 65535 }
     requires texts { IsTrue (list_all is_text texts.now) }
-    ensures ok { OnOk result (out.new.items ≡ out.old.items ++ 7 ∷ (u16_bytes (length texts.now) ++ flat_map long_text texts.now)) }
+    ensures ok { OnOk result
+        (out.new.items ≡ out.old.items
+        ++ 7 ∷ (u16_bytes (length texts.now) ++ flat_map long_text texts.now)) }
 {
     let items = texts.as_slice();
-    put_byte(7, out)?;
-    put_short(items.len() as u16, out)?;
+    put_u8(7, out)?;
+    put_u16(items.len() as u16, out)?;
     'items: for text in items {
         put_long_text(text.get(), out)?;
     }
@@ -162,10 +169,12 @@ fn put_texts(texts: &NvTexts, out: &mut Vec<u8>) -> Result<(), NoMemory>
 #[cycle(writing)]
 fn put_lists(lists: &NvLists, out: &mut Vec<u8>) -> Result<(), NoMemory>
     requires { lists_count (lists_of lists.now) ≤ 65535 }
-    ensures ok { OnOk result (out.new.items ≡ out.old.items ++ 8 ∷ (u16_bytes (lists_count (lists_of lists.now)) ++ lists_bytes (lists_of lists.now))) }
+    ensures ok { OnOk result
+        (out.new.items ≡ out.old.items
+        ++ 8 ∷ (u16_bytes (lists_count (lists_of lists.now)) ++ lists_bytes (lists_of lists.now))) }
 {
-    put_byte(8, out)?;
-    put_short(lists.len() as u16, out)?;
+    put_u8(8, out)?;
+    put_u16(lists.len() as u16, out)?;
     put_each(lists, out)
 }
 

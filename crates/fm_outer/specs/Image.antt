@@ -16,7 +16,8 @@ cut_by Old len image = image
 cut_by New len image = take len image
 cut_by (Fill byte) len image = take len image
 
--- the image after a call, where xs was read before it: a failed write is taken as written, a failed cut as not done
+-- the image after a call, where xs was read before it: a failed write is taken as written, a failed
+-- cut as not done
 abbrev pub image_after : Image → Op → List ℕ → List ℕ → List ℕ
 image_after how (Wrote at bytes done) xs image = laid_by how at bytes image
 image_after how (CutTo len done) xs image = if done then cut_by how len image else image
@@ -25,7 +26,8 @@ image_after how (Synced done) xs image = if done then xs else image
 -- the image after the calls
 abbrev pub image_run : Image → List Op → List ℕ → List ℕ → List ℕ
 image_run how [] xs image = image
-image_run how (op ∷ ops) xs image = image_run how ops (read_after op xs) (image_after how op xs image)
+image_run how (op ∷ ops) xs image =
+    image_run how ops (read_after op xs) (image_after how op xs image)
 
 -- the image after the calls, where a crash before them leaves just these bytes
 abbrev pub image_of : Image → List Op → List ℕ → List ℕ

@@ -7,6 +7,7 @@ pub mod MemDisk
 pub mod MemDiskLaws
 pub mod MemSink
 pub mod MemSource
+pub mod Moments
 pub mod Record
 pub mod Steps
 pub mod Tape

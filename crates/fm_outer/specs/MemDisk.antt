@@ -4,7 +4,8 @@ use Rattle.fm_outer.specs.FailPlan.{Plan, is_due, after_call, fresh_plan}
 use Rattle.fm_outer.specs.Record.{Op, content_after, IsImage}
 use Rattle.fm_outer.specs.Tape.{Tape, noted, has_place}
 
--- what it had when it was made, the record of its writing calls, how many bytes it may have, and which calls fail
+-- what it had when it was made, the record of its writing calls, how many bytes it may have, and
+-- which calls fail
 pub record DiskState : Type 0 where
   pub base : List ℕ
   pub tape : Tape
@@ -23,14 +24,22 @@ content disk = content_after disk.tape.ops disk.base
 abbrev pub Images : DiskState → List ℕ → Type 0
 Images disk c = IsImage disk.tape.ops disk.base c
 
--- what a crash since some of the writing calls might have left: an image after some of those that follow
+-- what a crash since some of the writing calls might have left: an image after some of those that
+-- follow
 abbrev pub LeftSince : DiskState → ℕ → List ℕ → Type 0
-LeftSince disk t c = (k : ℕ) × (t ≤ k) × (k ≤ length disk.tape.ops) × IsImage (take k disk.tape.ops) disk.base c
+LeftSince disk t c = (k : ℕ) × (t ≤ k) × (k ≤ length disk.tape.ops)
+    × IsImage (take k disk.tape.ops) disk.base c
 
 -- a disk on which no call was made
 abbrev pub fresh_disk : List ℕ → ℕ → ℕ → List ℕ → DiskState
 fresh_disk bytes room size fails =
-    record { base = bytes; tape = record { ops = []; size = size }; room = room; plan = fresh_plan fails }
+    record {
+      base = bytes;
+      tape = record { ops = []; size = size };
+      room = room;
+      plan =
+          fresh_plan fails;
+    }
 
 -- the next call is done, if it has so many places in the record
 abbrev pub does : ℕ → DiskState → Bool

@@ -14,4 +14,5 @@ takes sink piece = not (is_due sink.plan) && nat_le (length sink.bytes + length 
 
 -- one call more, which took these bytes
 abbrev pub sink_after : Bool → List ℕ → SinkState → SinkState
-sink_after done taken sink = record sink { bytes = sink.bytes ++ taken; plan = after_call done sink.plan }
+sink_after done taken sink =
+    record sink { bytes = sink.bytes ++ taken; plan = after_call done sink.plan }

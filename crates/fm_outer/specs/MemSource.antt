@@ -14,4 +14,5 @@ given_count source room = min source.piece (min room (length source.left))
 
 -- one call more, which gave n bytes
 abbrev pub source_after : Bool → ℕ → SourceState → SourceState
-source_after done n source = record source { left = drop n source.left; plan = after_call done source.plan }
+source_after done n source =
+    record source { left = drop n source.left; plan = after_call done source.plan }

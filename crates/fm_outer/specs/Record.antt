@@ -1,5 +1,7 @@
--- The record of a disk's writing calls, what a read gives after them, and what a crash after them may leave.
-use Rattle.std.specs.Prelude.{◌≡◌, ℕ, ◌+◌, List, [], ◌∷◌, Bool, true, false, if◌then◌else◌, nat_le, length, take}
+-- The record of a disk's writing calls, what a read gives after them, and what a crash after them
+-- may leave.
+use Rattle.std.specs.Prelude.{◌≡◌, ℕ, ◌+◌, List, [], ◌∷◌, Bool, true, false, if◌then◌else◌, nat_le}
+use Rattle.std.specs.Prelude.{length, take}
 use Rattle.fm_outer.specs.Bytes.{written}
 use Rattle.fm_outer.specs.Crash.{Torn, Shorter}
 
@@ -35,8 +37,9 @@ abbrev pub content_after : List Op → List ℕ → List ℕ
 content_after [] xs = xs
 content_after (op ∷ ops) xs = content_after ops (read_after op xs)
 
--- What a crash after the call may leave, of what it might have left before, where xs was read then: a write or a cut,
--- done or not, may be on the disk in part; a sync that was done leaves what a read gives.
+-- What a crash after the call may leave, of what it might have left before, where xs was read then:
+-- a write or a cut, done or not, may be on the disk in part; a sync that was done leaves what a
+-- read gives.
 abbrev pub Left : Op → List ℕ → (List ℕ → Type 0) → List ℕ → Type 0
 Left (Wrote at bytes done) xs before c = (d : List ℕ) × before d × Torn at (length bytes) d c
 Left (CutTo len done) xs before c = (d : List ℕ) × before d × Shorter len d c

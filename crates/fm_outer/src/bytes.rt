@@ -1,5 +1,6 @@
 // Bytes written over others and past their end.
-ghost use Rattle.std.specs.Prelude.{◌≡◌, ◌+◌, ◌≤◌, ◌++◌, length, take, OnOk, IsOk, vec_len, vec_capacity, IsTrue, if◌then◌else◌};
+ghost use Rattle.std.specs.Prelude.{◌≡◌, ◌+◌, ◌≤◌, ◌++◌, length, take, OnOk, IsOk, vec_len};
+ghost use Rattle.std.specs.Prelude.{vec_capacity, IsTrue, if◌then◌else◌};
 ghost use Rattle.fm_outer.specs.Bytes.{written};
 ghost use Rattle.fm_outer.specs.Record.{laid};
 
@@ -52,7 +53,8 @@ pub fn write_into(bytes: &mut Vec<u8>, at: usize, piece: &[u8]) -> Result<(), Al
 pub fn write_if(bytes: &mut Vec<u8>, done: bool, at: usize, piece: &[u8])
     requires at { at ≤ vec_len bytes.old }
     requires room { IsTrue done → at + length piece.now ≤ vec_capacity bytes.old }
-    ensures items { bytes.new.items ≡ (if done then written at piece.now bytes.old.items else bytes.old.items) }
+    ensures items { bytes.new.items
+        ≡ (if done then written at piece.now bytes.old.items else bytes.old.items) }
     ensures capacity { vec_capacity bytes.old ≤ vec_capacity bytes.new }
 {
     if done {

@@ -8,8 +8,9 @@ ghost use Rattle.fm_outer.specs.Crash.{Torn, Shorter, Follows, NoMore, OnlySeen,
 
 use crate::Failed;
 
-/// Bytes that are kept. They are read and written at any place, and only a sync makes sure that a crash leaves what
-/// a read gives. A call that writes and fails may have written in part: a crash may leave what it wrote, or not.
+/// Bytes that are kept. They are read and written at any place, and only a sync makes sure that a
+/// crash leaves what a read gives. A call that writes and fails may have written in part: a crash
+/// may leave what it wrote, or not.
 pub trait Disk {
     /// The bytes that a read gives, where the disk tells them.
     ghost seen: { Self → Option (List ℕ) };
@@ -20,13 +21,15 @@ pub trait Disk {
     /// Which disk it is. Each call keeps it, so that who lends a disk knows what came back.
     ghost name: { Self → ℕ };
 
-    /// The images that a crash at this moment may leave. A disk that tells nothing of them has none here.
+    /// The images that a crash at this moment may leave. A disk that tells nothing of them has none
+    /// here.
     ghost images: { Self → List ℕ → Type 0 };
 
     /// The moment, as a number that doesn't fall.
     ghost moment: { Self → ℕ };
 
-    /// The images that a crash at some moment from that one on might have left, within a call or between two.
+    /// The images that a crash at some moment from that one on might have left, within a call or
+    /// between two.
     ghost left_since: { Self → ℕ → List ℕ → Type 0 };
 
     /// How many bytes there are.
@@ -34,26 +37,32 @@ pub trait Disk {
         ensures length { IfOk result (λ count. IfSome (seen self.old) (λ xs. count ≡ length xs)) }
         ensures same { seen self.new ≡ seen self.old }
         ensures crash { NoMore (images self.old) (images self.new) }
-        ensures time { Elapses (moment self.old) (moment self.new) (left_since self.old) (left_since self.new) (images self.new) }
+        ensures time { Elapses (moment self.old) (moment self.new) (left_since self.old)
+            (left_since self.new) (images self.new) }
         ensures same_disk { name self.new ≡ name self.old }
         ensures cause { HasCause (failures self.old) (failures self.new) result };
 
     /// Fills the buffer with the bytes from the place `at` on. The range lies inside the disk.
     fn read(&mut self, at: u64, buf: &mut [u8]) -> Result<(), Failed>
         requires { InsideRange at (length buf.old) (seen self.old) }
-        ensures bytes { OnOk result (IfSome (seen self.old) (λ xs. buf.new ≡ range at (length buf.old) xs)) }
+        ensures bytes { OnOk result
+            (IfSome (seen self.old) (λ xs. buf.new ≡ range at (length buf.old) xs)) }
         ensures same { seen self.new ≡ seen self.old }
         ensures crash { NoMore (images self.old) (images self.new) }
-        ensures time { Elapses (moment self.old) (moment self.new) (left_since self.old) (left_since self.new) (images self.new) }
+        ensures time { Elapses (moment self.old) (moment self.new) (left_since self.old)
+            (left_since self.new) (images self.new) }
         ensures same_disk { name self.new ≡ name self.old }
         ensures cause { HasCause (failures self.old) (failures self.new) result };
 
-    /// Writes over what is there from the place `at` on, and past the end. The place is not past the end.
+    /// Writes over what is there from the place `at` on, and past the end. The place is not past
+    /// the end.
     fn write_at(&mut self, at: u64, bytes: &[u8]) -> Result<(), Failed>
         requires { Inside at (seen self.old) }
-        ensures written { OnOk result (seen self.new ≡ option_map (written at bytes.now) (seen self.old)) }
+        ensures written { OnOk result
+            (seen self.new ≡ option_map (written at bytes.now) (seen self.old)) }
         ensures crash { Follows (Torn at (length bytes.now)) (images self.old) (images self.new) }
-        ensures time { Elapses (moment self.old) (moment self.new) (left_since self.old) (left_since self.new) (images self.new) }
+        ensures time { Elapses (moment self.old) (moment self.new) (left_since self.old)
+            (left_since self.new) (images self.new) }
         ensures same_disk { name self.new ≡ name self.old }
         ensures cause { HasCause (failures self.old) (failures self.new) result };
 
@@ -62,7 +71,8 @@ pub trait Disk {
         requires { Inside len (seen self.old) }
         ensures shorter { OnOk result (seen self.new ≡ option_map (take len) (seen self.old)) }
         ensures crash { Follows (Shorter len) (images self.old) (images self.new) }
-        ensures time { Elapses (moment self.old) (moment self.new) (left_since self.old) (left_since self.new) (images self.new) }
+        ensures time { Elapses (moment self.old) (moment self.new) (left_since self.old)
+            (left_since self.new) (images self.new) }
         ensures same_disk { name self.new ≡ name self.old }
         ensures cause { HasCause (failures self.old) (failures self.new) result };
 
@@ -71,7 +81,8 @@ pub trait Disk {
         ensures durable { OnOk result (OnlySeen (seen self.old) (images self.new)) }
         ensures same { seen self.new ≡ seen self.old }
         ensures crash { NoMore (images self.old) (images self.new) }
-        ensures time { Elapses (moment self.old) (moment self.new) (left_since self.old) (left_since self.new) (images self.new) }
+        ensures time { Elapses (moment self.old) (moment self.new) (left_since self.old)
+            (left_since self.new) (images self.new) }
         ensures same_disk { name self.new ≡ name self.old }
         ensures cause { HasCause (failures self.old) (failures self.new) result };
 
@@ -80,10 +91,12 @@ pub trait Disk {
         ensures { result ≡ failures self.now };
 
     /// This moment is one of those since an earlier one.
-    ghost counts_now: { (disk : Self) (t : ℕ) (c : List ℕ) → t ≤ moment disk → images disk c → left_since disk t c };
+    ghost counts_now: { (disk : Self) (t : ℕ) (c : List ℕ) → t ≤ moment disk → images disk c
+        → left_since disk t c };
 
     /// Since this moment there is no other.
-    ghost only_now: { (disk : Self) (c : List ℕ) → left_since disk (moment disk) c → images disk c };
+    ghost only_now: { (disk : Self) (c : List ℕ) → left_since disk (moment disk) c
+        → images disk c };
 
     /// A disk as it reads is one of its images, where it tells images.
     ghost seen_is_image: { (disk : Self) (c : List ℕ) → seen disk ≡ Some c → images disk c };

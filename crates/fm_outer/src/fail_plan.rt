@@ -1,6 +1,6 @@
 // Which calls of an object in memory are to fail, and how many did.
-ghost use Rattle.std.specs.Prelude.{◌≡◌, ◌≤◌, ℕ, is_ok, OnErr, Some};
-ghost use Rattle.fm_outer.specs.Failures.{Rose};
+ghost use Rattle.std.specs.Prelude.{◌≡◌, ◌≤◌, ℕ, is_ok, Some};
+ghost use Rattle.fm_outer.specs.Failures.{HasCause};
 ghost use Rattle.fm_outer.specs.FailPlan.{is_due, stopped_by, after_call, fresh_plan};
 
 use crate::Failed;
@@ -20,7 +20,13 @@ impl Model for FailPlan {
 
     ghost Value = { Plan };
 
-    ghost view = { λ p. record { fails = p.fails.items; stop = p.stop; calls = p.calls; failures = p.failures } };
+    ghost view = { λ p. record {
+      fails = p.fails.items;
+      stop = p.stop;
+      calls = p.calls;
+      failures =
+          p.failures;
+    } };
 }
 
 impl FailPlan {
@@ -68,8 +74,7 @@ impl FailPlan {
     pub fn answer(&mut self, done: bool) -> Result<(), Failed>
         ensures answer { is_ok result ≡ done }
         ensures counted { self.new ≡ after_call done self.old }
-        ensures later { self.old.failures ≤ self.new.failures }
-        ensures failed { OnErr result (Rose self.old.failures self.new.failures) }
+        ensures cause { HasCause self.old.failures self.new.failures result }
     {
         self.calls = self.calls.saturating_add(1);
         if done {

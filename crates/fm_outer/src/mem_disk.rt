@@ -1,5 +1,6 @@
 // A disk in memory.
-ghost use Rattle.std.specs.Prelude.{◌≡◌, ◌&&◌, ℕ, ◌+◌, ◌≤◌, List, length, take, not, is_ok, Some, OnOk, IfOk, IfErr, IfSome, [], vec_capacity, nat_le};
+ghost use Rattle.std.specs.Prelude.{◌≡◌, ◌&&◌, ℕ, ◌+◌, ◌≤◌, List, length, take, not, is_ok, Some};
+ghost use Rattle.std.specs.Prelude.{OnOk, IfOk, IfErr, IfSome, [], vec_capacity, nat_le};
 ghost use Rattle.std.specs.Option.{option_map};
 ghost use Rattle.fm_outer.specs.Failures.{HasCause};
 ghost use Rattle.fm_outer.specs.Bytes.{range, written, Inside, InsideRange};
@@ -7,7 +8,8 @@ ghost use Rattle.fm_outer.specs.Crash.{Torn, Shorter, Follows, NoMore, OnlySeen,
 ghost use Rattle.fm_outer.specs.FailPlan.{is_due};
 ghost use Rattle.fm_outer.specs.Record.{Wrote, CutTo, Synced};
 ghost use Rattle.fm_outer.specs.Image.{image_of};
-ghost use Rattle.fm_outer.specs.MemDisk.{disk_name, content, Images, LeftSince, fresh_disk, does, does_write, asked, called};
+ghost use Rattle.fm_outer.specs.MemDisk.{disk_name, content, Images, LeftSince, fresh_disk, does};
+ghost use Rattle.fm_outer.specs.MemDisk.{does_write, asked, called};
 ghost use Rattle.fm_outer.specs.MemDiskLaws.{counts_now_lem, only_now_lem, seen_is_image_lem};
 
 use crate::bytes::{cut_if, write_if};
@@ -17,11 +19,12 @@ use crate::{Disk, Failed, Image, NoMemory};
 use std::alloc::Global;
 use std::marker::Model;
 
-/// A disk in memory. Its calls are numbered from 0; one fails where its number is among those that it was told, from
-/// the stop on, where it would pass the room, or where its record has no place left, and in no other case.
+/// A disk in memory. Its calls are numbered from 0; one fails where its number is among those that
+/// it was told, from the stop on, where it would pass the room, or where its record has no place
+/// left, and in no other case.
 ///
-/// A call for which the record has no place changes nothing but the counts. Any other call that fails changes nothing
-/// that a read gives, and a crash may leave what it wrote.
+/// A call for which the record has no place changes nothing but the counts. Any other call that
+/// fails changes nothing that a read gives, and a crash may leave what it wrote.
 #[derive(Drop)]
 pub struct MemDisk {
     base: Vec<u8>,
@@ -38,14 +41,17 @@ impl Model for MemDisk {
 
     ghost Value = { DiskState };
 
-    ghost view = { λ d. record { base = d.base.items; tape = d.tape; room = d.room; plan = d.plan } };
+    ghost view = { λ d.
+        record { base = d.base.items; tape = d.tape; room = d.room; plan = d.plan } };
 
-    ghost invariant = { λ d. (d.bytes.items ≡ content_after d.tape.ops d.base.items) × (d.room ≤ vec_capacity d.bytes) };
+    ghost invariant = { λ d. (d.bytes.items ≡ content_after d.tape.ops d.base.items)
+        × (d.room ≤ vec_capacity d.bytes) };
 }
 
 impl MemDisk {
-    /// A disk with these bytes, all of them synced. It has room for `room` bytes, and for a record of `tape` places:
-    /// a write takes one and one for each byte, a cut or a sync takes one. All of it is taken from the allocator now.
+    /// A disk with these bytes, all of them synced. It has room for `room` bytes, and for a record
+    /// of `tape` places: a write takes one and one for each byte, a cut or a sync takes one. All of
+    /// it is taken from the allocator now.
     pub fn new(
         alloc: Global,
         bytes: &[u8],
@@ -81,11 +87,13 @@ impl MemDisk {
         self.plan.calls()
     }
 
-    /// A crash: the disk that it leaves, with this of what was written since the last sync. Its calls start at 0, its
-    /// record is empty, no call is to fail and no stop is set; its room and its tape are as before. With no memory
-    /// for it, the disk comes back unchanged.
+    /// A crash: the disk that it leaves, with this of what was written since the last sync. Its
+    /// calls start at 0, its record is empty, no call is to fail and no stop is set; its room and
+    /// its tape are as before. With no memory for it, the disk comes back unchanged.
     pub fn crash(self, alloc: Global, how: Image) -> Result<MemDisk, (MemDisk, NoMemory)>
-        ensures disk { IfOk result (λ disk. disk ≡ fresh_disk (image_of how self.tape.ops self.base) self.room self.tape.size []) }
+        ensures disk { IfOk result
+            (λ disk. disk ≡ fresh_disk (image_of how self.tape.ops self.base) self.room
+            self.tape.size []) }
         // What it reads as is one of the images of the disk before.
         ensures image { IfOk result (λ disk. Images self (content disk)) }
         ensures synced { IfOk result (λ disk. OnlySeen (Some (content disk)) (Images disk)) }
@@ -101,7 +109,8 @@ impl MemDisk {
     fn left_by(&self, alloc: Global, how: Image) -> Result<MemDisk, NoMemory>
         ensures synced { IfOk result (λ disk. OnlySeen (Some (content disk)) (Images disk)) }
         ensures disk { IfOk result (λ disk. disk
-            ≡ fresh_disk (image_of how self.now.tape.ops self.now.base) self.now.room self.now.tape.size []) }
+            ≡ fresh_disk (image_of how self.now.tape.ops self.now.base) self.now.room
+            self.now.tape.size []) }
     {
         let image = self.tape.image(alloc, &self.base, how)?;
         let size = self.tape.size() as u64;
@@ -171,10 +180,12 @@ impl Disk for MemDisk {
     ghost seen_is_image = { seen_is_image_lem };
 
     fn len(&mut self) -> Result<u64, Failed>
-        ensures length { IfOk result (λ count. IfSome (Some (content self.old)) (λ xs. count ≡ length xs)) }
+        ensures length { IfOk result
+            (λ count. IfSome (Some (content self.old)) (λ xs. count ≡ length xs)) }
         ensures same { Some (content self.new) ≡ Some (content self.old) }
         ensures crash { NoMore (Images self.old) (Images self.new) }
-        ensures time { Elapses (length self.old.tape.ops) (length self.new.tape.ops) (LeftSince self.old) (LeftSince self.new) (Images self.new) }
+        ensures time { Elapses (length self.old.tape.ops) (length self.new.tape.ops)
+            (LeftSince self.old) (LeftSince self.new) (Images self.new) }
         ensures same_disk { disk_name self.new ≡ disk_name self.old }
         ensures cause { HasCause self.old.plan.failures self.new.plan.failures result }
         ensures done { is_ok result ≡ not (is_due self.old.plan) }
@@ -187,10 +198,12 @@ impl Disk for MemDisk {
 
     fn read(&mut self, at: u64, buf: &mut [u8]) -> Result<(), Failed>
         requires { InsideRange at (length buf.old) (Some (content self.old)) }
-        ensures bytes { OnOk result (IfSome (Some (content self.old)) (λ xs. buf.new ≡ range at (length buf.old) xs)) }
+        ensures bytes { OnOk result
+            (IfSome (Some (content self.old)) (λ xs. buf.new ≡ range at (length buf.old) xs)) }
         ensures same { Some (content self.new) ≡ Some (content self.old) }
         ensures crash { NoMore (Images self.old) (Images self.new) }
-        ensures time { Elapses (length self.old.tape.ops) (length self.new.tape.ops) (LeftSince self.old) (LeftSince self.new) (Images self.new) }
+        ensures time { Elapses (length self.old.tape.ops) (length self.new.tape.ops)
+            (LeftSince self.old) (LeftSince self.new) (Images self.new) }
         ensures same_disk { disk_name self.new ≡ disk_name self.old }
         ensures cause { HasCause self.old.plan.failures self.new.plan.failures result }
         ensures done { is_ok result ≡ not (is_due self.old.plan) }
@@ -204,13 +217,17 @@ impl Disk for MemDisk {
 
     fn write_at(&mut self, at: u64, bytes: &[u8]) -> Result<(), Failed>
         requires { Inside at (Some (content self.old)) }
-        ensures written { OnOk result (Some (content self.new) ≡ option_map (written at bytes.now) (Some (content self.old))) }
+        ensures written { OnOk result
+            (Some (content self.new)
+            ≡ option_map (written at bytes.now) (Some (content self.old))) }
         ensures crash { Follows (Torn at (length bytes.now)) (Images self.old) (Images self.new) }
-        ensures time { Elapses (length self.old.tape.ops) (length self.new.tape.ops) (LeftSince self.old) (LeftSince self.new) (Images self.new) }
+        ensures time { Elapses (length self.old.tape.ops) (length self.new.tape.ops)
+            (LeftSince self.old) (LeftSince self.new) (Images self.new) }
         ensures same_disk { disk_name self.new ≡ disk_name self.old }
         ensures cause { HasCause self.old.plan.failures self.new.plan.failures result }
         ensures done { is_ok result ≡ does_write at (length bytes.now) self.old }
-        ensures state { self.new ≡ called (Wrote at bytes.now (is_ok result)) (is_ok result) self.old }
+        ensures state { self.new ≡ called (Wrote at bytes.now (is_ok result)) (is_ok result)
+            self.old }
     {
         let done = self.does_write(at, bytes);
         self.tape.note_write(at, bytes, done);
@@ -220,9 +237,11 @@ impl Disk for MemDisk {
 
     fn cut(&mut self, len: u64) -> Result<(), Failed>
         requires { Inside len (Some (content self.old)) }
-        ensures shorter { OnOk result (Some (content self.new) ≡ option_map (take len) (Some (content self.old))) }
+        ensures shorter { OnOk result
+            (Some (content self.new) ≡ option_map (take len) (Some (content self.old))) }
         ensures crash { Follows (Shorter len) (Images self.old) (Images self.new) }
-        ensures time { Elapses (length self.old.tape.ops) (length self.new.tape.ops) (LeftSince self.old) (LeftSince self.new) (Images self.new) }
+        ensures time { Elapses (length self.old.tape.ops) (length self.new.tape.ops)
+            (LeftSince self.old) (LeftSince self.new) (Images self.new) }
         ensures same_disk { disk_name self.new ≡ disk_name self.old }
         ensures cause { HasCause self.old.plan.failures self.new.plan.failures result }
         ensures done { is_ok result ≡ does 1 self.old }
@@ -238,7 +257,8 @@ impl Disk for MemDisk {
         ensures durable { OnOk result (OnlySeen (Some (content self.old)) (Images self.new)) }
         ensures same { Some (content self.new) ≡ Some (content self.old) }
         ensures crash { NoMore (Images self.old) (Images self.new) }
-        ensures time { Elapses (length self.old.tape.ops) (length self.new.tape.ops) (LeftSince self.old) (LeftSince self.new) (Images self.new) }
+        ensures time { Elapses (length self.old.tape.ops) (length self.new.tape.ops)
+            (LeftSince self.old) (LeftSince self.new) (Images self.new) }
         ensures same_disk { disk_name self.new ≡ disk_name self.old }
         ensures cause { HasCause self.old.plan.failures self.new.plan.failures result }
         ensures done { is_ok result ≡ does 1 self.old }

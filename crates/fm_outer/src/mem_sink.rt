@@ -1,5 +1,6 @@
 // A sink in memory.
-ghost use Rattle.std.specs.Prelude.{◌≡◌, ℕ, ◌≤◌, List, [], length, take, is_ok, IfOk, OnOk, OnErr, Some, if◌then◌else◌};
+ghost use Rattle.std.specs.Prelude.{◌≡◌, ℕ, ◌≤◌, List, [], length, take, is_ok, IfOk, OnOk, OnErr};
+ghost use Rattle.std.specs.Prelude.{Some, if◌then◌else◌};
 ghost use Rattle.std.specs.Io.KnownBytes.{Appends};
 ghost use Rattle.fm_outer.specs.Failures.{HasCause};
 ghost use Rattle.fm_outer.specs.FailPlan.{fresh_plan};
@@ -11,8 +12,8 @@ use crate::{Failed, NoMemory, Sink};
 use std::alloc::Global;
 use std::marker::Model;
 
-/// Room in memory for what is put. The calls whose numbers it was told fail, and those that would pass its room, and
-/// no others; the first call has the number 0. A call that fails puts nothing.
+/// Room in memory for what is put. The calls whose numbers it was told fail, and those that would
+/// pass its room, and no others; the first call has the number 0. A call that fails puts nothing.
 #[derive(Drop)]
 pub struct MemSink {
     bytes: Vec<u8>,
@@ -34,7 +35,8 @@ impl Model for MemSink {
 impl MemSink {
     /// An empty sink with room for so many bytes, all of which it takes from the allocator now.
     pub fn new(alloc: Global, room: usize, fails: Vec<u64>) -> Result<MemSink, NoMemory>
-        ensures { IfOk result (λ sink. sink ≡ record { bytes = []; room = room; plan = fresh_plan fails.items }) }
+        ensures { IfOk result
+            (λ sink. sink ≡ record { bytes = []; room = room; plan = fresh_plan fails.items }) }
     {
         Ok(MemSink {
             bytes: Vec::with_capacity(alloc, room)?,
@@ -70,7 +72,8 @@ impl Sink for MemSink {
         ensures cause { HasCause self.old.plan.failures self.new.plan.failures result }
         // It fails exactly where it is due to, or has no room.
         ensures fails { is_ok result ≡ takes self.old piece.now }
-        ensures state { self.new ≡ sink_after (is_ok result) (if is_ok result then piece.now else []) self.old }
+        ensures state { self.new
+            ≡ sink_after (is_ok result) (if is_ok result then piece.now else []) self.old }
     {
         let done = self.takes(piece);
         self.plan.answer(done)?;

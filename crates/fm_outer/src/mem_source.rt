@@ -1,5 +1,6 @@
 // A source in memory.
-ghost use Rattle.std.specs.Prelude.{◌≡◌, ℕ, ◌<◌, ◌≤◌, ◌++◌, length, take, drop, not, true, false, is_ok, IfOk, OnErr, Some};
+ghost use Rattle.std.specs.Prelude.{◌≡◌, ℕ, ◌<◌, ◌≤◌, ◌++◌, length, take, drop, not, true, false};
+ghost use Rattle.std.specs.Prelude.{is_ok, IfOk, OnErr, Some};
 ghost use Rattle.std.specs.Io.{ReadsAtMost};
 ghost use Rattle.std.specs.Io.KnownBytes.{ReadConsumes};
 ghost use Rattle.fm_outer.specs.Failures.{HasCause};
@@ -10,8 +11,8 @@ use crate::fail_plan::FailPlan;
 use crate::{Failed, Source};
 use std::marker::Model;
 
-/// Bytes in memory, given in pieces. The calls whose numbers it was told fail, and no others; the first call has the
-/// number 0.
+/// Bytes in memory, given in pieces. The calls whose numbers it was told fail, and no others; the
+/// first call has the number 0.
 #[derive(Drop)]
 pub struct MemSource {
     bytes: Vec<u8>,
@@ -35,7 +36,12 @@ impl MemSource {
     /// A source of these bytes that gives at most `piece` of them a call.
     pub fn new(bytes: Vec<u8>, piece: usize, fails: Vec<u64>) -> MemSource
         requires { 1 ≤ piece }
-        ensures { result ≡ record { left = bytes.items; piece = piece; plan = fresh_plan fails.items } }
+        ensures { result ≡ record {
+          left = bytes.items;
+          piece = piece;
+          plan =
+              fresh_plan fails.items;
+        } }
     {
         MemSource {
             bytes,
@@ -74,7 +80,8 @@ impl Source for MemSource {
         ensures cause { HasCause self.old.plan.failures self.new.plan.failures result }
         // It fails exactly where it is due to.
         ensures fails { is_ok result ≡ not (is_due self.old.plan) }
-        ensures count { IfOk result (λ n. (n ≡ given_count self.old (length buf.old)) × (self.new ≡ source_after true n self.old)) }
+        ensures count { IfOk result (λ n. (n ≡ given_count self.old (length buf.old))
+            × (self.new ≡ source_after true n self.old)) }
         ensures err { OnErr result (self.new ≡ source_after false 0 self.old) }
     {
         let done = !self.plan.is_due();

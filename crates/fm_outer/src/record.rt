@@ -1,5 +1,6 @@
 // The record of a disk's writing calls.
-ghost use Rattle.std.specs.Prelude.{◌≡◌, ◌≤◌, ◌+◌, ℕ, List, [], ◌∷◌, ◌++◌, IsTrue, length, take, IfOk, OnOk, if◌then◌else◌};
+ghost use Rattle.std.specs.Prelude.{◌≡◌, ◌≤◌, ◌+◌, ℕ, List, [], ◌∷◌, ◌++◌, IsTrue, length, take};
+ghost use Rattle.std.specs.Prelude.{IfOk, OnOk, if◌then◌else◌};
 ghost use Rattle.fm_outer.specs.Record.{Wrote, CutTo, Synced, read_after};
 ghost use Rattle.fm_outer.specs.Image.{laid_by, cut_by, image_after, image_of};
 ghost use Rattle.fm_outer.specs.Tape.{bytes_in, all_bytes, op_of, ops_of, noted, has_place};
@@ -34,8 +35,8 @@ impl Call {
     }
 }
 
-/// The writing calls of a disk, in order. A write takes one place and one for each byte, a cut or a sync takes one.
-/// All the memory is taken at the start.
+/// The writing calls of a disk, in order. A write takes one place and one for each byte, a cut or a
+/// sync takes one. All the memory is taken at the start.
 #[derive(Drop)]
 pub struct Record {
     calls: Vec<Call>,
@@ -51,7 +52,8 @@ impl Model for Record {
 
     ghost view = { λ r. record { ops = ops_of r.calls.items r.bytes.items; size = r.size } };
 
-    ghost invariant = { λ r. IsWhole r.calls.items r.bytes.items r.size (vec_capacity r.calls) (vec_capacity r.bytes) };
+    ghost invariant = { λ r. IsWhole r.calls.items r.bytes.items r.size (vec_capacity r.calls)
+        (vec_capacity r.bytes) };
 }
 
 impl Record {
@@ -136,7 +138,8 @@ fn image_by(
     bytes: &[u8],
 ) -> Result<Vec<u8>, AllocError>
     requires { all_bytes calls.now ≡ length bytes.now }
-    ensures { IfOk result (λ image. image.items ≡ image_of how (ops_of calls.now bytes.now) base.now) }
+    ensures { IfOk result
+        (λ image. image.items ≡ image_of how (ops_of calls.now bytes.now) base.now) }
 {
     let mut seen = base.to_vec(alloc)?;
     let mut image = base.to_vec(alloc)?;

@@ -15,8 +15,8 @@ pub trait Source {
     /// How often the source has failed.
     ghost failures: { Self → ℕ };
 
-    /// Gives the next bytes: `Ok(n)` puts `n` of them at the front of the buffer, and `Ok(0)` says that nothing is
-    /// left. After `Failed` what is left is unchanged.
+    /// Gives the next bytes: `Ok(n)` puts `n` of them at the front of the buffer, and `Ok(0)` says
+    /// that nothing is left. After `Failed` what is left is unchanged.
     fn next(&mut self, buf: &mut [u8]) -> Result<usize, Failed>
         requires { 0 < length buf.old }
         ensures bound { ReadsAtMost result buf.new }

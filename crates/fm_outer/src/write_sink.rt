@@ -6,8 +6,8 @@ use crate::told::told;
 use crate::{Failed, Sink};
 use std::io::Write;
 
-/// What a writer takes. It tells no content. A piece is written whole and flushed; an error of the writer is a failure,
-/// and so is a write of 0 bytes of a piece that isn't empty.
+/// What a writer takes. It tells no content. A piece is written whole and flushed; an error of the
+/// writer is a failure, and so is a write of 0 bytes of a piece that isn't empty.
 #[derive(Drop)]
 pub struct WriteSink<W> {
     inner: W,

@@ -1,5 +1,7 @@
 -- What is written reads back.
-use Rattle.std.proofs.Common.{◌≡◌, ◌<◌, ◌≤◌, ◌+◌, ◌-◌, ◌*◌, ◌/◌, ◌%◌, ◌^◌, ℕ, true, false, List, [], ◌∷◌, ◌++◌, length, replicate, zero, suc, take, drop, nat_lt, add-one, lit<, length-append, append-nil, refl, arith, Some, ap, sym, ◌∙◌}
+use Rattle.std.proofs.Common.{◌≡◌, ◌<◌, ◌≤◌, ◌+◌, ◌-◌, ◌*◌, ◌/◌, ◌%◌, ◌^◌, ℕ, true, false, List, []}
+use Rattle.std.proofs.Common.{◌∷◌, ◌++◌, length, replicate, zero, suc, take, drop, nat_lt, add-one}
+use Rattle.std.proofs.Common.{lit<, length-append, append-nil, refl, arith, Some, ap, sym, ◌∙◌}
 use Rattle.std.specs.Prelude.{◌==◌, decimal}
 use Rattle.std.specs.List.{list_all, position_or_len}
 use Rattle.std.specs.Char.{is_ascii_digit}
@@ -9,26 +11,33 @@ use Rattle.std.specs.Fmt.{padded_integral, format_spec, styled_decimal, char_cou
 use Rattle.std.proofs.lemmas.List.{length-replicate}
 use Rattle.std.specs.Str.{all_ascii_digits}
 use Rattle.std.proofs.Math.Seq.{take-append_seam}
-use Rattle.std.proofs.lemmas.Fmt.{digits_decimal, digits_value-decimal, decimal_nonempty, length-decimal-le}
+use Rattle.std.proofs.lemmas.Fmt.{digits_decimal, digits_value-decimal, decimal_nonempty}
+use Rattle.std.proofs.lemmas.Fmt.{length-decimal-le}
 use Rattle.fm_text.proofs.Reading.{own, all_digits, fraction_at, time_some}
-use Rattle.fm_text.specs.Number.{is_number, value_of}
-use Rattle.fm_text.specs.Time.{fraction_of, moment_from, has_dot, time_of, time_text, nine_digits}
+use Rattle.fm_bytes.specs.Decimals.{are_digits}
+use Rattle.fm_text.specs.Time.{value_of, fraction_of, moment_from, has_dot, time_of}
+use Rattle.fm_text.specs.Time.{time_text, nine_digits}
 
-padded_is : (ds : List ℕ) → padded_integral (format_spec 32 0 4 9 (2 ^ 64 - 1)) false [] ds ≡ nine_digits ds
+padded_is : (ds : List ℕ) → padded_integral (format_spec 32 0 4 9 (2 ^ 64 - 1)) false [] ds
+    ≡ nine_digits ds
 unfolding padded_integral char_count
 padded_is ds =
     let e : 9 - length ds - 0 - 0 ≡ 9 - length ds = omega arith in
-    ap (λ n. replicate n 48 ++ (ds ++ [])) e ∙ ap (λ r. replicate (9 - length ds) 48 ++ r) (append-nil ds)
+    ap (λ n. replicate n 48 ++ (ds ++ [])) e
+    ∙ ap (λ r. replicate (9 - length ds) 48 ++ r) (append-nil ds)
 
 -- what a format writes is the text of the moment
-pub written : (moment : ℕ) (shown text : List ℕ) → shown ≡ styled_decimal (format_spec 32 0 4 9 (2 ^ 64 - 1)) (moment % 1000000000)
+pub written : (moment : ℕ) (shown text : List ℕ)
+    → shown ≡ styled_decimal (format_spec 32 0 4 9 (2 ^ 64 - 1)) (moment % 1000000000)
     → text ≡ decimal (moment / 1000000000) ++ (46 ∷ shown) → text ≡ time_text moment
 unfolding time_text
 written moment shown text e f =
-    f ∙ ap (λ r. decimal (moment / 1000000000) ++ (46 ∷ r)) (e ∙ padded_is (decimal (moment % 1000000000)))
+    f ∙ ap (λ r. decimal (moment / 1000000000) ++ (46 ∷ r))
+    (e ∙ padded_is (decimal (moment % 1000000000)))
 
 -- digits before a dot are cut off at it
-pos_digits : (ds rest : List ℕ) → list_all is_ascii_digit ds ≡ true → position_or_len (λ b. b == 46) (ds ++ (46 ∷ rest)) ≡ length ds
+pos_digits : (ds rest : List ℕ) → list_all is_ascii_digit ds ≡ true
+    → position_or_len (λ b. b == 46) (ds ++ (46 ∷ rest)) ≡ length ds
 pos_digits [] rest h = refl
 pos_digits (d ∷ ds) rest h = grind (arith, common_steps, pos_digits ds rest)
 
@@ -40,7 +49,8 @@ zeros_value : (k : ℕ) (ds : List ℕ) → digits_value 10 (replicate k 48 ++ d
 zeros_value zero ds = refl
 zeros_value (suc k) ds = zeros_value k ds
 
-zeros_digits : (k : ℕ) (ds : List ℕ) → list_all is_ascii_digit ds ≡ true → list_all is_ascii_digit (replicate k 48 ++ ds) ≡ true
+zeros_digits : (k : ℕ) (ds : List ℕ) → list_all is_ascii_digit ds ≡ true
+    → list_all is_ascii_digit (replicate k 48 ++ ds) ≡ true
 zeros_digits zero ds h = h
 zeros_digits (suc k) ds h = zeros_digits k ds h
 
@@ -48,17 +58,19 @@ drop_past : (ds rest : List ℕ) (x : ℕ) → drop (suc (length ds)) (ds ++ (x 
 drop_past [] rest x = refl
 drop_past (d ∷ ds) rest x = drop_past ds rest x
 
-is_number_from : (ds : List ℕ) → 0 < length ds → all_ascii_digits ds ≡ true → is_number ds ≡ true
-is_number_from ds h d = let e = all_digits ds ∙ d in grind (arith, common_steps)
+digits_from : (ds : List ℕ) → 0 < length ds → all_ascii_digits ds ≡ true → are_digits ds ≡ true
+digits_from ds h d = let e = all_digits ds ∙ d in grind (arith, common_steps)
 
 seconds_back : (n : ℕ) → n < 2 ^ 64 → value_of (decimal n) ≡ Some n
 seconds_back n h =
-    let e = is_number_from (decimal n) (decimal_nonempty n h) (digits_decimal own n h) in
+    let e = digits_from (decimal n) (decimal_nonempty n h) (digits_decimal own n h) in
     rw (e, digits_value-decimal own n h)
 
-fraction_back_at : (ds : List ℕ) (n : ℕ) → length ds ≡ 9 → is_number ds ≡ true → digits_value 10 ds ≡ n → fraction_of ds ≡ Some n
+fraction_back_at : (ds : List ℕ) (n : ℕ) → length ds ≡ 9 → are_digits ds ≡ true
+    → digits_value 10 ds ≡ n → fraction_of ds ≡ Some n
 fraction_back_at ds n l k v =
-    sym (fraction_at ds k (omega arith)) ∙ (let e : digits_value 10 ds * 10 ^ (9 - length ds) ≡ n = rw l (omega arith) in ap Some e)
+    sym (fraction_at ds k (omega arith)) ∙ (let e : digits_value 10 ds * 10 ^ (9 - length ds) ≡ n =
+    rw l (omega arith) in ap Some e)
 
 nine_long : (ds : List ℕ) → length ds ≤ 9 → length (nine_digits ds) ≡ 9
 nine_long ds h = simp (length-append, length-replicate) (omega arith)
@@ -70,19 +82,25 @@ fraction_back n h =
     let long = nine_long (decimal n) short in
     let plain = all_digits (decimal n) ∙ digits_decimal own n small in
     fraction_back_at (nine_digits (decimal n)) n long
-    (is_number_from (nine_digits (decimal n)) (omega arith) (sym (all_digits (nine_digits (decimal n))) ∙ zeros_digits (9 - length (decimal n)) (decimal n) plain))
+    (digits_from (nine_digits (decimal n)) (omega arith)
+    (sym (all_digits (nine_digits (decimal n)))
+    ∙ zeros_digits (9 - length (decimal n)) (decimal n) plain))
     (zeros_value (9 - length (decimal n)) (decimal n) ∙ digits_value-decimal own n small)
 
-cut_back : (ds rest : List ℕ) → list_all is_ascii_digit ds ≡ true → time_of (ds ++ (46 ∷ rest)) ≡ moment_from (value_of ds) (fraction_of rest)
+cut_back : (ds rest : List ℕ) → list_all is_ascii_digit ds ≡ true
+    → time_of (ds ++ (46 ∷ rest)) ≡ moment_from (value_of ds) (fraction_of rest)
 cut_back ds rest h =
     let p = pos_digits ds rest h in
     time_some (ds ++ (46 ∷ rest)) ds rest
     (sym (ap (λ n. take n (ds ++ (46 ∷ rest))) p ∙ take-append_seam ds (46 ∷ rest)))
-    (sym (ap (λ n. drop n (ds ++ (46 ∷ rest))) (ap (λ n. n + 1) p ∙ add-one (length ds)) ∙ drop_past ds rest 46))
+    (sym (ap (λ n. drop n (ds ++ (46 ∷ rest))) (ap (λ n. n + 1) p ∙ add-one (length ds))
+    ∙ drop_past ds rest 46))
     (rw p (simp length-append (omega arith)))
 
-moment_back : (s n moment : ℕ) → s * 1000000000 + n ≡ moment → moment < 2 ^ 62 → moment_from (Some s) (Some n) ≡ Some moment
-moment_back s n moment e h = let k : nat_lt moment (2 ^ 62) ≡ true = grind (arith, common_steps) in rw (e, k)
+moment_back : (s n moment : ℕ) → s * 1000000000 + n ≡ moment → moment < 2 ^ 62
+    → moment_from (Some s) (Some n) ≡ Some moment
+moment_back s n moment e h = let k : nat_lt moment (2 ^ 62) ≡ true = grind (arith, common_steps) in
+    rw (e, k)
 
 -- a moment's text reads back as the moment
 pub read_back : (moment : ℕ) → moment < 2 ^ 62 → time_of (time_text moment) ≡ Some moment
@@ -93,6 +111,7 @@ read_back moment h =
     let sum : s * 1000000000 + n ≡ moment = omega arith in
     let below : n < 1000000000 = omega arith in
     let small : s < 2 ^ 64 = omega arith in
-    cut_back (decimal s) (nine_digits (decimal n)) (all_digits (decimal s) ∙ digits_decimal own s small)
+    cut_back (decimal s) (nine_digits (decimal n))
+    (all_digits (decimal s) ∙ digits_decimal own s small)
     ∙ (ap (λ o. moment_from o (fraction_of (nine_digits (decimal n)))) (seconds_back s small)
     ∙ (ap (λ o. moment_from (Some s) o) (fraction_back n below) ∙ moment_back s n moment sum h))

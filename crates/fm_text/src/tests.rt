@@ -1,4 +1,4 @@
-use crate::{ArgText, read_number, read_time, write_time};
+use crate::{read_number, read_time, write_time};
 use std::test::Fail;
 
 #[test]
@@ -65,15 +65,6 @@ fn writes_times(rt: HostRuntime) -> Result<(), Fail> {
         let mut out = b"at ".to_vec(alloc)?;
         write_time(moment, &mut out)?;
         assert_eq!(rt; out.as_slice(), format!(in alloc; "at {text}")?.as_bytes());
-    }
-    Ok(())
-}
-
-#[test]
-fn keeps_words(rt: HostRuntime) -> Result<(), Fail> {
-    for text in ["", " fmd ", "caf\u{e9}"] {
-        let word = ArgText::new(rt.alloc(), text)?;
-        assert_eq!(rt; word.get(), text);
     }
     Ok(())
 }

@@ -1,9 +1,8 @@
-ghost use Rattle.std.specs.Prelude.{◌≡◌, ◌+◌, ◌*◌, ◌^◌, ◌<◌, ◌≤◌, ◌++◌, IfSome, OnOk, OnErr, IfOk, Some};
-ghost use Rattle.fm_text.specs.Number.{value_of};
-ghost use Rattle.fm_text.specs.Time.{time_text, fraction_of, moment_from, time_of};
+ghost use Rattle.std.specs.Prelude.{◌≡◌, ◌+◌, ◌*◌, ◌^◌, ◌<◌, ◌++◌, OnOk, OnErr, IfOk, Some};
+ghost use Rattle.fm_text.specs.Time.{value_of, time_text, fraction_of, moment_from, time_of};
 
-use crate::no_memory::NoMemory;
 use crate::numbers::read_number;
+use fm_bytes::NoMemory;
 
 /// Nanoseconds in a second.
 const SECOND: u64 = 1_000_000_000;
@@ -24,7 +23,7 @@ pub fn write_time(moment: u64, out: &mut Vec<u8>) -> Result<(), NoMemory>
 }
 
 /// The nanoseconds that the digits after the dot mean.
-#[tactic(auto, using(crate::proofs::Reading::fraction_none, crate::proofs::Reading::fraction_some, crate::proofs::Reading::fraction_long, crate::proofs::Reading::fraction_fits))]
+#[tactic(auto, using(crate::proofs::Reading::fractions))]
 fn read_fraction(digits: &str) -> Option<u64>
     ensures { result ≡ fraction_of digits.now }
 {
@@ -47,7 +46,7 @@ fn moment_of(seconds: u64, nanoseconds: u64) -> Option<u64>
 }
 
 /// The moment of a text of seconds and of nanoseconds, where there are any.
-#[tactic(auto, using(crate::proofs::Reading::seconds_none, crate::proofs::Reading::seconds_some))]
+#[tactic(auto, using(crate::proofs::Reading::seconds_read))]
 fn moment_at(seconds: &str, nanoseconds: Option<u64>) -> Option<u64>
     ensures { result ≡ moment_from (value_of seconds.now) nanoseconds }
 {
@@ -56,8 +55,8 @@ fn moment_at(seconds: &str, nanoseconds: Option<u64>) -> Option<u64>
     moment_of(seconds, nanoseconds)
 }
 
-/// Reads digits, or digits, a dot and one to nine digits, as a moment of nanoseconds; None where the text
-/// is nothing of the kind, or the moment is not below 2^62. Takes no memory.
+/// Reads digits, or digits, a dot and one to nine digits, as a moment of nanoseconds; None where
+/// the text is nothing of the kind, or the moment is not below 2^62. Takes no memory.
 pub fn read_time(text: &str) -> Option<u64>
     ensures { result ≡ time_of text.now }
 {

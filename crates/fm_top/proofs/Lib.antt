@@ -1,13 +1,16 @@
 pub mod Accepts
 pub mod AnswerLists
+pub mod Appends
 pub mod CountLines
 pub mod Cuts
+pub mod Doing
 pub mod Feeding
 pub mod Halts
 pub mod Lending
 pub mod Moving
 pub mod OnPieces
 pub mod Opens
+pub mod Orders
 pub mod Replays
 pub mod Sinks
 pub mod Stopping

@@ -1,7 +1,8 @@
 -- A run that stops at its first line.
-use Rattle.std.proofs.Common.{ℕ, ◌∷◌, [], List, Bool, length, take, None, Some, refl, sym, ap, subst, arith, inl, inr, Result}
+use Rattle.std.proofs.Common.{ℕ, ◌∷◌, [], List, Bool, length, take, None, Some, refl, sym, ap}
+use Rattle.std.proofs.Common.{subst, arith, inl, inr, Result}
 use Rattle.fm_top.specs.declared.stops.Stop.{Stop}
-use Rattle.fm_top.specs.declared.stops.Stop.TheVariants.{Usage, Damaged, Read, Write, Disk, Memory, Full}
+use Rattle.fm_top.specs.declared.stops.Stop.TheVariants.{Write, Disk, Memory, Full}
 use Rattle.fm_top.specs.Answers.{answer, answers, entries_in}
 use Rattle.fm_top.specs.Running.{Line, Taken, StopsAt}
 use Rattle.fm_top.specs.Refusing.{LineStops}
@@ -10,8 +11,10 @@ use Rattle.std.proofs.lemmas.Result.{IfErr-weaker}
 use Rattle.std.specs.Result.{IfErr}
 use Rattle.fm_top.proofs.AnswerLists.{entries_none, entries_one, answers_none, answers_one}
 
-pub line_stops : (taken : Taken) (puts : List ℕ → Type 0) (is_told : Bool) (number next : ℕ) (line : Line) (stop : Stop)
-    → LineStops taken puts (answer is_told number next line) (entries_in line) stop → StopsAt taken puts (answers is_told number next) [] line stop
+pub line_stops : (taken : Taken) (puts : List ℕ → Type 0) (is_told : Bool) (number next : ℕ)
+    (line : Line) (stop : Stop)
+    → LineStops taken puts (answer is_told number next line) (entries_in line) stop
+    → StopsAt taken puts (answers is_told number next) [] line stop
 line_stops taken puts is_told number next line Write (m, within, put, took) = (
   m,
   omega (arith, ap length (answers_none is_told number next)),
@@ -25,17 +28,23 @@ line_stops taken puts is_told number next line Memory (put, took) = (
     | inr one ↦ inr (subst (λ es. taken es None) (sym (entries_one line)) one)
   ],
 )
-line_stops taken puts is_told number next line Disk (put, (entry, only, left)) =
-    (subst puts (sym (answers_none is_told number next)) put, (entry, only, subst (λ es. taken es (Some (Disk, entry))) (sym entries_none) left))
-line_stops taken puts is_told number next line (Full kind) (put, (entry, only, left)) =
-    (subst puts (sym (answers_none is_told number next)) put, (entry, only, subst (λ es. taken es (Some (Full kind, entry))) (sym entries_none) left))
-line_stops taken puts is_told number next line Usage stops = stops
-line_stops taken puts is_told number next line (Damaged place) stops = stops
-line_stops taken puts is_told number next line Read stops = stops
+line_stops taken puts is_told number next line Disk (put, (entry, only, left)) = (
+  subst puts (sym (answers_none is_told number next)) put,
+  (entry, only, subst (λ es. taken es (Some (Disk, entry))) (sym entries_none) left),
+)
+line_stops taken puts is_told number next line (Full kind) (put, (entry, only, left)) = (
+  subst puts (sym (answers_none is_told number next)) put,
+  (entry, only, subst (λ es. taken es (Some (Full kind, entry))) (sym entries_none) left),
+)
+line_stops taken puts is_told number next line _ stops = absurd stops
 
 -- the same of a result
-pub line_stops_in : {T : Type 0} (taken : Taken) (puts : List ℕ → Type 0) (is_told : Bool) (number next : ℕ) (line : Line) (r : Result T Stop)
-    → IfErr r (LineStops taken puts (answer is_told number next line) (entries_in line)) → IfErr r (StopsIn taken puts (answers is_told number next) (line ∷ []))
+pub line_stops_in : {T : Type 0} (taken : Taken) (puts : List ℕ → Type 0) (is_told : Bool)
+    (number next : ℕ) (line : Line) (r : Result T Stop)
+    → IfErr r (LineStops taken puts (answer is_told number next line) (entries_in line))
+    → IfErr r (StopsIn taken puts (answers is_told number next) (line ∷ []))
 line_stops_in taken puts is_told number next line r stops =
-    IfErr-weaker r (LineStops taken puts (answer is_told number next line) (entries_in line)) (StopsIn taken puts (answers is_told number next) (line ∷ []))
-    (λ stop stopped. (line, refl, line_stops taken puts is_told number next line stop stopped)) stops
+    IfErr-weaker r (LineStops taken puts (answer is_told number next line) (entries_in line))
+    (StopsIn taken puts (answers is_told number next) (line ∷ []))
+    (λ stop stopped. (line, refl, line_stops taken puts is_told number next line stop stopped))
+    stops

@@ -1,5 +1,6 @@
 -- What is answered to the lines of the input, and which entries they hold.
-use Rattle.std.specs.Prelude.{ℕ, ◌+◌, ◌++◌, List, [], ◌∷◌, Bool, length, codes, decimal, Option, Some, None, Result, Ok, Err, unwrap_or, if◌then◌else◌}
+use Rattle.std.specs.Prelude.{ℕ, ◌+◌, ◌++◌, List, [], ◌∷◌, Bool, length, codes, decimal, Option}
+use Rattle.std.specs.Prelude.{Some, None, Result, Ok, Err, unwrap_or, if◌then◌else◌}
 use Rattle.fm_entry.specs.declared.entry.Entry.{Entry}
 use Rattle.fm_line.specs.declared.fault.LineFault.{LineFault}
 use Rattle.fm_line.specs.Faults.{code_of}
@@ -11,7 +12,8 @@ ok_text number = codes "ok " ++ (decimal number ++ codes "\n")
 
 -- `refused LINE CODE`
 abbrev pub refused_text : ℕ → ℕ → List ℕ
-refused_text line code = codes "refused " ++ (decimal line ++ (codes " " ++ (decimal code ++ codes "\n")))
+refused_text line code =
+    codes "refused " ++ (decimal line ++ (codes " " ++ (decimal code ++ codes "\n")))
 
 -- the entry of a line, if it has one: none of a line that is skipped or has a fault
 abbrev pub entries_at : Option (Result Entry LineFault) → List Entry
@@ -26,8 +28,8 @@ unfoldable pub entries_of : List (Option (List ℕ)) → List Entry
 entries_of [] = []
 entries_of (line ∷ lines) = entries_in line ++ entries_of lines
 
--- the answer to a line of this number, where the next entry has the number `next`. Where `is_told` is false,
--- nothing is said of an entry that was taken.
+-- the answer to a line of this number, where the next entry has the number `next`. Where `is_told`
+-- is false, nothing is said of an entry that was taken.
 abbrev pub answer_to : Bool → ℕ → ℕ → Result Entry LineFault → List ℕ
 answer_to is_told number next (Ok entry) = if is_told then ok_text next else []
 answer_to is_told number next (Err fault) = refused_text number (unwrap_or (code_of fault) 0)
@@ -44,4 +46,5 @@ answer is_told number next line = answer_at is_told number next (outcome line)
 unfoldable pub answers : Bool → ℕ → ℕ → List (Option (List ℕ)) → List ℕ
 answers is_told number next [] = []
 answers is_told number next (line ∷ lines) =
-    answer is_told number next line ++ answers is_told (number + 1) (next + length (entries_in line)) lines
+    answer is_told number next line
+    ++ answers is_told (number + 1) (next + length (entries_in line)) lines

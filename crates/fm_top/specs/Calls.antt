@@ -1,99 +1,79 @@
 -- What a call of the fault manager does, by its command.
-use Rattle.std.specs.Prelude.{◌≡◌, ℕ, List, Option, None, Result, MatchResult}
-use Rattle.std.specs.Io.KnownBytes.{Appends, Consumes, IsAtEnd}
+use Rattle.std.specs.Prelude.{◌≡◌, ℕ, List, Option, None, Some, Result, Err, OnOk, IfErr, slice_get}
 use Rattle.fm_outer.specs.Failures.{Rose}
-use Rattle.fm_top.specs.Accepting.{AcceptedAll, AcceptStops}
-use Rattle.fm_top.specs.Ending.{LastPut}
-use Rattle.fm_top.specs.Replaying.{ReplayedAll, ReplayStops}
+use Rattle.fm_top.specs.Accepting.{AcceptRan}
+use Rattle.fm_top.specs.Ending.{EndsAs}
+use Rattle.fm_top.specs.Order.{Goes, looks, world_of}
+use Rattle.fm_top.specs.Outside.{Outside, SinkAt, source_counts, disk_counts, counts_of}
+use Rattle.fm_top.specs.Replaying.{ReplayRan}
+use Rattle.fm_top.specs.declared.six_disks.Disks.{Disks}
 use Rattle.fm_top.specs.declared.status.ToolStatus.{ToolStatus}
-use Rattle.fm_top.specs.declared.status.ToolStatus.TheVariants as status
 use Rattle.fm_top.specs.declared.stops.Stop.{Stop}
+use Rattle.fm_top.specs.declared.stops.Stop.TheVariants.{Usage, Read, Write, Disk}
 use Rattle.fm_top.specs.declared.words.Command.{Command}
+use Rattle.fm_top.specs.declared.words.Command.TheVariants.{Accept, Replay}
 
--- `accept` ran, and `middle` is what had been put then; after it the last line was put.
-pub record Accepts (seen : Option (List ℕ)) (old new : List ℕ → Type 0) (put put_now left left_now : Option (List ℕ)) (result : ToolStatus) : Type 0 where
-  pub ran : Result (Unit {0}) Stop
-  pub middle : Option (List ℕ)
-  pub went : MatchResult ran (λ _. AcceptedAll seen new (Appends put middle) (Consumes left left_now) (IsAtEnd left_now))
-      (AcceptStops seen old new (Appends put middle) (Consumes left left_now) (IsAtEnd left_now))
-  pub last : LastPut ran (Appends middle put_now) result
+-- the count at a place rose
+abbrev pub RoseAt : List ℕ → List ℕ → ℕ → Type 0
+RoseAt before now at =
+    (a : ℕ) × (b : ℕ) × (slice_get before at ≡ Some a) × (slice_get now at ≡ Some b) × Rose a b
 
--- `replay` ran, and `middle` is what had been put then; after it the last line was put.
-pub record Replays (put put_now left left_now : Option (List ℕ)) (result : ToolStatus) : Type 0 where
-  pub ran : Result (Unit {0}) Stop
-  pub middle : Option (List ℕ)
-  pub went : MatchResult ran (λ _. ReplayedAll (Appends put middle) (Consumes left left_now) (IsAtEnd left_now))
-      (ReplayStops (Appends put middle) (Consumes left left_now) (IsAtEnd left_now))
-  pub last : LastPut ran (Appends middle put_now) result
+-- EACH FAULT OF THE OUTSIDE, one line a fault: it comes only where a count of that kind rose
+abbrev pub IsCaused : Outside → Outside → Stop → Type 0
+IsCaused before after Read = (at : ℕ) × RoseAt (source_counts before) (source_counts after) at
+IsCaused before after Write = Rose before.out.failures after.out.failures
+IsCaused before after Disk = (at : ℕ)
+    × RoseAt (disk_counts before.disks) (disk_counts after.disks) at
+IsCaused before after _ = Unit {0}
 
--- When each status comes: a fault only where that object's count rose, and `Usage` only where the words are no command.
-abbrev pub StatusCause : Option Command → (input input_now sink sink_now disk disk_now : ℕ) → ToolStatus → Type 0
-StatusCause command input input_now sink sink_now disk disk_now status.Usage = command ≡ None
-StatusCause command input input_now sink sink_now disk disk_now status.ReadFault = Rose input input_now
-StatusCause command input input_now sink sink_now disk disk_now status.WriteFault = Rose sink sink_now
-StatusCause command input input_now sink sink_now disk disk_now status.DiskFault = Rose disk disk_now
-StatusCause command input input_now sink sink_now disk disk_now status.Done = command ≡ None → ⊥
-StatusCause command input input_now sink sink_now disk disk_now status.Damaged = command ≡ None → ⊥
-StatusCause command input input_now sink sink_now disk disk_now status.Full = command ≡ None → ⊥
-StatusCause command input input_now sink sink_now disk disk_now status.NoMemory = Unit {0}
-StatusCause command input input_now sink sink_now disk disk_now status.Rules = ⊥
-StatusCause command input input_now sink sink_now disk disk_now status.Topology = ⊥
-StatusCause command input input_now sink sink_now disk disk_now status.Differs = ⊥
-StatusCause command input input_now sink sink_now disk disk_now status.NotFound = ⊥
-StatusCause command input input_now sink sink_now disk disk_now status.ActFault = ⊥
-StatusCause command input input_now sink sink_now disk disk_now status.Graph = ⊥
-StatusCause command input input_now sink sink_now disk disk_now status.Exists = ⊥
+-- WHAT EACH COMMAND DOES, one line a command
+abbrev pub Did : Command → Outside → Outside → Result (Unit {0}) Stop → Type 0
+Did Accept before after ran =
+    AcceptRan before.input after.input before.out after.out before.disks.err_a after.disks.err_a ran
+Did Replay before after ran = ReplayRan before.input after.input before.out after.out ran
 
--- the same of a call of `accept`
-abbrev pub AcceptCause : (input input_now sink sink_now disk disk_now : ℕ) → ToolStatus → Type 0
-AcceptCause input input_now sink sink_now disk disk_now status.ReadFault = Rose input input_now
-AcceptCause input input_now sink sink_now disk disk_now status.WriteFault = Rose sink sink_now
-AcceptCause input input_now sink sink_now disk disk_now status.DiskFault = Rose disk disk_now
-AcceptCause input input_now sink sink_now disk disk_now status.Done = Unit {0}
-AcceptCause input input_now sink sink_now disk disk_now status.Damaged = Unit {0}
-AcceptCause input input_now sink sink_now disk disk_now status.Full = Unit {0}
-AcceptCause input input_now sink sink_now disk disk_now status.NoMemory = Unit {0}
-AcceptCause input input_now sink sink_now disk disk_now status.Usage = ⊥
-AcceptCause input input_now sink sink_now disk disk_now status.Rules = ⊥
-AcceptCause input input_now sink sink_now disk disk_now status.Topology = ⊥
-AcceptCause input input_now sink sink_now disk disk_now status.Differs = ⊥
-AcceptCause input input_now sink sink_now disk disk_now status.NotFound = ⊥
-AcceptCause input input_now sink sink_now disk disk_now status.ActFault = ⊥
-AcceptCause input input_now sink sink_now disk disk_now status.Graph = ⊥
-AcceptCause input input_now sink sink_now disk disk_now status.Exists = ⊥
+-- a command ran, up to its last line
+pub record Ran (command : Command) (before after : Outside) (ran : Result (Unit {0}) Stop) : Type 0
+  where
+    pub order : Goes (world_of before) (looks command) ran
+    pub cause : IfErr ran (IsCaused before after)
+    pub quiet : OnOk ran (counts_of after ≡ counts_of before)
+    pub did : Did command before after ran
 
--- the same of a call whose words are no command
-abbrev pub UsageCause : ℕ → ℕ → ToolStatus → Type 0
-UsageCause sink sink_now status.Usage = Unit {0}
-UsageCause sink sink_now status.WriteFault = Rose sink sink_now
-UsageCause sink sink_now status.NoMemory = Unit {0}
-UsageCause sink sink_now status.ReadFault = ⊥
-UsageCause sink sink_now status.DiskFault = ⊥
-UsageCause sink sink_now status.Done = ⊥
-UsageCause sink sink_now status.Damaged = ⊥
-UsageCause sink sink_now status.Full = ⊥
-UsageCause sink sink_now status.Rules = ⊥
-UsageCause sink sink_now status.Topology = ⊥
-UsageCause sink sink_now status.Differs = ⊥
-UsageCause sink sink_now status.NotFound = ⊥
-UsageCause sink sink_now status.ActFault = ⊥
-UsageCause sink sink_now status.Graph = ⊥
-UsageCause sink sink_now status.Exists = ⊥
+-- What a call does: the command of its words ran, `middle` is the sink then, and its last line was
+-- put. Where they are no command only the last line is put.
+abbrev pub Does : Option Command → Outside → Outside → ToolStatus → Type 0
+Does None before after result = EndsAs before.out after.out (Err Usage) result
+Does (Some command) before after result =
+    (ran : Result (Unit {0}) Stop) × (middle : SinkAt)
+    × Ran command before (record after { out = middle }) ran × EndsAs middle after.out ran result
 
--- the same of a call of `replay`, which opens no disk
-abbrev pub ReplayCause : (input input_now sink sink_now : ℕ) → ToolStatus → Type 0
-ReplayCause input input_now sink sink_now status.ReadFault = Rose input input_now
-ReplayCause input input_now sink sink_now status.WriteFault = Rose sink sink_now
-ReplayCause input input_now sink sink_now status.Done = Unit {0}
-ReplayCause input input_now sink sink_now status.Full = Unit {0}
-ReplayCause input input_now sink sink_now status.NoMemory = Unit {0}
-ReplayCause input input_now sink sink_now status.DiskFault = ⊥
-ReplayCause input input_now sink sink_now status.Damaged = Unit {0}
-ReplayCause input input_now sink sink_now status.Usage = ⊥
-ReplayCause input input_now sink sink_now status.Rules = ⊥
-ReplayCause input input_now sink sink_now status.Topology = ⊥
-ReplayCause input input_now sink sink_now status.Differs = ⊥
-ReplayCause input input_now sink sink_now status.NotFound = ⊥
-ReplayCause input input_now sink sink_now status.ActFault = ⊥
-ReplayCause input input_now sink sink_now status.Graph = ⊥
-ReplayCause input input_now sink sink_now status.Exists = ⊥
+-- the objects that are handed in, but for the sink
+pub record Handed (S D A : Type 0) : Type 0 where
+  pub input : S
+  pub rules : List S
+  pub topo : S
+  pub disks : Disks D
+  pub acts : List A
+
+abbrev pub handed : {S D A : Type 0} → S → List S → S → Disks D → List A → Handed S D A
+handed input rules topo disks acts =
+    record { input = input; rules = rules; topo = topo; disks = disks; acts = acts }
+
+-- WHAT EACH COMMAND WORKS ON, one line a command: all else that was handed in is as it was
+abbrev pub WorksOn : {S D A : Type 0} → Option Command → Handed S D A → Handed S D A → Type 0
+WorksOn None old new = new ≡ old
+WorksOn (Some Accept) old new =
+    new ≡ record old { input = new.input; disks = record old.disks { err_a = new.disks.err_a } }
+WorksOn (Some Replay) old new = new ≡ record old { input = new.input }
+
+-- the names of the disks
+abbrev pub names_of : {D : Type 0} → (D → ℕ) → Disks D → Disks ℕ
+names_of name disks = record {
+  conf = name disks.conf;
+  err_a = name disks.err_a;
+  err_b = name disks.err_b;
+  slot_a = name disks.slot_a;
+  slot_b = name disks.slot_b;
+  flt = name disks.flt;
+}

@@ -1,25 +1,17 @@
 -- A core of two counters, and how it is drained.
 use Rattle.std.specs.Prelude.{◌≡◌, ℕ, ◌+◌, [], map, length}
 use Rattle.fm_core.specs.Book.{Book}
-use Rattle.fm_core.specs.Counter.{CounterOf, counter_meaning}
+use Rattle.fm_core.specs.Counter.{CounterOf, counters}
 use Rattle.fm_core.specs.Hands.{HandOf}
-use Rattle.fm_core.specs.Meaning.{Meaning, State, Counting}
-use Rattle.fm_core.specs.Seen.{CoreOf, seen, book_of, IsCore}
-
--- the meaning and the state of a counter
-abbrev pub meaning_of : CounterOf → Meaning
-meaning_of c = counter_meaning c.number
-
-abbrev pub state_of : CounterOf → State
-state_of c = Counting c.counts
+use Rattle.fm_core.specs.Seen.{CoreOf, seen, stands_for, IsCore}
 
 -- the book that a core of counters stands for
 abbrev pub core_book : CoreOf CounterOf → Book
-core_book c = book_of (seen meaning_of state_of c)
+core_book c = stands_for counters c
 
 -- a core of counters whose book is lawful and whose hands follow it
 abbrev pub IsInOrder : CoreOf CounterOf → Type 0
-IsInOrder c = IsCore (seen meaning_of state_of c)
+IsInOrder c = IsCore (seen counters c)
 
 -- a hand of a counter, at a place
 abbrev pub hand_at : ℕ → CounterOf → HandOf CounterOf

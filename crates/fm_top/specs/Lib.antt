@@ -1,4 +1,5 @@
 pub mod Accepting
+pub mod Accounts
 pub mod Answers
 pub mod Calls
 pub mod Draining
@@ -6,8 +7,11 @@ pub mod Ended
 pub mod Ending
 pub mod Halting
 pub mod Held
+pub mod HeldLaws
 pub mod Lending
 pub mod Opening
+pub mod Order
+pub mod Outside
 pub mod Recorders
 pub mod Recording
 pub mod RecordingLaws

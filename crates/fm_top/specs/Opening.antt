@@ -7,39 +7,39 @@ use Rattle.fm_journal.specs.Format.{IsJournal}
 use Rattle.fm_journal.specs.declared.fault.JournalFault.{JournalFault}
 use Rattle.fm_journal.specs.declared.fault.JournalFault.TheVariants as fault
 use Rattle.fm_top.specs.declared.stops.Stop.{Stop}
-use Rattle.fm_top.specs.declared.stops.Stop.TheVariants.{Usage, Damaged, Read, Write, Disk, Memory, Full}
+use Rattle.fm_top.specs.declared.stops.Stop.TheVariants.{Damaged, Disk}
 
--- The bytes stand for a list of payloads, whose first has this number: they are a journal, or there are none yet.
+-- The bytes stand for a list of payloads, whose first has this number: they are a journal, or there
+-- are none yet.
 abbrev pub Stood : List ℕ → ℕ → List (List ℕ) → Type 0
-Stood bytes first payloads = ((bytes ≡ []) × (first ≡ 0) × (payloads ≡ [])) ⊎ IsJournal bytes first payloads
+Stood bytes first payloads = ((bytes ≡ []) × (first ≡ 0) × (payloads ≡ []))
+    ⊎ IsJournal bytes first payloads
 
 -- where the bytes are told, they stand for some list
 abbrev pub IsThere : Option (List ℕ) → Type 0
-IsThere seen = (bytes : List ℕ) → seen ≡ Some bytes → (first : ℕ) × (payloads : List (List ℕ)) × Stood bytes first payloads
+IsThere seen = (bytes : List ℕ) → seen ≡ Some bytes → (first : ℕ) × (payloads : List (List ℕ))
+    × Stood bytes first payloads
 
--- the bytes, where they are told, are no journal, and there are some; and this is the first bad place
+-- the bytes, where they are told, are no journal, and there are some; and this is the first bad
+-- place
 abbrev pub IsDamaged : Option (List ℕ) → ℕ → Type 0
-IsDamaged seen place = (bytes : List ℕ) → seen ≡ Some bytes → IsDamagedAt bytes place × (0 < length bytes)
+IsDamaged seen place = (bytes : List ℕ) → seen ≡ Some bytes → IsDamagedAt bytes place
+    × (0 < length bytes)
 
--- Of the opening: the disk failed, or it is damaged.
+-- Of the opening: the disk failed, or it is damaged, and then its count is as it was.
 abbrev pub OpeningCause : Option (List ℕ) → ℕ → ℕ → JournalFault → Type 0
 OpeningCause seen before now fault.Disk = Rose before now
-OpeningCause seen before now (fault.Damaged place) = IsDamaged seen place
-OpeningCause seen before now (fault.Full kind) = ⊥
-OpeningCause seen before now (fault.Closed faults) = ⊥
+OpeningCause seen before now (fault.Damaged place) = (now ≡ before) × IsDamaged seen place
+OpeningCause seen before now _ = ⊥
 
 -- the same in the words of a run
 abbrev pub OpeningStops : Option (List ℕ) → Stop → Type 0
 OpeningStops seen Disk = Unit {0}
 OpeningStops seen (Damaged place) = IsDamaged seen place
-OpeningStops seen Usage = ⊥
-OpeningStops seen Read = ⊥
-OpeningStops seen Write = ⊥
-OpeningStops seen Memory = ⊥
-OpeningStops seen (Full kind) = ⊥
+OpeningStops seen _ = ⊥
 
--- After an opening that was refused each image is one from before. Where the disk was empty, and a journal was to be
--- made, it may also be the front of one, or no journal, or one without payloads.
+-- After an opening that was refused each image is one from before. Where the disk was empty, and a
+-- journal was to be made, it may also be the front of one, or no journal, or one without payloads.
 abbrev pub LeftUnopened : Option (List ℕ) → (List ℕ → Type 0) → (List ℕ → Type 0) → Type 0
 LeftUnopened seen old new = (image : List ℕ) → new image →
     old image ⊎ (((bytes : List ℕ) → seen ≡ Some bytes → bytes ≡ []) × IsFrontOrEmpty old image)

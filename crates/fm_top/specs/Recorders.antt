@@ -2,11 +2,11 @@
 use Rattle.std.specs.Prelude.{◌<◌, ◌^◌, length}
 use Rattle.fm_entry.specs.declared.entry.Entry.{Entry}
 use Rattle.fm_entry.specs.Entries.{entry_bytes}
-use Rattle.fm_journal.specs.declared.fault.FullKind.TheVariants.{Records, Numbers, Bytes, Payload, Input}
+use Rattle.fm_journal.specs.declared.fault.FullKind.TheVariants.{Payload}
 use Rattle.fm_journal.specs.declared.fault.JournalFault.{JournalFault}
 use Rattle.fm_journal.specs.declared.fault.JournalFault.TheVariants as fault
 use Rattle.fm_top.specs.declared.stops.Stop.{Stop}
-use Rattle.fm_top.specs.declared.stops.Stop.TheVariants.{Usage, Damaged, Read, Write, Disk, Memory, Full}
+use Rattle.fm_top.specs.declared.stops.Stop.TheVariants.{Damaged, Disk, Memory, Full}
 
 -- why a run stops where a journal refused
 abbrev pub stop_for : JournalFault → Stop
@@ -19,12 +19,4 @@ stop_for (fault.Closed faults) = Disk
 abbrev pub FrameStops : Entry → Stop → Type 0
 FrameStops entry Memory = Unit {0}
 FrameStops entry (Full Payload) = 2 ^ 28 < length (entry_bytes entry)
-FrameStops entry (Full Records) = ⊥
-FrameStops entry (Full Numbers) = ⊥
-FrameStops entry (Full Bytes) = ⊥
-FrameStops entry (Full Input) = ⊥
-FrameStops entry Usage = ⊥
-FrameStops entry (Damaged place) = ⊥
-FrameStops entry Read = ⊥
-FrameStops entry Write = ⊥
-FrameStops entry Disk = ⊥
+FrameStops entry _ = ⊥

@@ -1,25 +1,37 @@
 -- What `replay` does: the entries of the input go through two counters.
-use Rattle.std.specs.Prelude.{◌≡◌, ◌⊎◌, ℕ, ◌+◌, ◌≤◌, ◌^◌, List, [], ◌∷◌, ◌++◌, false, length, take, codes, decimal, None, Some}
-use Rattle.fm_core.specs.Book.{Book, Part, with_entries}
+use Rattle.std.specs.Prelude.{◌≡◌, ◌⊎◌, ℕ, ◌+◌, ◌≤◌, ◌^◌, List, [], ◌∷◌, ◌++◌, false, length, take}
+use Rattle.std.specs.Prelude.{codes, decimal, None, Some, Result, MatchResult}
+use Rattle.std.specs.Io.KnownBytes.{Appends, Consumes, IsAtEnd}
+use Rattle.fm_core.specs.Book.{Book, ModuleState, with_entries}
 use Rattle.fm_core.specs.Counter.{counter_meaning}
 use Rattle.fm_core.specs.Drained.{Ended, Drained, drained}
-use Rattle.fm_core.specs.Meaning.{State, Counting, Foreign}
+use Rattle.fm_core.specs.Meaning.{State, Counting}
 use Rattle.fm_core.specs.declared.class_count.ClassCount.{ClassCount}
 use Rattle.fm_entry.specs.declared.entry.Entry.{Entry}
-use Rattle.fm_journal.specs.declared.fault.FullKind.TheVariants.{Records, Numbers, Bytes, Payload, Input}
+use Rattle.fm_journal.specs.declared.fault.FullKind.TheVariants.{Numbers}
 use Rattle.fm_line.specs.Lines.{lines_of}
+use Rattle.fm_top.specs.Accounts.{Accounts}
 use Rattle.fm_top.specs.Answers.{answers, entries_of}
+use Rattle.fm_top.specs.Outside.{SourceAt, SinkAt}
 use Rattle.fm_top.specs.Running.{Taken, RanUntil}
 use Rattle.fm_top.specs.declared.stops.Stop.{Stop}
-use Rattle.fm_top.specs.declared.stops.Stop.TheVariants.{Usage, Damaged, Read, Write, Disk, Memory, Full}
+use Rattle.fm_top.specs.declared.stops.Stop.TheVariants.{Read, Write, Memory, Full}
 
 -- a counter that has counted nothing
-abbrev pub fresh_part : ℕ → Part
-fresh_part own = record { meaning = counter_meaning own; state = Counting [] }
+abbrev pub fresh_module : ℕ → ModuleState
+fresh_module own = record { meaning = counter_meaning own; state = Counting [] }
 
 -- the book of two counters, numbered 0 and 1, before any entry
 abbrev pub fresh_book : Book
-fresh_book = record { base = 0; moment = 0; parts = fresh_part 0 ∷ fresh_part 1 ∷ []; entries = []; cursors = 0 ∷ 0 ∷ []; records = [] }
+fresh_book = record {
+  base = 0;
+  moment = 0;
+  modules =
+      fresh_module 0 ∷ fresh_module 1 ∷ [];
+  entries = [];
+  cursors = 0 ∷ 0 ∷ [];
+  records = [];
+}
 
 -- what the two counters come to once each has taken these entries
 unfoldable pub replayed : List Entry → Drained
@@ -42,7 +54,7 @@ count_lines (x ∷ xs) = count_line x ++ count_lines xs
 -- the counts of a counter
 abbrev pub counts_in : State → List ClassCount
 counts_in (Counting xs) = xs
-counts_in (Foreign bytes) = []
+counts_in _ = []
 
 -- the counts of the first module
 abbrev pub first_counts : List Ended → List ClassCount
@@ -51,7 +63,9 @@ first_counts (m ∷ ms) = counts_in m.state
 
 -- `entries E spoken S`, and then the counts
 abbrev pub summary_text : ℕ → ℕ → List ClassCount → List ℕ
-summary_text entries spoken counts = (codes "entries " ++ (decimal entries ++ (codes " spoken " ++ (decimal spoken ++ codes "\n")))) ++ count_lines counts
+summary_text entries spoken counts =
+    (codes "entries " ++ (decimal entries ++ (codes " spoken " ++ (decimal spoken ++ codes "\n"))))
+    ++ count_lines counts
 
 -- that of two modules which have taken all entries
 abbrev pub summary_of : Drained → List ℕ
@@ -65,18 +79,10 @@ replay_text entries = summary_of (replayed entries)
 abbrev pub ReplayTaken : Taken
 ReplayTaken entries None = Unit {0}
 ReplayTaken entries (Some (Full Numbers, entry)) = 2 ^ 46 ≤ length entries
-ReplayTaken entries (Some (Full Records, entry)) = ⊥
-ReplayTaken entries (Some (Full Bytes, entry)) = ⊥
-ReplayTaken entries (Some (Full Payload, entry)) = ⊥
-ReplayTaken entries (Some (Full Input, entry)) = ⊥
-ReplayTaken entries (Some (Usage, entry)) = ⊥
-ReplayTaken entries (Some (Damaged place, entry)) = ⊥
-ReplayTaken entries (Some (Read, entry)) = ⊥
-ReplayTaken entries (Some (Write, entry)) = ⊥
-ReplayTaken entries (Some (Disk, entry)) = ⊥
-ReplayTaken entries (Some (Memory, entry)) = ⊥
+ReplayTaken entries _ = ⊥
 
--- The input was read to its end, and this text was put: the refused lines, the numbers and the counts.
+-- The input was read to its end, and this text was put: the refused lines, the numbers and the
+-- counts.
 pub record ReplayedAll (puts consumes : List ℕ → Type 0) (at_end : Type 0) : Type 0 where
   pub read : List ℕ
   pub consumed : consumes read
@@ -84,24 +90,35 @@ pub record ReplayedAll (puts consumes : List ℕ → Type 0) (at_end : Type 0) :
   pub within : length read ≤ 2 ^ 40
   pub put : puts (answers false 1 0 (lines_of read) ++ replay_text (entries_of (lines_of read)))
 
--- the sink failed, or memory was wanted
-abbrev pub IsOfSink : Stop → Type 0
-IsOfSink stop = (stop ≡ Write) ⊎ (stop ≡ Memory)
+-- what was put of a text: a front where the sink failed, and nothing where memory was wanted before
+abbrev pub IsPartOf : List ℕ → Stop → List ℕ → Type 0
+IsPartOf text Write part = (m : ℕ) × (m ≤ length text) × (part ≡ take m text)
+IsPartOf text Memory part = part ≡ []
+IsPartOf text _ part = ⊥
 
 -- The input was read to its end and all refused lines were put, but only a part of what follows.
-pub record SummaryCut (puts consumes : List ℕ → Type 0) (at_end : Type 0) (stop : Stop) : Type 0 where
-  pub read : List ℕ
-  pub consumed : consumes read
-  pub whole : at_end
-  pub why : IsOfSink stop
-  pub m : ℕ
-  pub put : puts (answers false 1 0 (lines_of read) ++ take m (replay_text (entries_of (lines_of read))))
+pub record SummaryCut (puts consumes : List ℕ → Type 0) (at_end : Type 0) (stop : Stop) : Type 0
+  where
+    pub read : List ℕ
+    pub consumed : consumes read
+    pub whole : at_end
+    pub within : length read ≤ 2 ^ 40
+    pub part : List ℕ
+    pub why : IsPartOf (replay_text (entries_of (lines_of read))) stop part
+    pub put : puts (answers false 1 0 (lines_of read) ++ part)
 
 -- `replay` stopped, within the run over the input or after it, or before it for want of memory
 abbrev pub ReplayStops : (List ℕ → Type 0) → (List ℕ → Type 0) → Type 0 → Stop → Type 0
 ReplayStops puts consumes at_end stop =
     RanUntil ReplayTaken puts false 0 consumes at_end stop ⊎ SummaryCut puts consumes at_end stop
 
--- a part of the text was put
-abbrev pub SummaryStops : (List ℕ → Type 0) → List ℕ → Stop → Type 0
-SummaryStops puts text stop = (m : ℕ) × puts (take m text)
+-- `replay` ran, from the input to the sink
+pub record ReplayRan (input input_now : SourceAt) (out out_now : SinkAt)
+    (ran : Result (Unit {0}) Stop) : Type 0 where
+  pub went : MatchResult ran
+      (λ _. ReplayedAll (Appends out.bytes out_now.bytes) (Consumes input.left input_now.left)
+      (IsAtEnd input_now.left))
+      (ReplayStops (Appends out.bytes out_now.bytes) (Consumes input.left input_now.left)
+      (IsAtEnd input_now.left))
+  pub counts_input : Accounts Read input.failures input_now.failures ran
+  pub counts_out : Accounts Write out.failures out_now.failures ran

@@ -1,7 +1,11 @@
 -- The exit status of each way to end.
 use Rattle.std.specs.Prelude.{ℕ}
 use Rattle.fm_top.specs.declared.status.ToolStatus.{ToolStatus}
-use Rattle.fm_top.specs.declared.status.ToolStatus.TheVariants.{Done, Usage, Rules, Topology, Differs, Damaged, ReadFault, WriteFault, DiskFault, NoMemory, NotFound, Full, ActFault, Graph, Exists}
+use Rattle.fm_top.specs.declared.status.ToolStatus.TheVariants.{Done, Usage, Rules, Topology}
+use Rattle.fm_top.specs.declared.status.ToolStatus.TheVariants.{Differs, Damaged, ReadFault}
+use Rattle.fm_top.specs.declared.status.ToolStatus.TheVariants.{WriteFault, DiskFault, NoMemory}
+use Rattle.fm_top.specs.declared.status.ToolStatus.TheVariants.{NotFound, Full, ActFault, Graph}
+use Rattle.fm_top.specs.declared.status.ToolStatus.TheVariants.{Exists}
 
 -- the number that the program ends with
 abbrev pub code_of : ToolStatus → ℕ

@@ -1,11 +1,13 @@
 -- The status and the last line of each way to end before all is done.
 use Rattle.std.specs.Prelude.{ℕ, List, [], ◌++◌, codes, decimal}
 use Rattle.fm_journal.specs.declared.fault.FullKind.{FullKind}
-use Rattle.fm_journal.specs.declared.fault.FullKind.TheVariants.{Records, Numbers, Bytes, Payload, Input}
+use Rattle.fm_journal.specs.declared.fault.FullKind.TheVariants.{Records, Numbers, Bytes, Payload}
+use Rattle.fm_journal.specs.declared.fault.FullKind.TheVariants.{Input}
 use Rattle.fm_top.specs.declared.status.ToolStatus.{ToolStatus}
 use Rattle.fm_top.specs.declared.status.ToolStatus.TheVariants as status
 use Rattle.fm_top.specs.declared.stops.Stop.{Stop}
-use Rattle.fm_top.specs.declared.stops.Stop.TheVariants.{Usage, Damaged, Read, Write, Disk, Memory, Full}
+use Rattle.fm_top.specs.declared.stops.Stop.TheVariants.{Usage, Damaged, Read, Write, Disk, Memory}
+use Rattle.fm_top.specs.declared.stops.Stop.TheVariants.{Full}
 
 -- the status that tells it
 abbrev pub status_of : Stop → ToolStatus

@@ -9,16 +9,23 @@ use Rattle.fm_top.specs.Tallied.{Tallied, sum_with, count_of}
 pub tallied_none : (a : Tally) → Tallied a a [] None
 tallied_none a = record { same = λ more. refl; refused = tt }
 
-pub tallied_on : (a b c : Tally) (es fs : List Entry) (last : Option (Stop × Entry)) → Tallied a b es None → Tallied b c fs last → Tallied a c (es ++ fs) last
+pub tallied_on : (a b c : Tally) (es fs : List Entry) (last : Option (Stop × Entry))
+    → Tallied a b es None → Tallied b c fs last → Tallied a c (es ++ fs) last
 tallied_on a b c es fs last first then = record {
-  same = λ more. then.same more ∙ first.same (fs ++ more) ∙ ap (sum_with a) (sym (append_assoc es fs more));
+  same = λ more. then.same more ∙ first.same (fs ++ more)
+      ∙ ap (sum_with a) (sym (append_assoc es fs more));
   refused = then.refused;
 }
 
-pub tallied_numbers : (a b : Tally) (es : List Entry) → Tallied a b es None → count_of b ≡ count_of a + length es
+pub tallied_numbers : (a b : Tally) (es : List Entry) → Tallied a b es None
+    → count_of b ≡ count_of a + length es
 tallied_numbers a b es tallied =
-    let counts : b.core.base + length (b.core.entries ++ []) ≡ a.core.base + length (a.core.entries ++ (es ++ [])) = ap (λ s. s.entries) (tallied.same []) in
-    let now : length (b.core.entries ++ []) ≡ length b.core.entries + 0 = length-append b.core.entries [] in
-    let before : length (a.core.entries ++ (es ++ [])) ≡ length a.core.entries + length (es ++ []) = length-append a.core.entries (es ++ []) in
+    let counts : b.core.base + length (b.core.entries ++ [])
+    ≡ a.core.base + length (a.core.entries ++ (es ++ [])) =
+    ap (λ s. s.entries) (tallied.same []) in
+    let now : length (b.core.entries ++ []) ≡ length b.core.entries + 0 =
+    length-append b.core.entries [] in
+    let before : length (a.core.entries ++ (es ++ [])) ≡ length a.core.entries + length (es ++ []) =
+    length-append a.core.entries (es ++ []) in
     let more : length (es ++ []) ≡ length es + 0 = length-append es [] in
     omega (arith, counts, now, before, more)

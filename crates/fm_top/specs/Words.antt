@@ -6,7 +6,8 @@ use Rattle.fm_top.specs.declared.words.Command.TheVariants.{Accept, Replay}
 
 -- the command of one word
 abbrev pub command_in : List ℕ → Option Command
-command_in word = if bytes_eq word (codes "accept") then Some Accept else if bytes_eq word (codes "replay") then Some Replay else None
+command_in word = if bytes_eq word (codes "accept") then Some Accept else if bytes_eq word
+    (codes "replay") then Some Replay else None
 
 -- the command of the words: there is just one word, and it names a command
 abbrev pub command_of : List (List ℕ) → Option Command

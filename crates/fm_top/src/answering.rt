@@ -1,12 +1,15 @@
 // The answer to one line.
-ghost use Rattle.std.specs.Prelude.{◌≡◌, ℕ, ◌≤◌, List, [], ◌∷◌, codes, decimal, ◌++◌, if◌then◌else◌, unwrap_or, Ok, Err, Some, None, OnOk, IfOk, IfErr};
+ghost use Rattle.std.specs.Prelude.{◌≡◌, ℕ, ◌≤◌, List, [], ◌∷◌, codes, decimal, ◌++◌};
+ghost use Rattle.std.specs.Prelude.{if◌then◌else◌, unwrap_or, Ok, Err, Some, None, OnOk, IfOk};
+ghost use Rattle.std.specs.Prelude.{IfErr};
 ghost use Rattle.std.specs.Io.KnownBytes.{Appends};
-ghost use Rattle.fm_outer.specs.Failures.{Rose};
-ghost use Rattle.fm_entry.specs.Entries.{IsSpelled};
-ghost use Rattle.fm_line.specs.Lines.{told};
+ghost use Rattle.fm_core.specs.Book.{IsAdmitted};
+ghost use Rattle.fm_line.specs.Lines.{ended_line};
 ghost use Rattle.fm_line.specs.Faults.{code_of, IsOfLine};
+ghost use Rattle.fm_top.specs.Accounts.{Accounts};
 ghost use Rattle.fm_top.specs.Answers.{ok_text, refused_text, answer, entries_in};
-ghost use Rattle.fm_top.specs.Refusing.{PutStops, LineStops};
+ghost use Rattle.fm_top.specs.Outside.{sink_at};
+ghost use Rattle.fm_top.specs.Refusing.{PutCut, LineStops};
 
 use crate::stops::Stop;
 use crate::takers::Taker;
@@ -18,9 +21,8 @@ use std::alloc::Global;
 /// Puts a whole text, by one call.
 pub(crate) fn put_text<K: Sink>(out: &mut K, text: &str) -> Result<(), Stop>
     ensures ok { OnOk result (Appends (K.put_bytes out.old) (K.put_bytes out.new) text.now) }
-    ensures err { IfErr result (PutStops (Appends (K.put_bytes out.old) (K.put_bytes out.new)) text.now) }
-    ensures later { K.failures out.old ≤ K.failures out.new }
-    ensures cause { result ≡ Err Stop.Write → Rose (K.failures out.old) (K.failures out.new) }
+    ensures err { IfErr result (PutCut (sink_at K.Sink out.old) (sink_at K.Sink out.new) text.now) }
+    ensures counts { Accounts Stop.Write (K.failures out.old) (K.failures out.new) result }
 {
     match out.put(text.as_bytes()) {
         Ok(()) => Ok(()),
@@ -31,10 +33,11 @@ pub(crate) fn put_text<K: Sink>(out: &mut K, text: &str) -> Result<(), Stop>
 /// Tells that an entry was taken.
 #[tactic(auto, using(crate::proofs::Sinks::appends_none))]
 fn tell<K: Sink>(alloc: Global, number: u64, out: &mut K) -> Result<(), Stop>
-    ensures ok { OnOk result (Appends (K.put_bytes out.old) (K.put_bytes out.new) (ok_text number)) }
-    ensures err { IfErr result (PutStops (Appends (K.put_bytes out.old) (K.put_bytes out.new)) (ok_text number)) }
-    ensures later { K.failures out.old ≤ K.failures out.new }
-    ensures cause { result ≡ Err Stop.Write → Rose (K.failures out.old) (K.failures out.new) }
+    ensures ok { OnOk result
+        (Appends (K.put_bytes out.old) (K.put_bytes out.new) (ok_text number)) }
+    ensures err { IfErr result
+        (PutCut (sink_at K.Sink out.old) (sink_at K.Sink out.new) (ok_text number)) }
+    ensures counts { Accounts Stop.Write (K.failures out.old) (K.failures out.new) result }
 {
     let text = format!(in alloc; "ok {number}\n")?;
     put_text(out, text.as_str())
@@ -43,27 +46,30 @@ fn tell<K: Sink>(alloc: Global, number: u64, out: &mut K) -> Result<(), Stop>
 /// Tells that a line was refused.
 #[tactic(auto, using(crate::proofs::Sinks::appends_none))]
 fn refuse<K: Sink>(alloc: Global, line: u64, code: u8, out: &mut K) -> Result<(), Stop>
-    ensures ok { OnOk result (Appends (K.put_bytes out.old) (K.put_bytes out.new) (refused_text line code)) }
-    ensures err { IfErr result (PutStops (Appends (K.put_bytes out.old) (K.put_bytes out.new)) (refused_text line code)) }
-    ensures later { K.failures out.old ≤ K.failures out.new }
-    ensures cause { result ≡ Err Stop.Write → Rose (K.failures out.old) (K.failures out.new) }
+    ensures ok { OnOk result
+        (Appends (K.put_bytes out.old) (K.put_bytes out.new) (refused_text line code)) }
+    ensures err { IfErr result
+        (PutCut (sink_at K.Sink out.old) (sink_at K.Sink out.new) (refused_text line code)) }
+    ensures counts { Accounts Stop.Write (K.failures out.old) (K.failures out.new) result }
 {
     let text = format!(in alloc; "refused {line} {code}\n")?;
     put_text(out, text.as_str())
 }
 
 /// Answers a line by its fault.
+#[tactic(auto, using(crate::proofs::Sinks::appends_none))]
 fn answer_fault<K: Sink>(
     alloc: Global,
     line: u64,
     fault: LineFault,
     out: &mut K,
 ) -> Result<(), Stop>
-    ensures ok { OnOk result (IsOfLine fault × Appends (K.put_bytes out.old) (K.put_bytes out.new) (refused_text line (unwrap_or (code_of fault) 0))) }
-    ensures err { IfErr result (PutStops (Appends (K.put_bytes out.old) (K.put_bytes out.new)) (refused_text line (unwrap_or (code_of fault) 0))) }
+    ensures ok { OnOk result (IsOfLine fault × Appends (K.put_bytes out.old) (K.put_bytes out.new)
+        (refused_text line (unwrap_or (code_of fault) 0))) }
+    ensures err { IfErr result (PutCut (sink_at K.Sink out.old) (sink_at K.Sink out.new)
+        (refused_text line (unwrap_or (code_of fault) 0))) }
     ensures write { result ≡ Err Stop.Write → IsOfLine fault }
-    ensures later { K.failures out.old ≤ K.failures out.new }
-    ensures cause { result ≡ Err Stop.Write → Rose (K.failures out.old) (K.failures out.new) }
+    ensures counts { Accounts Stop.Write (K.failures out.old) (K.failures out.new) result }
 {
     match fault.code() {
         None => Err(Stop::Memory),
@@ -74,24 +80,24 @@ fn answer_fault<K: Sink>(
 /// Has the entry taken, and tells its number where that is to be told.
 fn take_entry<K: Sink, T: Taker>(
     alloc: Global,
-    is_told: bool,
     entry: Entry,
     out: &mut K,
     taker: &mut T,
 ) -> Result<(), Stop>
     requires ready { T.ready taker.old }
-    requires spelled { IsSpelled entry }
-    ensures put { OnOk result (Appends (K.put_bytes out.old) (K.put_bytes out.new) (if is_told then ok_text (T.next taker.old) else [])) }
+    requires admitted { IsAdmitted entry }
+    ensures put { OnOk result (Appends (K.put_bytes out.old) (K.put_bytes out.new)
+        (if T.TELLS_NUMBERS then ok_text (T.next taker.old) else [])) }
     ensures took { OnOk result (T.went taker.old taker.new (entry ∷ []) None) }
     ensures ready { OnOk result (T.ready taker.new) }
     ensures same_taker { T.name taker.new ≡ T.name taker.old }
-    ensures err { IfErr result (LineStops (T.went taker.old taker.new) (Appends (K.put_bytes out.old) (K.put_bytes out.new))
-        (if is_told then ok_text (T.next taker.old) else []) (entry ∷ [])) }
-    ensures later { K.failures out.old ≤ K.failures out.new }
-    ensures cause { result ≡ Err Stop.Write → Rose (K.failures out.old) (K.failures out.new) }
+    ensures err { IfErr result (LineStops (T.went taker.old taker.new)
+        (Appends (K.put_bytes out.old) (K.put_bytes out.new))
+        (if T.TELLS_NUMBERS then ok_text (T.next taker.old) else []) (entry ∷ [])) }
+    ensures counts { Accounts Stop.Write (K.failures out.old) (K.failures out.new) result }
 {
     let number = taker.take(alloc, entry)?;
-    if is_told {
+    if T::TELLS_NUMBERS {
         tell(alloc, number, out)
     } else {
         Ok(())
@@ -102,37 +108,37 @@ fn take_entry<K: Sink, T: Taker>(
 #[tactic(auto, unfolding(crate::specs::Answers::answer, crate::specs::Answers::entries_in))]
 fn answer_text<K: Sink, T: Taker>(
     alloc: Global,
-    is_told: bool,
     number: u64,
     line: &[u8],
     out: &mut K,
     taker: &mut T,
 ) -> Result<(), Stop>
     requires ready { T.ready taker.old }
-    ensures put { OnOk result (Appends (K.put_bytes out.old) (K.put_bytes out.new) (answer is_told number (T.next taker.old) (Some line.now))) }
+    ensures put { OnOk result (Appends (K.put_bytes out.old) (K.put_bytes out.new)
+        (answer T.TELLS_NUMBERS number (T.next taker.old) (Some line.now))) }
     ensures took { OnOk result (T.went taker.old taker.new (entries_in (Some line.now)) None) }
     ensures ready { OnOk result (T.ready taker.new) }
     ensures same_taker { T.name taker.new ≡ T.name taker.old }
-    ensures err { IfErr result (LineStops (T.went taker.old taker.new) (Appends (K.put_bytes out.old) (K.put_bytes out.new))
-        (answer is_told number (T.next taker.old) (Some line.now)) (entries_in (Some line.now))) }
-    ensures later { K.failures out.old ≤ K.failures out.new }
-    ensures cause { result ≡ Err Stop.Write → Rose (K.failures out.old) (K.failures out.new) }
+    ensures err { IfErr result (LineStops (T.went taker.old taker.new)
+        (Appends (K.put_bytes out.old) (K.put_bytes out.new))
+        (answer T.TELLS_NUMBERS number (T.next taker.old) (Some line.now))
+        (entries_in (Some line.now))) }
+    ensures counts { Accounts Stop.Write (K.failures out.old) (K.failures out.new) result }
 {
     if is_blank_line(line) {
         return Ok(());
     }
     match read_line(alloc, line) {
-        Ok(entry) => take_entry(alloc, is_told, entry, out, taker),
+        Ok(entry) => take_entry(alloc, entry, out, taker),
         Err(fault) => answer_fault(alloc, number, fault, out),
     }
 }
 
-/// Answers a line by one put at most: an entry by its number, where that is to be told, and a line that is
-/// refused by the line's own number and its fault. A line of blanks is passed over.
+/// Answers a line by one put at most: an entry by its number, where that is to be told, and a line
+/// that is refused by the line's own number and its fault. A line of blanks is passed over.
 #[tactic(auto, unfolding(crate::specs::Answers::answer, crate::specs::Answers::entries_in))]
 pub(crate) fn answer_line<K: Sink, T: Taker>(
     alloc: Global,
-    is_told: bool,
     number: u64,
     whole: Whole,
     line: &[u8],
@@ -140,17 +146,20 @@ pub(crate) fn answer_line<K: Sink, T: Taker>(
     taker: &mut T,
 ) -> Result<(), Stop>
     requires ready { T.ready taker.old }
-    ensures put { OnOk result (Appends (K.put_bytes out.old) (K.put_bytes out.new) (answer is_told number (T.next taker.old) (told whole line.now))) }
-    ensures took { OnOk result (T.went taker.old taker.new (entries_in (told whole line.now)) None) }
+    ensures put { OnOk result (Appends (K.put_bytes out.old) (K.put_bytes out.new)
+        (answer T.TELLS_NUMBERS number (T.next taker.old) (ended_line whole line.now))) }
+    ensures took { OnOk result
+        (T.went taker.old taker.new (entries_in (ended_line whole line.now)) None) }
     ensures ready { OnOk result (T.ready taker.new) }
     ensures same_taker { T.name taker.new ≡ T.name taker.old }
-    ensures err { IfErr result (LineStops (T.went taker.old taker.new) (Appends (K.put_bytes out.old) (K.put_bytes out.new))
-        (answer is_told number (T.next taker.old) (told whole line.now)) (entries_in (told whole line.now))) }
-    ensures later { K.failures out.old ≤ K.failures out.new }
-    ensures cause { result ≡ Err Stop.Write → Rose (K.failures out.old) (K.failures out.new) }
+    ensures err { IfErr result (LineStops (T.went taker.old taker.new)
+        (Appends (K.put_bytes out.old) (K.put_bytes out.new))
+        (answer T.TELLS_NUMBERS number (T.next taker.old) (ended_line whole line.now))
+        (entries_in (ended_line whole line.now))) }
+    ensures counts { Accounts Stop.Write (K.failures out.old) (K.failures out.new) result }
 {
     match whole {
-        Whole::Line => answer_text(alloc, is_told, number, line, out, taker),
+        Whole::Line => answer_text(alloc, number, line, out, taker),
         Whole::TooLong => answer_fault(alloc, number, LineFault::TooLong, out),
     }
 }

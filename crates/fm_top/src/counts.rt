@@ -8,7 +8,8 @@ use std::fmt::Write;
 
 /// Adds the count of one class.
 fn push_count(text: &mut String, counted: &ClassCount) -> Result<(), AllocError>
-    ensures { OnOk result (string_bytes text.new ≡ string_bytes text.old ++ count_line counted.now) }
+    ensures { OnOk result
+        (string_bytes text.new ≡ string_bytes text.old ++ count_line counted.now) }
 {
     let number = counted.count;
     let class = counted.class.text();
@@ -17,7 +18,8 @@ fn push_count(text: &mut String, counted: &ClassCount) -> Result<(), AllocError>
 
 /// Adds the counts.
 pub(crate) fn push_counts(text: &mut String, counts: &[ClassCount]) -> Result<(), AllocError>
-    ensures { OnOk result (string_bytes text.new ≡ string_bytes text.old ++ count_lines counts.now) }
+    ensures { OnOk result
+        (string_bytes text.new ≡ string_bytes text.old ++ count_lines counts.now) }
 {
     for counted in counts {
         push_count(text, counted)?;

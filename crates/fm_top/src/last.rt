@@ -1,11 +1,12 @@
 // The last line, and the status.
 ghost use Rattle.std.specs.Prelude.{◌≡◌, ◌⊎◌, ◌≤◌, [], Ok, Err, OnOk, IfErr};
 ghost use Rattle.std.specs.Io.KnownBytes.{Appends};
-ghost use Rattle.fm_outer.specs.Failures.{Rose};
 ghost use Rattle.fm_journal.specs.declared.fault.FullKind.TheVariants as full;
+ghost use Rattle.fm_top.specs.Accounts.{Accounts};
 ghost use Rattle.fm_top.specs.Stops.{last_text, kind_text};
-ghost use Rattle.fm_top.specs.Refusing.{PutStops};
-ghost use Rattle.fm_top.specs.Ending.{LastPut, EndCause};
+ghost use Rattle.fm_top.specs.Outside.{sink_at};
+ghost use Rattle.fm_top.specs.Refusing.{PutCut};
+ghost use Rattle.fm_top.specs.Ending.{EndsAs};
 
 use crate::answering::put_text;
 use crate::status::ToolStatus;
@@ -16,10 +17,11 @@ use std::alloc::Global;
 
 /// Tells which limit is reached.
 fn put_full<K: Sink>(kind: FullKind, out: &mut K) -> Result<(), Stop>
-    ensures ok { OnOk result (Appends (K.put_bytes out.old) (K.put_bytes out.new) (last_text (Stop.Full kind))) }
-    ensures err { IfErr result (PutStops (Appends (K.put_bytes out.old) (K.put_bytes out.new)) (last_text (Stop.Full kind))) }
-    ensures later { K.failures out.old ≤ K.failures out.new }
-    ensures cause { result ≡ Err Stop.Write → Rose (K.failures out.old) (K.failures out.new) }
+    ensures ok { OnOk result
+        (Appends (K.put_bytes out.old) (K.put_bytes out.new) (last_text (Stop.Full kind))) }
+    ensures err { IfErr result
+        (PutCut (sink_at K.Sink out.old) (sink_at K.Sink out.new) (last_text (Stop.Full kind))) }
+    ensures counts { Accounts Stop.Write (K.failures out.old) (K.failures out.new) result }
 {
     match kind {
         FullKind::Records => put_text(out, "full records\n"),
@@ -33,10 +35,12 @@ fn put_full<K: Sink>(kind: FullKind, out: &mut K) -> Result<(), Stop>
 /// Tells where the journal of reports is damaged.
 #[tactic(auto, using(crate::proofs::Sinks::appends_none))]
 fn put_damaged<K: Sink>(alloc: Global, place: u64, out: &mut K) -> Result<(), Stop>
-    ensures ok { OnOk result (Appends (K.put_bytes out.old) (K.put_bytes out.new) (last_text (Stop.Damaged place))) }
-    ensures err { IfErr result (PutStops (Appends (K.put_bytes out.old) (K.put_bytes out.new)) (last_text (Stop.Damaged place))) }
-    ensures later { K.failures out.old ≤ K.failures out.new }
-    ensures cause { result ≡ Err Stop.Write → Rose (K.failures out.old) (K.failures out.new) }
+    ensures ok { OnOk result
+        (Appends (K.put_bytes out.old) (K.put_bytes out.new) (last_text (Stop.Damaged place))) }
+    ensures err { IfErr result
+        (PutCut (sink_at K.Sink out.old) (sink_at K.Sink out.new)
+        (last_text (Stop.Damaged place))) }
+    ensures counts { Accounts Stop.Write (K.failures out.old) (K.failures out.new) result }
 {
     let text = format!(in alloc; "damaged err_a {place}\n")?;
     put_text(out, text.as_str())
@@ -44,10 +48,11 @@ fn put_damaged<K: Sink>(alloc: Global, place: u64, out: &mut K) -> Result<(), St
 
 /// Puts the last line, if there is one.
 fn put_last<K: Sink>(alloc: Global, stop: Stop, out: &mut K) -> Result<(), Stop>
-    ensures ok { OnOk result (Appends (K.put_bytes out.old) (K.put_bytes out.new) (last_text stop)) }
-    ensures err { IfErr result (PutStops (Appends (K.put_bytes out.old) (K.put_bytes out.new)) (last_text stop)) }
-    ensures later { K.failures out.old ≤ K.failures out.new }
-    ensures cause { result ≡ Err Stop.Write → Rose (K.failures out.old) (K.failures out.new) }
+    ensures ok { OnOk result
+        (Appends (K.put_bytes out.old) (K.put_bytes out.new) (last_text stop)) }
+    ensures err { IfErr result
+        (PutCut (sink_at K.Sink out.old) (sink_at K.Sink out.new) (last_text stop)) }
+    ensures counts { Accounts Stop.Write (K.failures out.old) (K.failures out.new) result }
 {
     match stop {
         Stop::Usage => put_text(out, "usage\n"),
@@ -59,12 +64,10 @@ fn put_last<K: Sink>(alloc: Global, stop: Stop, out: &mut K) -> Result<(), Stop>
     }
 }
 
-/// Puts the last line of a command that stopped, and gives the status. Where that line can't be put whole, the status
-/// tells why.
+/// Puts the last line of a command that stopped, and gives the status. Where that line can't be put
+/// whole, the status tells why.
 pub(crate) fn end<K: Sink>(alloc: Global, ran: Result<(), Stop>, out: &mut K) -> ToolStatus
-    ensures put { LastPut ran (Appends (K.put_bytes out.old) (K.put_bytes out.new)) result }
-    ensures later { K.failures out.old ≤ K.failures out.new }
-    ensures cause { EndCause ran (K.failures out.old) (K.failures out.new) result }
+    ensures { EndsAs (sink_at K.Sink out.old) (sink_at K.Sink out.new) ran result }
 {
     match ran {
         Ok(()) => ToolStatus::Done,

@@ -8,8 +8,8 @@ ghost use Rattle.fm_outer.specs.Crash.{Torn, Shorter, Follows, NoMore, OnlySeen,
 
 use fm_outer::{Disk, Failed};
 
-/// A disk that is lent. Its name tells which reference it is and which disk, so that who lends it knows that the
-/// disk came back, and that it is still that disk.
+/// A disk that is lent. Its name tells which reference it is and which disk, so that who lends it
+/// knows that the disk came back, and that it is still that disk.
 #[derive(Drop)]
 pub(crate) struct Lent<'a, D: Disk> {
     pub(crate) disk: &'a mut D,

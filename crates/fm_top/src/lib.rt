@@ -1,22 +1,36 @@
-//! The top call: what one run of the fault manager does with its words, its input, its sink and its disks.
+//! The top call: what one run of the fault manager does with its words, its input, its sink and its
+//! disks.
 //!
-//! `tool` finds the command in the words and runs it. Both commands read the input by one loop, `pieces::run`: it reads
-//! pieces, cuts them into lines, and answers each line once, after its entry was taken. What takes the entries is a
-//! `takers::Taker`: for `accept` the journal of reports, which is opened or made first, for `replay` a `tally::Tally`: a
-//! core of two counters in memory, after which the next one goes on. Why a command stops before all is done is a `Stop`; it gives the last line and the status.
+//! `tool` finds the command in the words and runs it, and `last::end` puts its last line. Both
+//! commands read the input by one loop, `reading::run`: it reads pieces, cuts them into lines, and
+//! answers each line once, after its entry was taken. What takes the entries is a `takers::Taker`:
+//! for `accept` the journal of reports, which is opened or made first, for `replay` a
+//! `tally::Tally`: a core of two counters in memory, after which the next one goes on. Why a
+//! command stops before all is done is a `Stop`; it gives the last line and the status.
 //!
-//! The model of a run is the list of bytes that were read. The answers (`specs/Answers`) and the entries are functions
-//! of its lines, and the lines are those of the whole stream, however it came in pieces. `specs/Running` says how a
-//! run ends: at the end of the input with each line answered; between two lines, with each line answered that ended in
-//! the bytes read before; or at a line, with each line before it answered. It says so of any taker, by what became of
-//! the entries; `specs/Accepting` and `specs/Replaying` say what that is for each command.
+//! The model of a call is two records of what stands outside, before and after it
+//! (`specs/Outside`). `specs/Calls` says by the command what lies between them; `specs/Order` in
+//! which order a command refuses, and what stands where it goes on; `specs/Ending` what is put
+//! last.
 //!
-//! The loops carry one relation, `Moved` (`specs/Halting`): from one moment to a later one a piece was read, the lines
-//! that ended in it were answered, and whatever follows goes on from what is kept of the line in progress. It is
-//! transitive, and each loop's invariant is that it holds from the loop's start.
+//! The model of a run over the input is the list of bytes that were read. The answers
+//! (`specs/Answers`) and the entries are functions of its lines, and the lines are those of the
+//! whole stream, however it came in pieces. `specs/Running` says how a run ends: at the end of the
+//! input with each line answered; between two lines, with each line answered that ended in the
+//! bytes read before; or at a line, with each line before it answered. It says so of any taker, by
+//! what became of the entries; `specs/Accepting` and `specs/Replaying` say what that is for each
+//! command.
 //!
-//! `tool` carries all of it: `accept` (the text put, the entries in the journal, in each image that a crash at the
-//! return may leave), `replay` (the text put), `usage`, and when each status comes (`cause`).
+//! The loops carry one relation, `Moved` (`specs/Halting`): from one moment to a later one a piece
+//! was read, the lines that ended in it were answered, and whatever follows goes on from what is
+//! kept of the line in progress. It is transitive, and each loop's invariant is that it holds from
+//! the loop's start.
+//!
+//! Counts of faults: each step says by `Accounts` that an Ok leaves the count of the source, the
+//! sink or the disk, and that its fault is answered only where it rose. So `tool` is done only
+//! where no count rose.
+//!
+//! `tool` carries all of it in one clause, `does`; `works_on` says what a command leaves alone.
 #![tactic(auto)]
 
 mod accept;
@@ -27,7 +41,6 @@ mod counts;
 mod last;
 mod lent;
 mod opening;
-mod pieces;
 mod reading;
 mod recording;
 mod replaying;

@@ -37,10 +37,15 @@ fn frame_of(alloc: Global, entry: &Entry) -> Result<Frame, Stop>
 }
 
 impl<D: Disk> Taker for Journal<D> {
+    ghost use Rattle.std.specs.Prelude.{true};
     ghost use Rattle.fm_top.specs.Recording.{Recorded};
     ghost use Rattle.fm_top.specs.RecordingLaws.{recorded_none, recorded_on, recorded_numbers};
 
-    ghost went = { λ a b es last. Recorded D.seen D.images D.failures a b es last };
+    ghost TELLS_NUMBERS = { true };
+
+    const TELLS_NUMBERS: bool = true;
+
+    ghost went = { λ a b es last. Recorded D.Disk a b es last };
 
     ghost ready = { λ a. a.closed ≡ None };
 
@@ -48,11 +53,12 @@ impl<D: Disk> Taker for Journal<D> {
 
     ghost next = { λ a. a.first + a.count };
 
-    ghost stays = { λ a. recorded_none D.seen D.images D.failures a };
+    ghost stays = { λ a. recorded_none _ a };
 
-    ghost goes_on = { λ a b c es fs last first then. recorded_on D.seen D.images D.failures a b c es fs last first then };
+    ghost goes_on = { λ a b c es fs last first then. recorded_on _ a b c es fs last first
+        then };
 
-    ghost numbers = { λ a b es went. recorded_numbers D.seen D.images D.failures a b es went };
+    ghost numbers = { λ a b es went. recorded_numbers _ a b es went };
 
     fn take(&mut self, alloc: Global, entry: Entry) -> Result<u64, Stop> {
         let frame = frame_of(alloc, &entry)?;

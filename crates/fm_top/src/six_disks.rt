@@ -1,8 +1,8 @@
 // The disks of a manager.
 ghost use Rattle.std.specs.Prelude.{◌≡◌};
 
-/// The six disks of a manager: the configuration, the two journals of reports, the two slots of checkpoints, and
-/// the journal of what the modules said.
+/// The six disks of a manager: the configuration, the two journals of reports, the two slots of
+/// checkpoints, and the journal of what the modules said.
 #[derive(Drop)]
 pub struct Disks<D> {
     pub conf: D,

@@ -3,6 +3,7 @@ ghost use Rattle.std.specs.Prelude.{◌≡◌};
 ghost use Rattle.fm_top.specs.Stops.{status_of};
 
 use crate::status::ToolStatus;
+use fm_bytes::NoMemory;
 use fm_journal::FullKind;
 use std::alloc::{AllocError, AllocFailed};
 
@@ -62,22 +63,12 @@ impl<T: Drop> From<AllocFailed<T>> for Stop {
     }
 }
 
-impl From<fm_core::NoMemory> for Stop {
+impl From<NoMemory> for Stop {
     ghost use Rattle.fm_top.specs.declared.stops.Stop.TheVariants as stop;
 
     ghost from_gives = { λ _ s. s ≡ stop.Memory };
 
-    fn from(_want: fm_core::NoMemory) -> Stop {
-        Stop::Memory
-    }
-}
-
-impl From<fm_entry::NoMemory> for Stop {
-    ghost use Rattle.fm_top.specs.declared.stops.Stop.TheVariants as stop;
-
-    ghost from_gives = { λ _ s. s ≡ stop.Memory };
-
-    fn from(_want: fm_entry::NoMemory) -> Stop {
+    fn from(_want: NoMemory) -> Stop {
         Stop::Memory
     }
 }

@@ -1,7 +1,8 @@
 // What takes the entries of the input.
-ghost use Rattle.std.specs.Prelude.{◌≡◌, ◌+◌, ◌++◌, ℕ, List, [], ◌∷◌, length, Option, Some, None, OnOk, IfOk, IfErr};
+ghost use Rattle.std.specs.Prelude.{◌≡◌, ◌+◌, ◌++◌, ℕ, Bool, List, [], ◌∷◌, length, Option, Some};
+ghost use Rattle.std.specs.Prelude.{None, OnOk, IfOk, IfErr};
 ghost use Rattle.fm_entry.specs.declared.entry.Entry.{Entry};
-ghost use Rattle.fm_entry.specs.Entries.{IsSpelled};
+ghost use Rattle.fm_core.specs.Book.{IsAdmitted};
 ghost use Rattle.fm_top.specs.declared.stops.Stop.{Stop};
 ghost use Rattle.fm_top.specs.Refusing.{TakeStops};
 
@@ -11,8 +12,13 @@ use std::alloc::Global;
 
 /// What takes the entries of the input, one after another, and numbers them.
 pub(crate) trait Taker {
-    /// From the first to the second these entries were taken, in order, and after them perhaps one more was
-    /// refused, for this cause.
+    ghost TELLS_NUMBERS: { Bool };
+
+    /// Whether the input is told the number of each entry that was taken.
+    const TELLS_NUMBERS: bool;
+
+    /// From the first to the second these entries were taken, in order, and after them perhaps one
+    /// more was refused, for this cause.
     ghost went: { Self → Self → List Entry → Option (Stop × Entry) → Type 0 };
 
     /// It can take one more, or tell why not.
@@ -27,7 +33,7 @@ pub(crate) trait Taker {
     /// Takes the entry, and answers its number.
     fn take(&mut self, alloc: Global, entry: Entry) -> Result<u64, Stop>
         requires ready { ready self.old }
-        requires spelled { IsSpelled entry }
+        requires admitted { IsAdmitted entry }
         ensures number { IfOk result (λ number. number ≡ next self.old) }
         ensures ok { OnOk result (went self.old self.new (entry ∷ []) None) }
         ensures ready { OnOk result (ready self.new) }
@@ -38,8 +44,10 @@ pub(crate) trait Taker {
     ghost stays: { (a : Self) → went a a [] None };
 
     /// What was taken first, and what was taken then.
-    ghost goes_on: { (a b c : Self) (es fs : List Entry) (last : Option (Stop × Entry)) → went a b es None → went b c fs last → went a c (es ++ fs) last };
+    ghost goes_on: { (a b c : Self) (es fs : List Entry) (last : Option (Stop × Entry))
+        → went a b es None → went b c fs last → went a c (es ++ fs) last };
 
     /// Entries are numbered one after another.
-    ghost numbers: { (a b : Self) (es : List Entry) → went a b es None → next b ≡ next a + length es };
+    ghost numbers: { (a b : Self) (es : List Entry) → went a b es None
+        → next b ≡ next a + length es };
 }

@@ -1,5 +1,6 @@
 // The entries of a replay, which two counters take in memory that does not grow with them.
-ghost use Rattle.std.specs.Prelude.{◌≡◌, ◌+◌, ◌<◌, ◌^◌, List, [], ◌∷◌, length, slice_get, map, Some, None, OnOk, IfOk, IfErr, string_bytes};
+ghost use Rattle.std.specs.Prelude.{◌≡◌, ◌+◌, ◌<◌, ◌^◌, List, [], ◌∷◌, length, slice_get, map};
+ghost use Rattle.std.specs.Prelude.{Some, None, OnOk, IfOk, IfErr, string_bytes};
 ghost use Rattle.fm_core.specs.Counter.{CounterOf};
 ghost use Rattle.fm_core.specs.Hands.{HandOf};
 ghost use Rattle.fm_entry.specs.declared.entry.Entry.{Entry};
@@ -21,8 +22,8 @@ const MAX_ENTRIES: u64 = 1 << 46;
 /// How many entries a core takes at the least, before the next one begins.
 const TURN_LEN: usize = 1024;
 
-/// Entries that two counters take. Their core is worked to its end from time to time, and the next core begins there,
-/// so that memory is taken for the counts, and not for each entry.
+/// Entries that two counters take. Their core is worked to its end from time to time, and the next
+/// core begins there, so that memory is taken for the counts, and not for each entry.
 #[derive(Drop)]
 pub(crate) struct Tally {
     core: Core<Counter>,
@@ -41,7 +42,8 @@ fn two_hands(
 ) -> Result<Vec<Hand<Counter>>, Stop>
     requires first { first.number ≡ 0 }
     requires second { second.number ≡ 1 }
-    ensures ok { IfOk result (λ hands. hands.items ≡ hand_at place first ∷ hand_at place second ∷ []) }
+    ensures ok { IfOk result
+        (λ hands. hands.items ≡ hand_at place first ∷ hand_at place second ∷ []) }
     ensures err { IfErr result (λ stop. stop ≡ Stop.Memory) }
 {
     let mut hands = Vec::new(alloc);
@@ -66,7 +68,9 @@ fn first_core(alloc: Global) -> Result<Core<Counter>, Stop>
 fn last_hands(alloc: Global, core: &Core<Counter>) -> Result<Vec<Hand<Counter>>, Stop>
     requires ready { IsInOrder core.now }
     requires two { length core.now.hands ≡ 2 }
-    ensures ok { IfOk result (λ hands. hands.items ≡ map (moved_to (core.now.base + length core.now.entries)) core.now.hands) }
+    ensures ok { IfOk result
+        (λ hands. hands.items ≡ map (moved_to (core.now.base + length core.now.entries))
+        core.now.hands) }
     ensures err { IfErr result (λ stop. stop ≡ Stop.Memory) }
 {
     let first = core.hand(0).state().copy(alloc)?;
@@ -87,12 +91,15 @@ fn next_core(alloc: Global, core: &Core<Counter>) -> Result<Core<Counter>, Stop>
     Ok(Core::new(alloc, core.len(), hands, kept)?)
 }
 
-/// The numbers of entries and of records, of which some were spoken before the core, and the counts of the first module.
+/// The numbers of entries and of records, of which some were spoken before the core, and the counts
+/// of the first module.
 fn summary(alloc: Global, core: &Core<Counter>, before: u64) -> Result<String, AllocError>
     requires some { 0 < length core.now.hands }
     requires fits { before + length core.now.records < 2 ^ 64 }
-    ensures { IfOk result (λ text. (hand : HandOf CounterOf) → slice_get core.now.hands 0 ≡ Some hand
-        → string_bytes text ≡ summary_text (core.now.base + length core.now.entries) (before + length core.now.records) hand.object.counts) }
+    ensures { IfOk result (λ text. (hand : HandOf CounterOf)
+        → slice_get core.now.hands 0 ≡ Some hand
+        → string_bytes text ≡ summary_text (core.now.base + length core.now.entries)
+        (before + length core.now.records) hand.object.counts) }
 {
     let entries = core.len();
     let spoken = before + core.spoken().len() as u64;
@@ -104,7 +111,8 @@ fn summary(alloc: Global, core: &Core<Counter>, before: u64) -> Result<String, A
 impl Tally {
     /// Two counters, before any entry.
     pub(crate) fn new(alloc: Global) -> Result<Tally, Stop>
-        ensures fresh { IfOk result (λ tally. (core_book tally.core ≡ fresh_book) × (tally.spoken ≡ 0)) }
+        ensures fresh { IfOk result (λ tally. (core_book tally.core ≡ fresh_book)
+            × (tally.spoken ≡ 0)) }
         ensures ready { IfOk result IsTally }
         ensures err { IfErr result (λ stop. stop ≡ Stop.Memory) }
     {
@@ -116,8 +124,8 @@ impl Tally {
         })
     }
 
-    /// Works the core to its end, and goes on with the next. The counts are copied then, so a core takes at least as
-    /// many entries as there are counts.
+    /// Works the core to its end, and goes on with the next. The counts are copied then, so a core
+    /// takes at least as many entries as there are counts.
     fn turn(&mut self, alloc: Global) -> Result<(), Stop>
         requires { IsTally self.old }
         ensures same { Tallied self.old self.new [] None }
@@ -148,7 +156,9 @@ impl Tally {
     /// Works both modules to the end of the entries, and gives what is to be put.
     pub(crate) fn text(&mut self, alloc: Global) -> Result<String, Stop>
         requires ready { IsTally self.old }
-        ensures text { IfOk result (λ text. (entries : List Entry) → sum_with self.old [] ≡ sum_of 0 (replayed entries) → string_bytes text ≡ replay_text entries) }
+        ensures text { IfOk result (λ text. (entries : List Entry)
+            → sum_with self.old [] ≡ sum_of 0 (replayed entries)
+            → string_bytes text ≡ replay_text entries) }
         ensures err { IfErr result (λ stop. stop ≡ Stop.Memory) }
     {
         self.core.drain(alloc)?;
@@ -157,8 +167,13 @@ impl Tally {
 }
 
 impl Taker for Tally {
+    ghost use Rattle.std.specs.Prelude.{false};
     ghost use Rattle.fm_top.specs.Tallied.{Tallied, IsTally, count_of};
     ghost use Rattle.fm_top.specs.TallyLaws.{tallied_none, tallied_on, tallied_numbers};
+
+    ghost TELLS_NUMBERS = { false };
+
+    const TELLS_NUMBERS: bool = false;
 
     ghost went = { λ a b es last. Tallied a b es last };
 

@@ -14,3 +14,4 @@ pub mod Twins
 pub mod Faulty
 pub mod Kept
 pub mod Codes
+pub mod Grouping

@@ -1,90 +1,72 @@
 -- The words of a line.
-use Rattle.std.proofs.Common.{◌≡◌, ◌<◌, ◌+◌, ◌^◌, ℕ, Bool, true, false, ◌&&◌, ◌||◌, List, [], ◌∷◌, length, refl, arith, ap, sym, ◌∙◌, Option, Some, None, Result, Ok, Err, nat_lt, slice_index}
+use Rattle.std.proofs.Common.{◌≡◌, ◌+◌, ◌^◌, ℕ, Bool, true, false, ◌&&◌, ◌||◌, List, [], ◌∷◌}
+use Rattle.std.proofs.Common.{length, refl, arith, ap, ◌∙◌, Option, Some, None}
+use Rattle.std.proofs.Common.{nat_lt, nat_le}
 use Rattle.std.specs.Prelude.{◌==◌, if◌then◌else◌}
-use Rattle.std.specs.Char.{is_ascii_digit}
 use Rattle.std.specs.List.{list_all, position_or_len, before_first, after_first}
-use Rattle.std.specs.Str.{all_ascii_digits}
-use Rattle.std.specs.Str.Parse.{digits_value, ParsesUnsigned}
-use Rattle.std.specs.Result.{OkIff, result_ok}
-use Rattle.std.proofs.lemmas.Str.Parse.{IsNumeralModel, numerals_by_value, tells_all_ascii_digits, parse_digits}
-use Rattle.std.proofs.lemmas.Grind.{common_steps}
+use Rattle.std.proofs.lemmas.Bool.Decides.{nat_tests}
+use Rattle.fm_bytes.specs.Decimals.{is_numeral, number_of, numeral_within}
 use Rattle.std.proofs.lemmas.List.{drop_all}
 use Rattle.fm_name.specs.Path.{is_name}
 use Rattle.std.specs.Prelude.{fold}
 use Rattle.std.specs.BTreeMap.{insert_entry}
 use Rattle.std.specs.Ordering.{nat_cmp}
 use Rattle.std.specs.Cmp.Lexicographic.{slice_cmp}
-use Rattle.fm_topo.specs.Property.{Properties, with_word, is_number, is_quoted, is_property, inner_of, value_of, value_read, pair_read, property_read}
+use Rattle.fm_topo.specs.Property.{Properties, with_word, is_number, is_quoted, is_property}
+use Rattle.fm_topo.specs.Property.{inner_of, value_of, value_read, pair_read, property_read}
 use Rattle.fm_topo.specs.declared.values.TopoValue.{TopoValue}
 use Rattle.fm_topo.specs.declared.values.TopoValue.TheVariants.{Number, Text}
 
-own : IsNumeralModel (λ ds. all_ascii_digits ds ≡ true) (digits_value 10)
-own = numerals_by_value _ tells_all_ascii_digits
+-- ---- numbers
+same_tests : (n : ℕ) → nat_le n 18446744073709551615 ≡ nat_lt n (2 ^ 64)
+same_tests n = grind (arith, nat_tests)
 
-pub all_digits : (bs : List ℕ) → list_all is_ascii_digit bs ≡ all_ascii_digits bs
-all_digits [] = refl
-all_digits (b ∷ bs) = ap (λ r. is_ascii_digit b && r) (all_digits bs)
+both_tests : (a b c : Bool) (n : ℕ) → b ≡ c
+    → (if a then (if b then Some n else None) else None) ≡ (if (a && c) then Some n else None)
+both_tests true b c n e = ap (λ (t : Bool). if t then Some n else None) e
+both_tests false b c n e = refl
 
--- the test of the first byte
-abbrev plain : List ℕ → Bool
-plain bs = length bs == 1 || nat_lt 48 (slice_index bs 0)
-
-choose : (d p r : Bool) (v : ℕ) → (d && p) ≡ true → (if r then Some v else None) ≡ (if (d && (p && r)) then Some v else None)
-choose true true r v e = refl
-choose true false r v e = cc
-choose false p r v e = cc
-
-choose_none : (d p r : Bool) (v : ℕ) → (d && p) ≡ false → None ≡ (if (d && (p && r)) then Some v else None)
-choose_none true true r v e = cc
-choose_none true false r v e = refl
-choose_none false p r v e = refl
-
-parsed_at : {E : Type 0} (bs : List ℕ) (r : Result ℕ E) → OkIff r ((0 < length bs) × (digits_value 10 bs < 2 ^ 64)) (digits_value 10 bs)
-    → result_ok r ≡ (if (nat_lt 0 (length bs) && nat_lt (digits_value 10 bs) (2 ^ 64)) then Some (digits_value 10 bs) else None)
-parsed_at bs (Ok v) h = grind (arith, common_steps)
-parsed_at bs (Err e) h = grind (arith, common_steps)
-
-first_true : (d p : Bool) → (d && p) ≡ true → d ≡ true
-first_true true p e = refl
-first_true false p e = e
-
-pub parsed : {E : Type 0} (bs : List ℕ) (r : Result ℕ E) → ParsesUnsigned 64 10 bs r → (list_all is_ascii_digit bs && (length bs == 1 || nat_lt 48 (slice_index bs 0))) ≡ true
-    → result_ok r ≡ (if is_number bs then Some (digits_value 10 bs) else None)
-unfolding is_number
-parsed bs r h d =
-    parsed_at bs r (parse_digits own 64 bs r h (sym (all_digits bs) ∙ first_true (list_all is_ascii_digit bs) (plain bs) d))
-    ∙ choose (list_all is_ascii_digit bs) (plain bs) (nat_lt 0 (length bs) && nat_lt (digits_value 10 bs) (2 ^ 64)) (digits_value 10 bs) d
-
-pub not_digits : (bs : List ℕ) → (list_all is_ascii_digit bs && (length bs == 1 || nat_lt 48 (slice_index bs 0))) ≡ false
-    → None ≡ (if is_number bs then Some (digits_value 10 bs) else None)
-unfolding is_number
-not_digits bs d = choose_none (list_all is_ascii_digit bs) (plain bs) (nat_lt 0 (length bs) && nat_lt (digits_value 10 bs) (2 ^ 64)) (digits_value 10 bs) d
+-- what the reader of numerals answers
+pub number_read : (bs : List ℕ)
+    → numeral_within 18446744073709551615 bs ≡ (if is_number bs then Some (number_of bs) else None)
+unfolding numeral_within is_number
+number_read bs = both_tests (is_numeral bs) (nat_le (number_of bs) 18446744073709551615)
+    (nat_lt (number_of bs) (2 ^ 64)) (number_of bs) (same_tests (number_of bs))
 
 -- ---- values
-number_at : (n q : Bool) (v m : ℕ) (t : List ℕ) → Some m ≡ (if n then Some v else None) → Some (Number m) ≡ (if (n || q) then Some (if n then Number v else Text t) else None)
+number_at : (n q : Bool) (v m : ℕ) (t : List ℕ) → Some m ≡ (if n then Some v else None)
+    → Some (Number m) ≡ (if (n || q) then Some (if n then Number v else Text t) else None)
 number_at true q v m t e = let k : m ≡ v = cc in ap (λ z. Some (Number z)) k
 number_at false q v m t e = cc
 
-pub value_number : (bs : List ℕ) (m : ℕ) → Some m ≡ (if is_number bs then Some (digits_value 10 bs) else None) → Some (Number m) ≡ value_read bs
+pub value_number : (bs : List ℕ) (m : ℕ) → Some m ≡ numeral_within 18446744073709551615 bs
+    → Some (Number m) ≡ value_read bs
 unfolding value_read value_of
-value_number bs m e = number_at (is_number bs) (is_quoted bs) (digits_value 10 bs) m (inner_of bs) e
+value_number bs m e =
+    number_at (is_number bs) (is_quoted bs) (number_of bs) m (inner_of bs) (e ∙ number_read bs)
 
-text_at : (n q : Bool) (v : ℕ) (t u : List ℕ) → None ≡ (if n then Some v else None) → q ≡ true → u ≡ t
+text_at : (n q : Bool) (v : ℕ) (t u : List ℕ) → None ≡ (if n then Some v else None) → q ≡ true
+    → u ≡ t
     → Some (Text u) ≡ (if (n || q) then Some (if n then Number v else Text t) else None)
 text_at true q v t u e f g = cc
 text_at false q v t u e f g = rw f (ap (λ z. Some (Text z)) g)
 
-pub value_quoted : (bs u : List ℕ) → None ≡ (if is_number bs then Some (digits_value 10 bs) else None) → is_quoted bs ≡ true → u ≡ inner_of bs → Some (Text u) ≡ value_read bs
+pub value_quoted : (bs u : List ℕ) → None ≡ numeral_within 18446744073709551615 bs
+    → is_quoted bs ≡ true → u ≡ inner_of bs → Some (Text u) ≡ value_read bs
 unfolding value_read value_of
-value_quoted bs u e f g = text_at (is_number bs) (is_quoted bs) (digits_value 10 bs) (inner_of bs) u e f g
+value_quoted bs u e f g =
+    text_at (is_number bs) (is_quoted bs) (number_of bs) (inner_of bs) u (e ∙ number_read bs) f g
 
-none_at : (n q : Bool) (v : ℕ) (t : TopoValue) → None ≡ (if n then Some v else None) → q ≡ false → None ≡ (if (n || q) then Some t else None)
+none_at : (n q : Bool) (v : ℕ) (t : TopoValue) → None ≡ (if n then Some v else None) → q ≡ false
+    → None ≡ (if (n || q) then Some t else None)
 none_at true q v t e f = cc
 none_at false q v t e f = rw f refl
 
-pub value_none : (bs : List ℕ) → None ≡ (if is_number bs then Some (digits_value 10 bs) else None) → is_quoted bs ≡ false → None ≡ value_read bs
+pub value_none : (bs : List ℕ) → None ≡ numeral_within 18446744073709551615 bs
+    → is_quoted bs ≡ false → None ≡ value_read bs
 unfolding value_read
-value_none bs e f = none_at (is_number bs) (is_quoted bs) (digits_value 10 bs) (value_of bs) e f
+value_none bs e f = none_at (is_number bs) (is_quoted bs) (number_of bs) (value_of bs)
+    (e ∙ number_read bs) f
 
 -- ---- pairs
 pub pair_unnamed : (name value : List ℕ) → is_name name ≡ false → None ≡ pair_read name value
@@ -94,56 +76,74 @@ pair_unnamed name value e = rw e refl
 abbrev pair_of : List ℕ → TopoValue → List ℕ × TopoValue
 pair_of n v = (n, v)
 
-pair_at : (q : Bool) (v w : TopoValue) (n m : List ℕ) → Some v ≡ (if q then Some w else None) → m ≡ n → Some (pair_of m v) ≡ (if q then Some (pair_of n w) else None)
+pair_at : (q : Bool) (v w : TopoValue) (n m : List ℕ) → Some v ≡ (if q then Some w else None)
+    → m ≡ n → Some (pair_of m v) ≡ (if q then Some (pair_of n w) else None)
 pair_at true v w n m e f = let k : v ≡ w = cc in cc
 pair_at false v w n m e f = cc
 
-pub pair_some : (name value m : List ℕ) (v : TopoValue) → is_name name ≡ true → Some v ≡ value_read value → m ≡ name → Some (pair_of m v) ≡ pair_read name value
+pub pair_some : (name value m : List ℕ) (v : TopoValue) → is_name name ≡ true
+    → Some v ≡ value_read value → m ≡ name → Some (pair_of m v) ≡ pair_read name value
 unfolding pair_read value_read
-pair_some name value m v e f g = rw e (pair_at (is_number value || is_quoted value) v (value_of value) name m f g)
+pair_some name value m v e f g =
+    rw e (pair_at (is_number value || is_quoted value) v (value_of value) name m f g)
 
-pair_none_at : (q : Bool) (w : TopoValue) (n : List ℕ) → None ≡ (if q then Some w else None) → None ≡ (if q then Some (pair_of n w) else None)
+pair_none_at : (q : Bool) (w : TopoValue) (n : List ℕ) → None ≡ (if q then Some w else None)
+    → None ≡ (if q then Some (pair_of n w) else None)
 pair_none_at true w n e = cc
 pair_none_at false w n e = refl
 
-pub pair_none : (name value : List ℕ) → is_name name ≡ true → None ≡ value_read value → None ≡ pair_read name value
+pub pair_none : (name value : List ℕ) → is_name name ≡ true → None ≡ value_read value
+    → None ≡ pair_read name value
 unfolding pair_read value_read
-pair_none name value e f = rw e (pair_none_at (is_number value || is_quoted value) (value_of value) name f)
+pair_none name value e f =
+    rw e (pair_none_at (is_number value || is_quoted value) (value_of value) name f)
 
 -- ---- words
-pub property_some : (word name value : List ℕ) (found : Option (List ℕ × TopoValue)) → name ≡ before_first (λ b. b == 61) word → value ≡ after_first (λ b. b == 61) word
+pub property_some : (word name value : List ℕ) (found : Option (List ℕ × TopoValue))
+    → name ≡ before_first (λ b. b == 61) word → value ≡ after_first (λ b. b == 61) word
     → found ≡ pair_read name value → found ≡ property_read word
 unfolding pair_read property_read is_property
-property_some word name value found e f g = g ∙ (ap (λ n. pair_read n value) e ∙ ap (pair_read (before_first (λ b. b == 61) word)) f)
+property_some word name value found e f g = g
+    ∙ (ap (λ n. pair_read n value) e ∙ ap (pair_read (before_first (λ b. b == 61) word)) f)
 
 no_value : (n : Bool) (x : List ℕ × TopoValue) → None ≡ (if (n && false) then Some x else None)
 no_value true x = refl
 no_value false x = refl
 
-pub property_none : (word : List ℕ) → position_or_len (λ b. b == 61) word ≡ length word → None ≡ property_read word
+pub property_none : (word : List ℕ) → position_or_len (λ b. b == 61) word ≡ length word
+    → None ≡ property_read word
 unfolding property_read is_property is_number is_quoted
 property_none word h =
-    let d : after_first (λ b. b == 61) word ≡ [] = rw h (drop_all (length word + 1) word (omega arith)) in
-    rw d (no_value (is_name (before_first (λ b. b == 61) word)) (before_first (λ b. b == 61) word, value_of []))
+    let d : after_first (λ b. b == 61) word ≡ [] =
+    rw h (drop_all (length word + 1) word (omega arith)) in
+    rw d (no_value (is_name (before_first (λ b. b == 61) word))
+    (before_first (λ b. b == 61) word, value_of []))
 
 -- ---- all words of a line
-property_at : (p : Bool) (x y : List ℕ × TopoValue) → Some x ≡ (if p then Some y else None) → (p ≡ true) × (x ≡ y)
+property_at : (p : Bool) (x y : List ℕ × TopoValue) → Some x ≡ (if p then Some y else None)
+    → (p ≡ true) × (x ≡ y)
 property_at true x y e = (refl, cc)
 property_at false x y e = cc
 
-property_is : (word name : List ℕ) (value : TopoValue) → Some (pair_of name value) ≡ property_read word
-    → (is_property word ≡ true) × (pair_of name value ≡ pair_of (before_first (λ b. b == 61) word) (value_of (after_first (λ b. b == 61) word)))
+property_is : (word name : List ℕ) (value : TopoValue)
+    → Some (pair_of name value) ≡ property_read word
+    → (is_property word ≡ true)
+    × (pair_of name value
+    ≡ pair_of (before_first (λ b. b == 61) word) (value_of (after_first (λ b. b == 61) word)))
 unfolding property_read
 property_is word name value e =
-    property_at (is_property word) (pair_of name value) (pair_of (before_first (λ b. b == 61) word) (value_of (after_first (λ b. b == 61) word))) e
+    property_at (is_property word) (pair_of name value)
+    (pair_of (before_first (λ b. b == 61) word) (value_of (after_first (λ b. b == 61) word))) e
 
-pub word_added : (word name : List ℕ) (value : TopoValue) (found new : Properties) → Some (pair_of name value) ≡ property_read word
+pub word_added : (word name : List ℕ) (value : TopoValue) (found new : Properties)
+    → Some (pair_of name value) ≡ property_read word
     → new ≡ insert_entry (slice_cmp nat_cmp) found name value → new ≡ with_word found word
 unfolding with_word
 word_added word name value found new e f =
     f ∙ ap (λ p. insert_entry (slice_cmp nat_cmp) found p.0 p.1) (property_is word name value e).1
 
-pub word_good : (word name : List ℕ) (value : TopoValue) → Some (pair_of name value) ≡ property_read word → is_property word ≡ true
+pub word_good : (word name : List ℕ) (value : TopoValue)
+    → Some (pair_of name value) ≡ property_read word → is_property word ≡ true
 word_good word name value e = (property_is word name value e).0
 
 not_property : (p : Bool) (y : List ℕ × TopoValue) → None ≡ (if p then Some y else None) → p ≡ false
@@ -155,17 +155,22 @@ unfolding property_read
 word_bad word e = not_property (is_property word) _ e
 
 -- the words of a text, the first of which is no property
-pub words_bad : (words rest : List (List ℕ)) (word : List ℕ) → words ≡ word ∷ rest → false ≡ is_property word → false ≡ list_all is_property words
+pub words_bad : (words rest : List (List ℕ)) (word : List ℕ) → words ≡ word ∷ rest
+    → false ≡ is_property word → false ≡ list_all is_property words
 words_bad words rest word e f = rw (e, ← f) refl
 
 -- the words of a text whose first is a property
-pub words_good : (words rest : List (List ℕ)) (word : List ℕ) (b : Bool) → words ≡ word ∷ rest → true ≡ is_property word
+pub words_good : (words rest : List (List ℕ)) (word : List ℕ) (b : Bool) → words ≡ word ∷ rest
+    → true ≡ is_property word
     → b ≡ list_all is_property rest → b ≡ list_all is_property words
 words_good words rest word b e f g = rw (e, ← f) g
 
-pub words_folded : (words rest : List (List ℕ)) (word : List ℕ) (found new last : Properties) → words ≡ word ∷ rest
-    → new ≡ with_word found word → last ≡ fold with_word new rest → last ≡ fold with_word found words
+pub words_folded : (words rest : List (List ℕ)) (word : List ℕ) (found new last : Properties)
+    → words ≡ word ∷ rest
+    → new ≡ with_word found word → last ≡ fold with_word new rest
+    → last ≡ fold with_word found words
 words_folded words rest word found new last e f g = rw e (g ∙ ap (λ z. fold with_word z rest) f)
 
-pub words_counted : (words rest : List (List ℕ)) (word : List ℕ) (n : ℕ) → words ≡ word ∷ rest → n ≡ length rest → n + 1 ≡ length words
+pub words_counted : (words rest : List (List ℕ)) (word : List ℕ) (n : ℕ) → words ≡ word ∷ rest
+    → n ≡ length rest → n + 1 ≡ length words
 words_counted words rest word n e f = omega (arith, ap length e)

@@ -1,5 +1,7 @@
 -- Lines and their pieces.
-use Rattle.std.proofs.Common.{◌≡◌, ◌<◌, ◌≤◌, ◌+◌, ◌-◌, ℕ, zero, suc, Bool, true, false, not, cond, ◌&&◌, List, [], ◌∷◌, length, take, drop, refl, arith, ap, sym, ◌∙◌, add-one, one-add}
+use Rattle.std.proofs.Common.{◌≡◌, ◌<◌, ◌≤◌, ◌+◌, ◌-◌, ℕ, zero, suc, Bool, true, false, not, cond}
+use Rattle.std.proofs.Common.{◌&&◌, List, [], ◌∷◌, length, take, drop, refl, arith, ap, sym, ◌∙◌}
+use Rattle.std.proofs.Common.{add-one, one-add}
 use Rattle.std.specs.Prelude.{◌==◌, if◌then◌else◌}
 use Rattle.std.specs.List.{list_all, list_any, position_or_len, after_first, onto_first}
 use Rattle.std.specs.Str.{IsUtf8, IsAscii}
@@ -12,18 +14,23 @@ use Rattle.fm_topo.specs.Word.{word_end}
 use Rattle.fm_topo.specs.Fault.{parent_of}
 
 -- ---- clean bytes
-all_tail : (p : ℕ → Bool) (x : ℕ) (xs : List ℕ) → list_all p (x ∷ xs) ≡ true → (p x ≡ true) × (list_all p xs ≡ true)
+all_tail : (p : ℕ → Bool) (x : ℕ) (xs : List ℕ) → list_all p (x ∷ xs) ≡ true → (p x ≡ true)
+    × (list_all p xs ≡ true)
 all_tail p x xs h = grind (arith, common_steps)
 
-all_cons : (p : ℕ → Bool) (x : ℕ) (xs : List ℕ) → p x ≡ true → list_all p xs ≡ true → list_all p (x ∷ xs) ≡ true
+all_cons : (p : ℕ → Bool) (x : ℕ) (xs : List ℕ) → p x ≡ true → list_all p xs ≡ true
+    → list_all p (x ∷ xs) ≡ true
 all_cons p x xs h k = grind (arith, common_steps)
 
-pub all_take : (p : ℕ → Bool) (n : ℕ) (xs : List ℕ) → list_all p xs ≡ true → list_all p (take n xs) ≡ true
+pub all_take : (p : ℕ → Bool) (n : ℕ) (xs : List ℕ) → list_all p xs ≡ true
+    → list_all p (take n xs) ≡ true
 all_take p zero xs h = refl
 all_take p (suc n) [] h = refl
-all_take p (suc n) (x ∷ xs) h = let t = all_tail p x xs h in all_cons p x (take n xs) t.0 (all_take p n xs t.1)
+all_take p (suc n) (x ∷ xs) h = let t = all_tail p x xs h in
+    all_cons p x (take n xs) t.0 (all_take p n xs t.1)
 
-pub all_drop : (p : ℕ → Bool) (n : ℕ) (xs : List ℕ) → list_all p xs ≡ true → list_all p (drop n xs) ≡ true
+pub all_drop : (p : ℕ → Bool) (n : ℕ) (xs : List ℕ) → list_all p xs ≡ true
+    → list_all p (drop n xs) ≡ true
 all_drop p zero xs h = h
 all_drop p (suc n) [] h = refl
 all_drop p (suc n) (x ∷ xs) h = all_drop p n xs (all_tail p x xs h).1
@@ -41,54 +48,68 @@ clean_ascii (x ∷ xs) h =
 pub clean_utf8 : (xs : List ℕ) → list_all is_clean_byte xs ≡ true → IsUtf8 xs
 clean_utf8 xs h = IsUtf8-from_ascii xs (clean_ascii xs h)
 
-pub rest_clean : (n : ℕ) (xs : List ℕ) → list_all is_clean_byte xs ≡ true → list_all is_clean_byte (take (length xs - n) (drop n xs)) ≡ true
-rest_clean n xs h = all_take is_clean_byte (length xs - n) (drop n xs) (all_drop is_clean_byte n xs h)
+pub rest_clean : (n : ℕ) (xs : List ℕ) → list_all is_clean_byte xs ≡ true
+    → list_all is_clean_byte (take (length xs - n) (drop n xs)) ≡ true
+rest_clean n xs h = all_take is_clean_byte (length xs - n) (drop n xs)
+    (all_drop is_clean_byte n xs h)
 
 -- ---- the first place of a byte
-space_inside_at : (b : ℕ) (bs : List ℕ) (t : Bool) → (b == 32) ≡ t → (position_or_len (λ x. x == 32) bs < length bs → list_any (λ x. x == 32) bs ≡ true)
-    → position_or_len (λ x. x == 32) (b ∷ bs) < length (b ∷ bs) → list_any (λ x. x == 32) (b ∷ bs) ≡ true
+space_inside_at : (b : ℕ) (bs : List ℕ) (t : Bool) → (b == 32) ≡ t
+    → (position_or_len (λ x. x == 32) bs < length bs → list_any (λ x. x == 32) bs ≡ true)
+    → position_or_len (λ x. x == 32) (b ∷ bs) < length (b ∷ bs)
+    → list_any (λ x. x == 32) (b ∷ bs) ≡ true
 space_inside_at b bs true e more h = rw e refl
 space_inside_at b bs false e more h = rw e (more (let k = rw e at h in omega arith))
 
-pub space_inside : (bs : List ℕ) → position_or_len (λ x. x == 32) bs < length bs → list_any (λ x. x == 32) bs ≡ true
+pub space_inside : (bs : List ℕ) → position_or_len (λ x. x == 32) bs < length bs
+    → list_any (λ x. x == 32) bs ≡ true
 space_inside [] h = absurd (omega arith)
 space_inside (b ∷ bs) h = space_inside_at b bs (b == 32) refl (space_inside bs) h
 
-pub no_space : (bs : List ℕ) → position_or_len (λ x. x == 32) bs ≡ length bs → list_any (λ x. x == 32) bs ≡ false
+pub no_space : (bs : List ℕ) → position_or_len (λ x. x == 32) bs ≡ length bs
+    → list_any (λ x. x == 32) bs ≡ false
 no_space [] h = refl
 no_space (b ∷ bs) h = grind (arith, common_steps, no_space bs)
 
-pub words_some : (content rest : List ℕ) → rest ≡ after_first (λ x. x == 32) content → position_or_len (λ x. x == 32) content < length content
+pub words_some : (content rest : List ℕ) → rest ≡ after_first (λ x. x == 32) content
+    → position_or_len (λ x. x == 32) content < length content
     → words_from false rest ≡ words_of content
 unfolding words_of
 words_some content rest r h = rw (space_inside content h, r) refl
 
-pub words_none : (content : List ℕ) → position_or_len (λ x. x == 32) content ≡ length content → [] ≡ words_of content
+pub words_none : (content : List ℕ) → position_or_len (λ x. x == 32) content ≡ length content
+    → [] ≡ words_of content
 unfolding words_of
 words_none content h = rw (no_space content h) refl
 
-pub path_none : (content : List ℕ) → position_or_len (λ x. x == 32) content ≡ length content → content ≡ path_of content
+pub path_none : (content : List ℕ) → position_or_len (λ x. x == 32) content ≡ length content
+    → content ≡ path_of content
 unfolding path_of
 path_none content h = sym (take-length content) ∙ ap (λ n. take n content) (sym h)
 
 -- ---- the first word
-word_end_at : (q : Bool) (x : ℕ) (xs : List ℕ) (t : Bool) → word_end (if x == 34 then not q else q) xs ≤ length xs
+word_end_at : (q : Bool) (x : ℕ) (xs : List ℕ) (t : Bool)
+    → word_end (if x == 34 then not q else q) xs ≤ length xs
     → cond t 0 (1 + word_end (if x == 34 then not q else q) xs) ≤ length (x ∷ xs)
 word_end_at q x xs true h = omega arith
 word_end_at q x xs false h = omega (arith, h)
 
 word_end_le : (q : Bool) (xs : List ℕ) → word_end q xs ≤ length xs
 word_end_le q [] = omega arith
-word_end_le q (x ∷ xs) = word_end_at q x xs (x == 32 && not q) (word_end_le (if x == 34 then not q else q) xs)
+word_end_le q (x ∷ xs) =
+    word_end_at q x xs (x == 32 && not q) (word_end_le (if x == 34 then not q else q) xs)
 
 word_cut_at : (q : Bool) (x : ℕ) (xs : List ℕ) (t : Bool)
     → (word_end (if x == 34 then not q else q) xs < length xs
     → words_from (if x == 34 then not q else q) xs
-    ≡ take (word_end (if x == 34 then not q else q) xs) xs ∷ words_from false (drop (word_end (if x == 34 then not q else q) xs + 1) xs))
+    ≡ take (word_end (if x == 34 then not q else q) xs) xs ∷ words_from false
+    (drop (word_end (if x == 34 then not q else q) xs + 1) xs))
     → cond t 0 (1 + word_end (if x == 34 then not q else q) xs) < length (x ∷ xs)
-    → cond t ([] ∷ words_from false xs) (onto_first x (words_from (if x == 34 then not q else q) xs))
+    → cond t ([] ∷ words_from false xs)
+    (onto_first x (words_from (if x == 34 then not q else q) xs))
     ≡ take (cond t 0 (1 + word_end (if x == 34 then not q else q) xs)) (x ∷ xs)
-    ∷ words_from false (drop (cond t 0 (1 + word_end (if x == 34 then not q else q) xs) + 1) (x ∷ xs))
+    ∷ words_from false (drop (cond t 0 (1 + word_end (if x == 34 then not q else q) xs) + 1)
+    (x ∷ xs))
 word_cut_at q x xs true more h = refl
 word_cut_at q x xs false more h =
     let n = word_end (if x == 34 then not q else q) xs in
@@ -99,18 +120,22 @@ word_cut_at q x xs false more h =
 pub word_cut : (q : Bool) (xs : List ℕ) → word_end q xs < length xs
     → words_from q xs ≡ take (word_end q xs) xs ∷ words_from false (drop (word_end q xs + 1) xs)
 word_cut q [] h = absurd (omega arith)
-word_cut q (x ∷ xs) h = word_cut_at q x xs (x == 32 && not q) (word_cut (if x == 34 then not q else q) xs) h
+word_cut q (x ∷ xs) h =
+    word_cut_at q x xs (x == 32 && not q) (word_cut (if x == 34 then not q else q) xs) h
 
 word_all_at : (q : Bool) (x : ℕ) (xs : List ℕ) (t : Bool)
-    → (word_end (if x == 34 then not q else q) xs ≡ length xs → words_from (if x == 34 then not q else q) xs ≡ xs ∷ [])
+    → (word_end (if x == 34 then not q else q) xs ≡ length xs
+    → words_from (if x == 34 then not q else q) xs ≡ xs ∷ [])
     → cond t 0 (1 + word_end (if x == 34 then not q else q) xs) ≡ length (x ∷ xs)
-    → cond t ([] ∷ words_from false xs) (onto_first x (words_from (if x == 34 then not q else q) xs)) ≡ (x ∷ xs) ∷ []
+    → cond t ([] ∷ words_from false xs)
+    (onto_first x (words_from (if x == 34 then not q else q) xs)) ≡ (x ∷ xs) ∷ []
 word_all_at q x xs true more h = absurd (omega arith)
 word_all_at q x xs false more h = rw (more (omega (arith, h))) refl
 
 pub word_all : (q : Bool) (xs : List ℕ) → word_end q xs ≡ length xs → words_from q xs ≡ xs ∷ []
 word_all q [] h = refl
-word_all q (x ∷ xs) h = word_all_at q x xs (x == 32 && not q) (word_all (if x == 34 then not q else q) xs) h
+word_all q (x ∷ xs) h =
+    word_all_at q x xs (x == 32 && not q) (word_all (if x == 34 then not q else q) xs) h
 
 pub word_length : (xs : List ℕ) → word_end false xs ≤ length xs
 word_length xs = word_end_le false xs
@@ -121,6 +146,7 @@ parent_init_at : (b : ℕ) (bs : List ℕ) (t : Bool) → list_any (λ x. x == 4
 parent_init_at b bs true e = grind (arith, common_steps)
 parent_init_at b bs false e = grind (arith, common_steps)
 
-pub parent_init : (xs : List ℕ) → parent_of xs ≡ (if list_any (λ x. x == 47) xs then parent_of xs else [])
+pub parent_init : (xs : List ℕ)
+    → parent_of xs ≡ (if list_any (λ x. x == 47) xs then parent_of xs else [])
 parent_init [] = refl
 parent_init (b ∷ bs) = parent_init_at b bs (list_any (λ x. x == 47) bs) refl

@@ -1,9 +1,9 @@
 -- A code of paths whose order is path order.
 use Rattle.std.specs.Prelude.{ℕ, List, [], ◌∷◌, ◌++◌}
-use Rattle.fm_name.specs.Path.{Part, parts_of}
+use Rattle.fm_name.specs.Path.{PathPart, parts_of}
 
 -- the code of parts: for each the bytes of its name, a zero, which no name has, and its instance
-abbrev pub parts_code : List Part → List ℕ
+abbrev pub parts_code : List PathPart → List ℕ
 parts_code [] = []
 parts_code (p ∷ ps) = p.name ++ (0 ∷ p.instance ∷ parts_code ps)
 

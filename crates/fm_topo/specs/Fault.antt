@@ -1,13 +1,17 @@
 -- The faults of topology texts.
-use Rattle.std.specs.Prelude.{◌≡◌, ℕ, Bool, not, ◌&&◌, ◌||◌, ◌+◌, ◌<◌, nat_lt, nat_le, List, [], ◌∷◌, length, map, take, slice_get, unwrap_or, Option, Some, None, if◌then◌else◌}
+use Rattle.std.specs.Prelude.{◌≡◌, ℕ, Bool, not, ◌&&◌, ◌||◌, ◌+◌, ◌<◌, nat_lt, nat_le, List, []}
+use Rattle.std.specs.Prelude.{◌∷◌, length, map, take, slice_get, unwrap_or, Option, Some, None}
+use Rattle.std.specs.Prelude.{if◌then◌else◌}
 use Rattle.std.specs.List.{list_all, list_any}
 use Rattle.std.specs.Prelude.{◌==◌}
 use Rattle.fm_name.specs.Path.{is_path, parts_of}
-use Rattle.fm_topo.specs.Line.{lines_of, content_of, end_of, is_clean_byte, is_skipped, path_of, words_of}
+use Rattle.fm_topo.specs.Line.{topology_lines, content_of, line_end, is_clean_byte, is_skipped}
+use Rattle.fm_topo.specs.Line.{path_of, words_of}
 use Rattle.fm_topo.specs.Property.{is_property, name_of, has_twin}
 use Rattle.fm_topo.specs.Topology.{Topology, has_path, lines_topology}
 use Rattle.fm_topo.specs.declared.faults.TopoKind.{TopoKind}
-use Rattle.fm_topo.specs.declared.faults.TopoKind.TheVariants.{Path, Property, Twice, Parent, Length, Count, Bytes}
+use Rattle.fm_topo.specs.declared.faults.TopoKind.TheVariants.{Path, Property, Twice, Parent}
+use Rattle.fm_topo.specs.declared.faults.TopoKind.TheVariants.{Length, Count, Bytes}
 use Rattle.fm_topo.specs.declared.faults.TopoFault.{TopoFault}
 use Rattle.fm_topo.specs.declared.faults.TopoFault.TheVariants.{At, NoMemory}
 
@@ -19,10 +23,11 @@ parent_of (b ∷ bytes) = if list_any (λ x. x == 47) bytes then b ∷ parent_of
 -- whether the path wants a parent that is not there
 abbrev pub lacks_parent : Topology → List ℕ → Bool
 lacks_parent found path =
-    nat_lt 1 (length (parts_of path)) && not (is_path (parent_of path) && has_path found (parent_of path))
+    nat_lt 1 (length (parts_of path)) && not
+    (is_path (parent_of path) && has_path found (parent_of path))
 
--- the fault of a line whose path and properties are well formed: `twin` says whether a name stands twice among its
--- properties, and `found` is the topology of the earlier lines
+-- the fault of a line whose path and properties are well formed: `twin` says whether a name stands
+-- twice among its properties, and `found` is the topology of the earlier lines
 unfoldable pub set_fault : Topology → List ℕ → Bool → Option TopoKind
 set_fault found path twin =
     if (has_path found path || twin) then Some Twice else
@@ -47,7 +52,8 @@ line_fault found last line =
 -- the first fault of the line of a number, counted from 0: it looks at the earlier lines alone
 unfoldable pub fault_at : List ℕ → ℕ → Option TopoKind
 fault_at text number =
-    line_fault (lines_topology (take number (lines_of text))) (end_of text number) (unwrap_or (slice_get (lines_of text) number) [])
+    line_fault (lines_topology (take number (topology_lines text))) (line_end text number)
+    (unwrap_or (slice_get (topology_lines text) number) [])
 
 -- no line before that of the number has a fault
 abbrev pub IsCleanBefore : List ℕ → ℕ → Type 0
@@ -55,9 +61,10 @@ IsCleanBefore text number = (k : ℕ) → k < number → fault_at text k ≡ Non
 
 -- a text has no fault
 abbrev pub IsClean : List ℕ → Type 0
-IsClean text = IsCleanBefore text (length (lines_of text))
+IsClean text = IsCleanBefore text (length (topology_lines text))
 
 -- the answer is the first fault of the text; lines count from 1
 abbrev pub IsFirstFault : List ℕ → TopoFault → Type 0
-IsFirstFault text (At line kind) = (k : ℕ) × (line ≡ k + 1) × (k < length (lines_of text)) × (fault_at text k ≡ Some kind) × IsCleanBefore text k
+IsFirstFault text (At line kind) = (k : ℕ) × (line ≡ k + 1) × (k < length (topology_lines text))
+    × (fault_at text k ≡ Some kind) × IsCleanBefore text k
 IsFirstFault text NoMemory = Unit {0}

@@ -10,7 +10,7 @@ use Rattle.fm_name.specs.Order.{path_cmp}
 use Rattle.fm_topo.specs.Property.{Properties, is_text_byte}
 use Rattle.fm_topo.specs.Topology.{Topology, topology_of}
 use Rattle.fm_topo.specs.Fault.{lacks_parent, IsClean}
-use Rattle.fm_topo.specs.Printed.{line_text, topology_text}
+use Rattle.fm_topo.specs.Printed.{place_line, topology_text}
 use Rattle.fm_topo.specs.declared.values.TopoValue.{TopoValue}
 use Rattle.fm_topo.specs.declared.values.TopoValue.TheVariants.{Number, Text}
 
@@ -28,10 +28,10 @@ pub record IsPlace (place : List ℕ × Properties) : Type 0 where
   pub path : IsTrue (is_path place.0)
   pub pairs : IsTrue (list_all is_pair place.1)
   pub names : IsStrictlySortedBy (slice_cmp nat_cmp) (keys_of place.1)
-  pub size : length (line_text place) ≤ 4096
+  pub size : length (place_line place) ≤ 4096
 
--- Places that ascend by their paths and hold the parent of each path of depth above 1. They are at most 65,536,
--- and the text of them has at most 16,777,216 bytes.
+-- Places that ascend by their paths and hold the parent of each path of depth above 1. They are at
+-- most 65,536, and the text of them has at most 16,777,216 bytes.
 pub record IsTopology (topology : Topology) : Type 0 where
   pub places : AllByRecursion IsPlace topology
   pub order : IsStrictlySortedBy path_cmp (keys_of topology)

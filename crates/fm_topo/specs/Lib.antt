@@ -5,7 +5,8 @@ pub mod Fault
 pub mod Printed
 pub mod Query
 pub mod Word
-pub mod Stop
+pub mod LineStop
 pub mod Reading
 pub mod Lawful
 pub mod Code
+pub mod Groups

@@ -1,18 +1,22 @@
 -- The lines of a topology text, and the words of a line.
-use Rattle.std.specs.Prelude.{ℕ, Bool, false, not, ◌&&◌, ◌||◌, ◌==◌, ◌-◌, ◌+◌, min, nat_lt, nat_le, List, [], ◌∷◌, length, take, slice_index, sum_by, if◌then◌else◌}
+use Rattle.std.specs.Prelude.{ℕ, Bool, false, not, ◌&&◌, ◌||◌, ◌==◌, ◌-◌, ◌+◌, min, nat_lt, nat_le}
+use Rattle.std.specs.Prelude.{List, [], ◌∷◌, length, take, slice_index, sum_by, if◌then◌else◌}
 use Rattle.std.specs.List.{slice_split, onto_first, list_all, list_any, before_first, after_first}
 
--- the parts of a text between its newlines; behind a last newline stands an empty line, which says nothing
-abbrev pub lines_of : List ℕ → List (List ℕ)
-lines_of text = slice_split (λ b. b == 10) text
+-- the parts of a text between its newlines; behind a last newline stands an empty line, which says
+-- nothing
+abbrev pub topology_lines : List ℕ → List (List ℕ)
+topology_lines text = slice_split (λ b. b == 10) text
 
 -- a line without the carriage return at its end
 unfoldable pub content_of : List ℕ → List ℕ
-content_of line = if (nat_lt 0 (length line) && slice_index line (length line - 1) == 13) then take (length line - 1) line else line
+content_of line = if (nat_lt 0 (length line) && slice_index line (length line - 1) == 13) then take
+    (length line - 1) line else line
 
 -- how many bytes of the text end with the line of that number, its newline with it
-unfoldable pub end_of : List ℕ → ℕ → ℕ
-end_of text number = min (sum_by (λ line. length line + 1) (take (number + 1) (lines_of text))) (length text)
+unfoldable pub line_end : List ℕ → ℕ → ℕ
+line_end text number =
+    min (sum_by (λ line. length line + 1) (take (number + 1) (topology_lines text))) (length text)
 
 -- a byte that may stand in a line: 0x20 to 0x7e and tab
 abbrev pub is_clean_byte : ℕ → Bool
@@ -39,4 +43,5 @@ path_of content = before_first (λ b. b == 32) content
 
 -- the words of a line behind its path, of which there are none where there is no space
 unfoldable pub words_of : List ℕ → List (List ℕ)
-words_of content = if list_any (λ b. b == 32) content then words_from false (after_first (λ b. b == 32) content) else []
+words_of content = if list_any (λ b. b == 32) content then words_from false
+    (after_first (λ b. b == 32) content) else []

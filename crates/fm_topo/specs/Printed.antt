@@ -17,14 +17,14 @@ properties_text [] = []
 properties_text (p ∷ ps) = (32 ∷ (p.0 ++ (61 ∷ value_text p.1))) ++ properties_text ps
 
 -- a line: a path and its properties
-abbrev pub line_text : List ℕ × Properties → List ℕ
-line_text place = place.0 ++ properties_text place.1
+abbrev pub place_line : List ℕ × Properties → List ℕ
+place_line place = place.0 ++ properties_text place.1
 
 -- a topology: a line for each path, with a newline between two lines
 unfoldable pub topology_text : Topology → List ℕ
-topology_text topology = join_with_byte 10 (map line_text topology)
+topology_text topology = join_with_byte 10 (map place_line topology)
 
 -- the lines of more places, each behind a newline
 abbrev pub rest_text : Topology → List ℕ
 rest_text [] = []
-rest_text (p ∷ ps) = (10 ∷ line_text p) ++ rest_text ps
+rest_text (p ∷ ps) = (10 ∷ place_line p) ++ rest_text ps

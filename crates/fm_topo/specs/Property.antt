@@ -1,8 +1,9 @@
 -- Properties: a name, `=` and a number or a text in quotes.
-use Rattle.std.specs.Prelude.{ℕ, Bool, false, not, ◌&&◌, ◌||◌, ◌==◌, ◌-◌, ◌^◌, nat_lt, nat_le, List, [], ◌∷◌, length, take, drop, slice_index, fold, bytes_eq, Option, Some, None, if◌then◌else◌}
-use Rattle.std.specs.Char.{is_ascii_digit}
+use Rattle.std.specs.Prelude.{ℕ, Bool, false, not, ◌&&◌, ◌||◌, ◌==◌, ◌-◌, ◌^◌, nat_lt, nat_le, List}
+use Rattle.std.specs.Prelude.{[], ◌∷◌, length, take, drop, slice_index, fold, bytes_eq, Option}
+use Rattle.std.specs.Prelude.{Some, None, if◌then◌else◌}
 use Rattle.std.specs.List.{list_all, list_any, before_first, after_first}
-use Rattle.std.specs.Str.Parse.{digits_value}
+use Rattle.fm_bytes.specs.Decimals.{is_numeral, number_of}
 use Rattle.std.specs.Ordering.{nat_cmp}
 use Rattle.std.specs.Cmp.Lexicographic.{slice_cmp}
 use Rattle.std.specs.BTreeMap.{insert_entry}
@@ -12,9 +13,7 @@ use Rattle.fm_topo.specs.declared.values.TopoValue.TheVariants.{Number, Text}
 
 -- a decimal number below 2 ^ 64 without a leading zero
 unfoldable pub is_number : List ℕ → Bool
-is_number bytes =
-    list_all is_ascii_digit bytes
-    && ((length bytes == 1 || nat_lt 48 (slice_index bytes 0)) && (nat_lt 0 (length bytes) && nat_lt (digits_value 10 bytes) (2 ^ 64)))
+is_number bytes = is_numeral bytes && nat_lt (number_of bytes) (2 ^ 64)
 
 -- a byte that may stand between quotes: 0x20 to 0x7e without `"` and `\`
 abbrev pub is_text_byte : ℕ → Bool
@@ -28,11 +27,12 @@ inner_of bytes = take (length bytes - 2) (drop 1 bytes)
 unfoldable pub is_quoted : List ℕ → Bool
 is_quoted bytes =
     nat_le 2 (length bytes)
-    && (slice_index bytes 0 == 34 && (slice_index bytes (length bytes - 1) == 34 && list_all is_text_byte (inner_of bytes)))
+    && (slice_index bytes 0 == 34 &&
+    (slice_index bytes (length bytes - 1) == 34 && list_all is_text_byte (inner_of bytes)))
 
 -- the value that the text behind `=` means
 unfoldable pub value_of : List ℕ → TopoValue
-value_of bytes = if is_number bytes then Number (digits_value 10 bytes) else Text (inner_of bytes)
+value_of bytes = if is_number bytes then Number (number_of bytes) else Text (inner_of bytes)
 
 -- the name in a word: what stands before its first `=`
 abbrev pub name_of : List ℕ → List ℕ
@@ -50,20 +50,25 @@ value_read bytes = if (is_number bytes || is_quoted bytes) then Some (value_of b
 
 -- what a name and a value mean together, where they are such
 unfoldable pub pair_read : List ℕ → List ℕ → Option (List ℕ × TopoValue)
-pair_read name value = if (is_name name && (is_number value || is_quoted value)) then Some (name, value_of value) else None
+pair_read name value =
+    if (is_name name && (is_number value || is_quoted value)) then Some (name, value_of value)
+    else None
 
 -- what a word means, where it is a property
 unfoldable pub property_read : List ℕ → Option (List ℕ × TopoValue)
-property_read word = if is_property word then Some (name_of word, value_of (after_first (λ b. b == 61) word)) else None
+property_read word = if is_property word then Some
+    (name_of word, value_of (after_first (λ b. b == 61) word)) else None
 
--- the properties of a path: a finite map from names to values, as the list of its pairs in byte order of the names
+-- the properties of a path: a finite map from names to values, as the list of its pairs in byte
+-- order of the names
 abbrev pub Properties : Type 0
 Properties = List (List ℕ × TopoValue)
 
 -- the properties with that of one more word
 unfoldable pub with_word : Properties → List ℕ → Properties
 with_word found word =
-    insert_entry (slice_cmp nat_cmp) found (name_of word) (value_of (after_first (λ b. b == 61) word))
+    insert_entry (slice_cmp nat_cmp) found (name_of word)
+    (value_of (after_first (λ b. b == 61) word))
 
 -- the properties that words mean
 unfoldable pub properties_of : List (List ℕ) → Properties

@@ -12,7 +12,8 @@ use Rattle.fm_topo.specs.declared.values.TopoValue.{TopoValue}
 
 -- whether a path is under another and longer
 abbrev pub lies_under : List ℕ → List ℕ → Bool
-lies_under path above = is_under path above && nat_lt (length (parts_of above)) (length (parts_of path))
+lies_under path above =
+    is_under path above && nat_lt (length (parts_of above)) (length (parts_of path))
 
 -- the value of a name among properties
 abbrev pub value_at : Properties → List ℕ → Option TopoValue
@@ -20,4 +21,5 @@ value_at properties name = lookup (is_at (slice_cmp nat_cmp name)) properties
 
 -- the value of a name at a path
 unfoldable pub property_at : Topology → List ℕ → List ℕ → Option TopoValue
-property_at topology path name = option_and_then (λ properties. value_at properties name) (properties_at topology path)
+property_at topology path name =
+    option_and_then (λ properties. value_at properties name) (properties_at topology path)

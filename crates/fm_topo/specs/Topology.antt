@@ -3,7 +3,7 @@ use Rattle.std.specs.Prelude.{ℕ, Bool, List, [], Option, fold, is_some, if◌t
 use Rattle.std.specs.BTreeMap.{insert_entry, is_at}
 use Rattle.std.specs.Map.{lookup}
 use Rattle.fm_name.specs.Order.{path_cmp}
-use Rattle.fm_topo.specs.Line.{lines_of, content_of, is_skipped, path_of, words_of}
+use Rattle.fm_topo.specs.Line.{topology_lines, content_of, is_skipped, path_of, words_of}
 use Rattle.fm_topo.specs.Property.{Properties, properties_of}
 
 -- a topology: a set of paths, and for each its properties, as the list of these pairs in path order
@@ -22,7 +22,8 @@ has_path found path = is_some (properties_at found path)
 unfoldable pub with_line : Topology → List ℕ → Topology
 with_line found line =
     if is_skipped (content_of line) then found
-    else insert_entry path_cmp found (path_of (content_of line)) (properties_of (words_of (content_of line)))
+    else insert_entry path_cmp found (path_of (content_of line))
+    (properties_of (words_of (content_of line)))
 
 -- the topology that lines mean
 unfoldable pub lines_topology : List (List ℕ) → Topology
@@ -30,4 +31,4 @@ lines_topology lines = fold with_line [] lines
 
 -- the topology that a text means
 abbrev pub topology_of : List ℕ → Topology
-topology_of text = lines_topology (lines_of text)
+topology_of text = lines_topology (topology_lines text)

@@ -1,7 +1,9 @@
-ghost use Rattle.std.specs.Prelude.{◌≡◌, ◌==◌, ◌&&◌, ◌||◌, ◌<◌, ◌≤◌, ◌∷◌, IsTrue, IfSome, IfNone, false, slice_index, length, take, option_map};
+ghost use Rattle.std.specs.Prelude.{◌≡◌, ◌==◌, ◌&&◌, ◌||◌, ◌<◌, ◌≤◌, ◌∷◌, IsTrue, IfSome, IfNone};
+ghost use Rattle.std.specs.Prelude.{false, slice_index, length, take, option_map};
 ghost use Rattle.std.specs.List.{list_all, position_or_len, before_first, after_first};
 ghost use Rattle.fm_topo.specs.Fault.{parent_of};
-ghost use Rattle.fm_topo.specs.Line.{content_of, is_clean_byte, is_blank_byte, is_skipped, words_from, path_of, words_of};
+ghost use Rattle.fm_topo.specs.Line.{content_of, is_clean_byte, is_blank_byte, is_skipped};
+ghost use Rattle.fm_topo.specs.Line.{words_from, path_of, words_of};
 ghost use Rattle.fm_topo.specs.Word.{word_end, words_left};
 
 /// Where a byte stands first, or the length where it does not stand.
@@ -21,9 +23,12 @@ pub fn find_byte(text: &[u8], byte: u8) -> usize
 pub fn cut_at(text: &[u8], byte: u8) -> Option<(&[u8], &[u8])>
     requires { IsTrue (list_all is_clean_byte text.now) }
     ensures none { IfNone result (position_or_len (λ b. b == byte) text.now ≡ length text.now) }
-    ensures some { IfSome result (λ parts. (position_or_len (λ b. b == byte) text.now < length text.now)
-        × (parts.0.now ≡ before_first (λ b. b == byte) text.now) × (parts.1.now ≡ after_first (λ b. b == byte) text.now)) }
-    ensures clean { IfSome result (λ parts. IsTrue (list_all is_clean_byte parts.0.now) × IsTrue (list_all is_clean_byte parts.1.now)) }
+    ensures some { IfSome result
+        (λ parts. (position_or_len (λ b. b == byte) text.now < length text.now)
+        × (parts.0.now ≡ before_first (λ b. b == byte) text.now)
+        × (parts.1.now ≡ after_first (λ b. b == byte) text.now)) }
+    ensures clean { IfSome result (λ parts. IsTrue (list_all is_clean_byte parts.0.now)
+        × IsTrue (list_all is_clean_byte parts.1.now)) }
 {
     let at = find_byte(text, byte);
     if at < text.len() {
@@ -126,7 +131,8 @@ fn first_word_end(text: &[u8]) -> usize
 #[tactic(auto, using(crate::proofs::Pieces::all_take, crate::proofs::Pieces::all_drop, crate::proofs::Pieces::word_cut, crate::proofs::Pieces::word_all))]
 pub fn cut_word(text: &[u8]) -> (&[u8], Option<&[u8]>)
     requires { IsTrue (list_all is_clean_byte text.now) }
-    ensures words { words_from false text.now ≡ result.0.now ∷ words_left (option_map (λ s. s.now) result.1) }
+    ensures words { words_from false text.now
+        ≡ result.0.now ∷ words_left (option_map (λ s. s.now) result.1) }
     ensures clean_word { IsTrue (list_all is_clean_byte result.0.now) }
     ensures clean_rest { IfSome result.1 (λ rest. IsTrue (list_all is_clean_byte rest.now)) }
     ensures shorter { IfSome result.1 (λ rest. length rest.now < length text.now) }
@@ -143,7 +149,8 @@ pub fn cut_word(text: &[u8]) -> (&[u8], Option<&[u8]>)
 #[tactic(auto, using(crate::proofs::Pieces::all_take))]
 pub fn parent(path: &[u8]) -> &[u8]
     ensures same { result.now ≡ parent_of path.now }
-    ensures clean { IsTrue (list_all is_clean_byte path.now) → IsTrue (list_all is_clean_byte result.now) }
+    ensures clean { IsTrue (list_all is_clean_byte path.now)
+        → IsTrue (list_all is_clean_byte result.now) }
 {
     let mut last = 0;
     for (at, byte) in path.iter().enumerate() {

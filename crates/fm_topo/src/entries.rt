@@ -1,40 +1,42 @@
-ghost use Rattle.std.specs.Prelude.{◌≡◌, ◌==◌, ◌&&◌, ◌+◌, ◌<◌, ◌≤◌, IsTrue, IfOk, IfErr, OnOk, IfSome, OnSome, fold, false, is_some, if◌then◌else◌, Some, None, nat_lt, length, option_map};
+ghost use Rattle.std.specs.Prelude.{◌≡◌, ◌==◌, ◌&&◌, ◌+◌, ◌<◌, ◌≤◌, IsTrue, IfOk, IfErr, OnOk};
+ghost use Rattle.std.specs.Prelude.{IfSome, OnSome, fold, false, is_some, if◌then◌else◌, Some};
+ghost use Rattle.std.specs.Prelude.{None, nat_lt, length, option_map};
 ghost use Rattle.std.specs.List.{list_all};
 ghost use Rattle.std.specs.BTreeMap.{btree_map_len};
 ghost use Rattle.fm_name.specs.Path.{is_path};
 ghost use Rattle.fm_topo.specs.Fault.{parent_of, lacks_parent, set_fault, entry_fault, line_fault};
 ghost use Rattle.fm_topo.specs.Line.{is_clean_byte, content_of, path_of, words_from, words_of};
 ghost use Rattle.fm_topo.specs.Property.{is_property, with_word, properties_of};
-ghost use Rattle.fm_topo.specs.Stop.{IsStop};
+ghost use Rattle.fm_topo.specs.LineStop.{IsLineStop};
 ghost use Rattle.fm_topo.specs.Topology.{has_path, with_line};
 ghost use Rattle.fm_topo.specs.Word.{words_left};
 
 use crate::bytes::{content, cut_line, cut_word, is_clean, parent, skips, text_of};
 use crate::faults::TopoKind;
 use crate::keys::Key;
-use crate::no_memory::NoMemory;
 use crate::properties::Properties;
 use crate::values::{TopoText, TopoValue};
 use crate::words::read_property;
+use fm_bytes::NoMemory;
 use fm_name::read_fmri;
 use std::alloc::Global;
 use std::collections::BTreeMap;
 
 /// Why the reading of a line stops: at a fault, or for want of memory.
 #[derive(Debug, Drop)]
-pub enum Stop {
+pub enum LineStop {
     At(TopoKind),
     Memory,
 }
 
-impl From<NoMemory> for Stop {
+impl From<NoMemory> for LineStop {
     ghost use Rattle.std.specs.Prelude.{◌≡◌};
-    ghost use Rattle.fm_topo.specs.declared.entries.Stop.TheVariants.{Memory};
+    ghost use Rattle.fm_topo.specs.declared.entries.LineStop.TheVariants.{Memory};
 
     ghost from_gives = { λ _ e. e ≡ Memory };
 
-    fn from(_: NoMemory) -> Stop {
-        Stop::Memory
+    fn from(_: NoMemory) -> LineStop {
+        LineStop::Memory
     }
 }
 
@@ -54,7 +56,8 @@ fn add_word(
 ) -> Result<bool, NoMemory>
     requires { IsTrue (list_all is_clean_byte word.now) }
     ensures same { IfOk result (λ added. added ≡ is_property word.now) }
-    ensures put { IfOk result (λ added. IsTrue added → map.new.entries ≡ with_word map.old.entries word.now) }
+    ensures put { IfOk result
+        (λ added. IsTrue added → map.new.entries ≡ with_word map.old.entries word.now) }
 {
     match read_property(alloc, word)? {
         Some((name, value)) => {
@@ -65,8 +68,8 @@ fn add_word(
     }
 }
 
-/// Puts the words of a text into a map, and counts them; None where one is no property. It calls itself for
-/// the words behind the first, of which a line has at most about a thousand.
+/// Puts the words of a text into a map, and counts them; None where one is no property. It calls
+/// itself for the words behind the first, of which a line has at most about a thousand.
 #[tactic(auto, using(crate::proofs::Meanings::words_bad, crate::proofs::Meanings::words_good, crate::proofs::Meanings::words_folded, crate::proofs::Meanings::words_counted))]
 fn add_words(
     alloc: Global,
@@ -74,9 +77,13 @@ fn add_words(
     text: &[u8],
 ) -> Result<Option<usize>, NoMemory>
     requires { IsTrue (list_all is_clean_byte text.now) }
-    ensures all { IfOk result (λ found. is_some found ≡ list_all is_property (words_from false text.now)) }
-    ensures pairs { IfOk result (λ found. OnSome found (map.new.entries ≡ fold with_word map.old.entries (words_from false text.now))) }
-    ensures count { IfOk result (λ found. IfSome found (λ count. count ≡ length (words_from false text.now))) }
+    ensures all { IfOk result
+        (λ found. is_some found ≡ list_all is_property (words_from false text.now)) }
+    ensures pairs { IfOk result
+        (λ found. OnSome found
+        (map.new.entries ≡ fold with_word map.old.entries (words_from false text.now))) }
+    ensures count { IfOk result
+        (λ found. IfSome found (λ count. count ≡ length (words_from false text.now))) }
     ensures bound { IfOk result (λ found. IfSome found (λ count. count ≤ length text.now + 1)) }
 {
     let (word, behind) = cut_word(text);
@@ -96,9 +103,16 @@ fn add_words(
 #[tactic(auto, unfolding(crate::specs::Property::properties_of))]
 fn read_words(alloc: Global, text: Option<&[u8]>) -> Result<Option<Pairs>, NoMemory>
     requires { IfSome text (λ rest. IsTrue (list_all is_clean_byte rest.now)) }
-    ensures all { IfOk result (λ found. is_some found ≡ list_all is_property (words_left (option_map (λ s. s.now) text.entry))) }
-    ensures pairs { IfOk result (λ found. IfSome found (λ pairs. pairs.map.entries ≡ properties_of (words_left (option_map (λ s. s.now) text.entry)))) }
-    ensures count { IfOk result (λ found. IfSome found (λ pairs. pairs.count ≡ length (words_left (option_map (λ s. s.now) text.entry)))) }
+    ensures all { IfOk result
+        (λ found. is_some found
+        ≡ list_all is_property (words_left (option_map (λ s. s.now) text.entry))) }
+    ensures pairs { IfOk result
+        (λ found. IfSome found
+        (λ pairs. pairs.map.entries
+        ≡ properties_of (words_left (option_map (λ s. s.now) text.entry)))) }
+    ensures count { IfOk result
+        (λ found. IfSome found
+        (λ pairs. pairs.count ≡ length (words_left (option_map (λ s. s.now) text.entry)))) }
 {
     let mut map = BTreeMap::new(alloc);
     match text {
@@ -141,8 +155,8 @@ fn lacks(
     }
 }
 
-/// Whether a path is among those found. One comparison tells it of a path behind all of them, as each is where
-/// the lines are in path order.
+/// Whether a path is among those found. One comparison tells it of a path behind all of them, as
+/// each is where the lines are in path order.
 fn is_found(found: &BTreeMap<Key, Properties>, path: &Key) -> bool
     ensures { result ≡ has_path found.now.entries path.now }
 {
@@ -154,8 +168,8 @@ fn is_found(found: &BTreeMap<Key, Properties>, path: &Key) -> bool
     found.contains_key(path)
 }
 
-/// The fault of a path with properties among those of earlier lines. A name stands twice where the map has fewer
-/// names than the line has words.
+/// The fault of a path with properties among those of earlier lines. A name stands twice where the
+/// map has fewer names than the line has words.
 #[tactic(auto, unfolding(crate::specs::Fault::set_fault))]
 fn fault_of(
     alloc: Global,
@@ -166,7 +180,9 @@ fn fault_of(
 ) -> Result<Option<TopoKind>, NoMemory>
     requires same { text.now ≡ path.now }
     requires clean { IsTrue (list_all is_clean_byte text.now) }
-    ensures { IfOk result (λ fault. fault ≡ set_fault found.now.entries path.now (nat_lt (length pairs.now.map.entries) pairs.now.count)) }
+    ensures { IfOk result
+        (λ fault. fault ≡ set_fault found.now.entries path.now
+        (nat_lt (length pairs.now.map.entries) pairs.now.count)) }
 {
     if is_found(found, path) || pairs.map.len() < pairs.count {
         return Ok(Some(TopoKind::Twice));
@@ -197,21 +213,24 @@ fn read_entry(
     alloc: Global,
     found: &BTreeMap<Key, Properties>,
     content: &[u8],
-) -> Result<(Key, Properties), Stop>
+) -> Result<(Key, Properties), LineStop>
     requires { IsTrue (list_all is_clean_byte content.now) }
-    ensures ok { IfOk result (λ entry. (entry_fault found.now.entries (path_of content.now) (words_of content.now) ≡ None)
+    ensures ok { IfOk result
+        (λ entry. (entry_fault found.now.entries (path_of content.now) (words_of content.now)
+        ≡ None)
         × (entry.0 ≡ path_of content.now) × (entry.1 ≡ properties_of (words_of content.now))) }
-    ensures err { IfErr result (IsStop (entry_fault found.now.entries (path_of content.now) (words_of content.now))) }
+    ensures err { IfErr result
+        (IsLineStop (entry_fault found.now.entries (path_of content.now) (words_of content.now))) }
 {
     let (text, rest) = cut_line(content);
     let Some(path) = read_path(alloc, text)? else {
-        return Err(Stop::At(TopoKind::Path));
+        return Err(LineStop::At(TopoKind::Path));
     };
     let Some(pairs) = read_words(alloc, rest)? else {
-        return Err(Stop::At(TopoKind::Property));
+        return Err(LineStop::At(TopoKind::Property));
     };
     if let Some(kind) = fault_of(alloc, found, &path, text, &pairs)? {
-        return Err(Stop::At(kind));
+        return Err(LineStop::At(kind));
     }
     let Pairs { map, count: _ } = pairs;
     Ok((path, properties_from(alloc, map)?))
@@ -224,17 +243,17 @@ pub fn take_line(
     found: &mut BTreeMap<Key, Properties>,
     line: &[u8],
     last: usize,
-) -> Result<(), Stop>
+) -> Result<(), LineStop>
     ensures clean { OnOk result (line_fault found.old.entries last line.now ≡ None) }
     ensures taken { OnOk result (found.new.entries ≡ with_line found.old.entries line.now) }
-    ensures err { IfErr result (IsStop (line_fault found.old.entries last line.now)) }
+    ensures err { IfErr result (IsLineStop (line_fault found.old.entries last line.now)) }
 {
     let content = content(line);
     if !is_clean(content) {
-        return Err(Stop::At(TopoKind::Bytes));
+        return Err(LineStop::At(TopoKind::Bytes));
     }
     if line.len() > 4096 || last > 16777216 {
-        return Err(Stop::At(TopoKind::Length));
+        return Err(LineStop::At(TopoKind::Length));
     }
     if skips(content) {
         return Ok(());
@@ -242,6 +261,6 @@ pub fn take_line(
     let (path, properties) = read_entry(alloc, found, content)?;
     match found.insert(path, properties) {
         Ok(_) => Ok(()),
-        Err(_) => Err(Stop::Memory),
+        Err(_) => Err(LineStop::Memory),
     }
 }

@@ -1,7 +1,8 @@
-use crate::no_memory::NoMemory;
+use fm_bytes::NoMemory;
 
-/// What a line of a topology text can have: a path that is none, a word that is no property, a path or a
-/// name that was there, a parent that was not, too many bytes, too many paths, or a byte that no line has.
+/// What a line of a topology text can have: a path that is none, a word that is no property, a path
+/// or a name that was there, a parent that was not, too many bytes, too many paths, or a byte that
+/// no line has.
 #[derive(Clone, Copy, Debug, PartialEq, Eq, Drop)]
 pub enum TopoKind {
     Path,

@@ -5,13 +5,14 @@ ghost use Rattle.fm_name.specs.Order.{path_cmp};
 ghost use Rattle.fm_name.specs.OrderLaws.{path_cmp_total, path_cmp_ties};
 ghost use Rattle.fm_topo.specs.Code.{path_code};
 
-use crate::no_memory::NoMemory;
+use fm_bytes::NoMemory;
 use fm_name::Fmri;
 use std::alloc::Global;
 use std::cmp::Ordering;
 use std::marker::Model;
 
-/// A path with its code, which is compared in place of its text: a text would be parted at each comparison.
+/// A path with its code, which is compared in place of its text: a text would be parted at each
+/// comparison.
 #[derive(Debug, Drop)]
 pub struct Key {
     path: Fmri,
@@ -96,7 +97,8 @@ impl Eq for Key {
 impl PartialOrd for Key {
     ghost partial_cmp = { λ x y. Some (path_cmp x y) };
 
-    ghost laws = { partial_order_from_agreeing_total path_cmp path_cmp_total (λ x y. refl) path_cmp_ties };
+    ghost laws = { partial_order_from_agreeing_total path_cmp path_cmp_total (λ x y. refl)
+        path_cmp_ties };
 
     fn partial_cmp(&self, other: &Key) -> Option<Ordering> {
         Some(self.cmp(other))

@@ -1,11 +1,12 @@
 ghost use Rattle.std.specs.Prelude.{◌≡◌, ◌≤◌, ◌∷◌, ◌++◌, [], ℕ, List, length, decimal, OnOk, OnErr};
 ghost use Rattle.fm_topo.specs.Lawful.{ReadsAs};
-ghost use Rattle.fm_topo.specs.Printed.{value_text, properties_text, line_text, rest_text, topology_text};
+ghost use Rattle.fm_topo.specs.Printed.{value_text, properties_text, place_line, rest_text};
+ghost use Rattle.fm_topo.specs.Printed.{topology_text};
 
-use crate::no_memory::NoMemory;
 use crate::properties::Properties;
 use crate::topo::Topo;
 use crate::values::{TopoText, TopoValue};
+use fm_bytes::NoMemory;
 use fm_name::Fmri;
 
 /// Appends a number in decimal.
@@ -41,7 +42,8 @@ fn add_value(value: &TopoValue, out: &mut Vec<u8>) -> Result<(), NoMemory>
 /// Appends a property behind a space.
 #[tactic(auto, using(crate::proofs::Printing::pair_added))]
 fn add_pair(name: &TopoText, value: &TopoValue, out: &mut Vec<u8>) -> Result<(), NoMemory>
-    ensures { OnOk result (out.new.items ≡ out.old.items ++ (32 ∷ (name.now ++ (61 ∷ value_text value.now)))) }
+    ensures { OnOk result
+        (out.new.items ≡ out.old.items ++ (32 ∷ (name.now ++ (61 ∷ value_text value.now)))) }
 {
     out.push(b' ')?;
     out.extend_from_slice(name.get().as_bytes())?;
@@ -62,7 +64,7 @@ fn add_pairs(pairs: &[(TopoText, TopoValue)], out: &mut Vec<u8>) -> Result<(), N
 /// Appends the line of a path.
 #[tactic(auto, using(crate::proofs::Printing::joined))]
 fn add_place(path: &Fmri, properties: &Properties, out: &mut Vec<u8>) -> Result<(), NoMemory>
-    ensures { OnOk result (out.new.items ≡ out.old.items ++ line_text (path.now, properties.now)) }
+    ensures { OnOk result (out.new.items ≡ out.old.items ++ place_line (path.now, properties.now)) }
 {
     out.extend_from_slice(path.text().as_bytes())?;
     add_pairs(properties.pairs(), out)
@@ -94,13 +96,15 @@ fn add_places(places: &[(Fmri, Properties)], out: &mut Vec<u8>) -> Result<(), No
     }
 }
 
-/// Writes a topology behind what `out` holds: a line for each path, with a newline between two lines. What it
-/// writes reads as the topology, and no text that does so is shorter. After `NoMemory` `out` holds what it held.
+/// Writes a topology behind what `out` holds: a line for each path, with a newline between two
+/// lines. What it writes reads as the topology, and no text that does so is shorter. After
+/// `NoMemory` `out` holds what it held.
 #[tactic(auto, using(crate::proofs::Round::reads_back, crate::proofs::Kept::shortest))]
 pub fn print_topo(topo: &Topo, out: &mut Vec<u8>) -> Result<(), NoMemory>
     ensures ok { OnOk result (out.new.items ≡ out.old.items ++ topology_text topo.now) }
     ensures reads { OnOk result (ReadsAs (topology_text topo.now) topo.now) }
-    ensures short { OnOk result ((text : List ℕ) → ReadsAs text topo.now → length (topology_text topo.now) ≤ length text) }
+    ensures short { OnOk result ((text : List ℕ) → ReadsAs text topo.now
+        → length (topology_text topo.now) ≤ length text) }
     ensures err { OnErr result (out.new.items ≡ out.old.items) }
 {
     let mut text = Vec::new(*out.allocator());

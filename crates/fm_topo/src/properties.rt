@@ -5,8 +5,9 @@ ghost use Rattle.std.specs.List.Sorted.{IsStrictlySortedBy};
 ghost use Rattle.std.specs.Map.{keys_of};
 ghost use Rattle.fm_topo.specs.Query.{value_at};
 
-use crate::no_memory::NoMemory;
 use crate::values::{TopoText, TopoValue};
+use fm_bytes::{Copies, NoMemory};
+use std::alloc::Global;
 use std::marker::Model;
 
 /// The properties of one path, in byte order of their names.
@@ -56,12 +57,12 @@ impl Properties {
     }
 
     /// Equal properties.
-    pub fn copy(&self) -> Result<Properties, NoMemory>
+    pub fn copy(&self, alloc: Global) -> Result<Properties, NoMemory>
         ensures { IfOk result (λ properties. properties ≡ self.now) }
     {
-        let mut items = Vec::new(*self.items.allocator());
+        let mut items = Vec::new(alloc);
         for (name, value) in &self.items {
-            items.push((name.copy()?, value.copy()?))?;
+            items.push((name.copy(alloc)?, value.copy(alloc)?))?;
         }
         Ok(Properties { items })
     }

@@ -5,12 +5,12 @@ ghost use Rattle.fm_topo.specs.Reading.{IsAt};
 ghost use Rattle.fm_topo.specs.Topology.{topology_of};
 
 use crate::bytes::find_byte;
-use crate::entries::{Stop, take_line};
+use crate::entries::{LineStop, take_line};
 use crate::faults::TopoFault;
 use crate::keys::Key;
-use crate::no_memory::NoMemory;
 use crate::properties::Properties;
 use crate::topo::Topo;
+use fm_bytes::NoMemory;
 use std::alloc::Global;
 use std::collections::BTreeMap;
 
@@ -26,7 +26,8 @@ fn topology_from(alloc: Global, found: BTreeMap<Key, Properties>) -> Result<Topo
     Ok(Topo::from_vec(places))
 }
 
-/// Reads the line of a number, counted from 0, at the begin of the rest of a text; what is left behind it.
+/// Reads the line of a number, counted from 0, at the begin of the rest of a text; what is left
+/// behind it.
 #[tactic(auto, using(crate::proofs::Stepping::at_next, crate::proofs::Stepping::at_end, crate::proofs::Stepping::at_fault, crate::proofs::Ranges::rest_all))]
 fn step<'a>(
     alloc: Global,
@@ -36,8 +37,10 @@ fn step<'a>(
     number: u32,
 ) -> Result<Option<&'a [u8]>, TopoFault>
     requires { IsAt text.now number rest.now found.old.entries }
-    ensures next { IfOk result (λ left. MatchOption left ((IsClean text.now) × (found.new.entries ≡ topology_of text.now))
-        (λ more. (IsAt text.now (number + 1) more.now found.new.entries) × (length more.now < length rest.now) × (number + 1 ≤ 16777216))) }
+    ensures next { IfOk result
+        (λ left. MatchOption left ((IsClean text.now) × (found.new.entries ≡ topology_of text.now))
+        (λ more. (IsAt text.now (number + 1) more.now found.new.entries)
+        × (length more.now < length rest.now) × (number + 1 ≤ 16777216))) }
     ensures fault { IfErr result (IsFirstFault text.now) }
 {
     let at = find_byte(rest, b'\n');
@@ -45,11 +48,11 @@ fn step<'a>(
     let last = (before + at + 1).min(text.len());
     match take_line(alloc, found, &rest[..at], last) {
         Ok(()) => {}
-        Err(Stop::At(kind)) => return Err(TopoFault::At {
+        Err(LineStop::At(kind)) => return Err(TopoFault::At {
             line: number + 1,
             kind,
         }),
-        Err(Stop::Memory) => return Err(TopoFault::NoMemory),
+        Err(LineStop::Memory) => return Err(TopoFault::NoMemory),
     }
     if at < rest.len() {
         Ok(Some(&rest[at + 1..]))

@@ -1,51 +1,19 @@
-ghost use Rattle.std.specs.Prelude.{◌≡◌, ◌==◌, ◌&&◌, ◌||◌, ◌<◌, ◌^◌, ◌≤◌, IsTrue, IfOk, IfSome, Some, nat_lt, length, slice_index, if◌then◌else◌};
+//! The properties of a line: names, numbers and texts in quotes.
+
+ghost use Rattle.std.specs.Prelude.{◌≡◌, ◌==◌, ◌&&◌, ◌||◌, ◌<◌, ◌^◌, ◌≤◌, IsTrue, IfOk, IfSome};
+ghost use Rattle.std.specs.Prelude.{Some, nat_lt, length, slice_index, if◌then◌else◌};
 ghost use Rattle.std.specs.Char.{is_ascii_digit};
 ghost use Rattle.std.specs.List.{list_all};
 ghost use Rattle.std.specs.Str.Parse.{digits_value};
 ghost use Rattle.fm_topo.specs.Line.{is_clean_byte};
-ghost use Rattle.fm_topo.specs.Property.{is_number, is_quoted, is_text_byte, inner_of, value_read, pair_read, property_read};
+ghost use Rattle.fm_topo.specs.Property.{is_number, is_quoted, is_text_byte, inner_of, value_read};
+ghost use Rattle.fm_topo.specs.Property.{pair_read, property_read};
 
 use crate::bytes::{cut_at, text_of};
-use crate::no_memory::NoMemory;
 use crate::values::{TopoText, TopoValue};
+use fm_bytes::{NoMemory, read_numeral};
 use fm_name::is_name;
 use std::alloc::Global;
-
-/// Whether all bytes are digits.
-fn are_digits(bytes: &[u8]) -> bool
-    ensures { result ≡ list_all is_ascii_digit bytes.now }
-{
-    bytes.iter().all(|b| b.is_ascii_digit())
-}
-
-/// Whether a text of digits has no zero in front of another digit.
-fn is_plain(bytes: &[u8]) -> bool
-    ensures { result ≡ (length bytes.now == 1 || nat_lt 48 (slice_index bytes.now 0)) }
-{
-    match bytes {
-        [] => false,
-        [_] => true,
-        [first, ..] => *first > b'0',
-    }
-}
-
-/// Whether the bytes are digits without a zero in front of others.
-fn spells_digits(bytes: &[u8]) -> bool
-    ensures { result ≡ (list_all is_ascii_digit bytes.now && (length bytes.now == 1 || nat_lt 48 (slice_index bytes.now 0))) }
-{
-    are_digits(bytes) && is_plain(bytes)
-}
-
-/// The number that a text means, where it is a number.
-fn read_number(bytes: &[u8]) -> Option<u64>
-    requires { IsTrue (list_all is_clean_byte bytes.now) }
-    ensures { result ≡ (if is_number bytes.now then Some (digits_value 10 bytes.now) else None) }
-{
-    if !spells_digits(bytes) {
-        return None;
-    }
-    text_of(bytes).parse::<u64>().ok()
-}
 
 /// Whether all bytes may stand between quotes.
 fn are_inner(bytes: &[u8]) -> bool
@@ -83,7 +51,7 @@ fn read_value(alloc: Global, bytes: &[u8]) -> Result<Option<TopoValue>, NoMemory
     requires { IsTrue (list_all is_clean_byte bytes.now) }
     ensures { IfOk result (λ found. found ≡ value_read bytes.now) }
 {
-    if let Some(number) = read_number(bytes) {
+    if let Some(number) = read_numeral(bytes, u64::MAX) {
         return Ok(Some(TopoValue::Number(number)));
     }
     if !spells_text(bytes) {

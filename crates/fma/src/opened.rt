@@ -10,7 +10,8 @@ use std::io::ErrorKind;
 /// The most rule files.
 const MAX_RULES: u8 = 8;
 
-/// The file of a disk, which is made where it is missing; a disk of which every call fails where that can't be done.
+/// The file of a disk, which is made where it is missing; a disk of which every call fails where
+/// that can't be done.
 fn open_disk(rt: &HostRuntime, path: &str) -> FileDisk {
     let file = OpenOptions::new()
         .read(true)

@@ -2,6 +2,7 @@
 ghost use Rattle.std.specs.Prelude.{◌≡◌, ◌≤◌, ℕ, List, None, Some, IfErr};
 ghost use Rattle.std.specs.declared.option.Option.{Option};
 ghost use Rattle.fm_top.specs.Held.{ActCause};
+ghost use Rattle.fm_top.specs.HeldLaws.{untold_ascends};
 
 use fm_name::{Fmri, read_fmri};
 use fm_top::{ActFault, Actuator};
@@ -9,8 +10,8 @@ use std::alloc::{AllocError, Global};
 use std::io::{ErrorKind, Write};
 use std::{fs, io};
 
-/// The actuator of one kind: the file `retired.KIND` has one path a line, in path order. A missing file is an empty
-/// set. The file is replaced whole whenever the set changes.
+/// The actuator of one kind: the file `retired.KIND` has one path a line, in path order. A missing
+/// file is an empty set. The file is replaced whole whenever the set changes.
 #[derive(Drop)]
 pub struct Retired {
     rt: HostRuntime,
@@ -159,9 +160,11 @@ fn take(rt: &HostRuntime, kind: &str, path: &Fmri) -> Result<(), ActFault> {
 impl Actuator for Retired {
     ghost held = { λ _. None };
 
-    ghost failures = { λ a. a.failures };
+    ghost act_failures = { λ a. a.failures };
 
     ghost kind_text = { λ a. a.kind.now };
+
+    ghost ascends = { λ _ paths told. untold_ascends paths told };
 
     fn kind(&self) -> &str {
         self.kind

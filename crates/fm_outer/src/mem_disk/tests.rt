@@ -39,7 +39,8 @@ fn leaves(alloc: Global, disk: MemDisk, how: Image, want: &[u8]) -> Result<bool,
     Ok(left.bytes.as_slice() == want && left.calls() == 0 && left.faults() == 0)
 }
 
-// Room for 8 bytes and a record of 10 places; the calls 2 and 3 fail. Call 4 would pass the room, and call 6 the record.
+// Room for 8 bytes and a record of 10 places; the calls 2 and 3 fail. Call 4 would pass the room,
+// and call 6 the record.
 fn failing(alloc: Global) -> Result<MemDisk, NoMemory> {
     let fails = Vec::from_array(alloc, [2, 3])?;
     let mut disk = MemDisk::new(alloc, b"abcdef", 8, 10, fails)?;
@@ -100,7 +101,8 @@ fn a_stop_fails_each_call_from_it_on(rt: HostRuntime) -> Result<(), Fail> {
     Ok(())
 }
 
-// Whether this is left where a body is added behind a closed gate, with a stop at one of the four calls of that.
+// Whether this is left where a body is added behind a closed gate, with a stop at one of the four
+// calls of that.
 fn adds(alloc: Global, stop: u64, how: Image, want: &[u8]) -> Result<bool, NoMemory> {
     let mut disk = MemDisk::new(alloc, b"J\0", 16, 100, Vec::new(alloc))?;
     disk.stop_at(stop);

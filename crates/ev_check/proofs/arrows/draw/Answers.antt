@@ -8,7 +8,15 @@ loop-statement-preserved c =
     let x = c.statement-item.result in
     record {
       nodes = c.in_ok-draw_one.ensures.nodes;
-      causes = c.in_ok-draw_one.ensures.causes ∙ ap (λ y. y ++ option_to_list (causes_of c.args.events.now x)) c.loop-statement.invariant.causes ∙ sym (given_more (causes_of c.args.events.now) c.args.statements.now c.loop-statement.statement-index x c.loop-statement-test.true c.statement-item.is);
-      effects = c.in_ok-draw_one.ensures.effects ∙ ap (λ y. y ++ option_to_list (effects_of c.args.events.now x)) c.loop-statement.invariant.effects ∙ sym (given_more (effects_of c.args.events.now) c.args.statements.now c.loop-statement.statement-index x c.loop-statement-test.true c.statement-item.is);
+      causes = c.in_ok-draw_one.ensures.causes
+          ∙ ap (λ y. y ++ option_to_list (causes_of c.args.events.now x))
+          c.loop-statement.invariant.causes
+          ∙ sym (given_more (causes_of c.args.events.now) c.args.statements.now
+          c.loop-statement.statement-index x c.loop-statement-test.true c.statement-item.is);
+      effects = c.in_ok-draw_one.ensures.effects
+          ∙ ap (λ y. y ++ option_to_list (effects_of c.args.events.now x))
+          c.loop-statement.invariant.effects
+          ∙ sym (given_more (effects_of c.args.events.now) c.args.statements.now
+          c.loop-statement.statement-index x c.loop-statement-test.true c.statement-item.is);
       few = omega (arith, c.in_ok-draw_one.ensures.few, c.loop-statement.invariant.few);
     }

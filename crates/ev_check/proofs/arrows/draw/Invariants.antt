@@ -6,6 +6,7 @@ abbrev pub invariant-loop-statement : goal.invariant-loop-statement
 invariant-loop-statement l = record {
   nodes : l.arrows.nodes ≡ length l.events;
   causes : l.arrows.causes ≡ filter_map (causes_of l.events) (take l.statement-index l.statements);
-  effects : l.arrows.effects ≡ filter_map (effects_of l.events) (take l.statement-index l.statements);
+  effects : l.arrows.effects
+      ≡ filter_map (effects_of l.events) (take l.statement-index l.statements);
   few : length l.arrows.causes ≤ l.statement-index;
 }

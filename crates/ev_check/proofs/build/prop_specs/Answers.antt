@@ -1,9 +1,11 @@
 use Rattle.std.proofs.Common.{sym, ◌∙◌, ap, ◌++◌, option_to_list}
-use Rattle.ev_check.specs.Book.{linking}
+use Rattle.ev_check.specs.CheckedFile.{linking}
 use Rattle.ev_check.proofs.Drawings.{given_more}
 use Rattle.ev_check.proofs.build.prop_specs.Goals as goal
 
 pub loop-statement-preserved : goal.loop-statement-preserved
 loop-statement-preserved c =
     let x = c.statement-item.result in
-    c.in_ok-add_prop.ensures ∙ ap (λ y. y ++ option_to_list (linking x)) c.loop-statement.invariant ∙ sym (given_more (linking) c.args.statements.now c.loop-statement.statement-index x c.loop-statement-test.true c.statement-item.is)
+    c.in_ok-add_prop.ensures ∙ ap (λ y. y ++ option_to_list (linking x)) c.loop-statement.invariant
+    ∙ sym (given_more (linking) c.args.statements.now c.loop-statement.statement-index x
+    c.loop-statement-test.true c.statement-item.is)

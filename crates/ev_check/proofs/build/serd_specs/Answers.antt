@@ -1,9 +1,12 @@
 use Rattle.std.proofs.Common.{sym, ◌∙◌, ap, ◌++◌, option_to_list}
-use Rattle.ev_check.specs.Book.{serd_spec}
+use Rattle.ev_check.specs.CheckedFile.{serd_spec}
 use Rattle.ev_check.proofs.Drawings.{given_more}
 use Rattle.ev_check.proofs.build.serd_specs.Goals as goal
 
 pub loop-statement-preserved : goal.loop-statement-preserved
 loop-statement-preserved c =
     let x = c.statement-item.result in
-    c.in_ok-add_engine.ensures ∙ ap (λ y. y ++ option_to_list (serd_spec c.args.events.now x)) c.loop-statement.invariant ∙ sym (given_more (serd_spec c.args.events.now) c.args.statements.now c.loop-statement.statement-index x c.loop-statement-test.true c.statement-item.is)
+    c.in_ok-add_engine.ensures
+    ∙ ap (λ y. y ++ option_to_list (serd_spec c.args.events.now x)) c.loop-statement.invariant
+    ∙ sym (given_more (serd_spec c.args.events.now) c.args.statements.now
+    c.loop-statement.statement-index x c.loop-statement-test.true c.statement-item.is)

@@ -1,5 +1,5 @@
 use Rattle.std.proofs.Common.{◌≡◌, take, map}
-use Rattle.ev_check.specs.Book.{view_prop}
+use Rattle.ev_check.specs.CheckedFile.{view_prop}
 use Rattle.ev_check.proofs.checked.copy_props.Given as goal
 
 abbrev pub invariant-loop-prop : goal.invariant-loop-prop

@@ -5,4 +5,6 @@ use Rattle.ev_check.specs.Iterators.{Adds, goes_across}
 use Rattle.ev_check.proofs.iterators.add_acrosses.Given as goal
 
 abbrev pub invariant-loop-part : goal.invariant-loop-part
-invariant-loop-part l = Adds (contains_text l.initial.names) (contains_text l.names) (λ v. list_any (goes_across v) (take l.part-index l.parts))
+invariant-loop-part l =
+    Adds (contains_text l.initial.names) (contains_text l.names)
+    (λ v. list_any (goes_across v) (take l.part-index l.parts))

@@ -5,4 +5,6 @@ use Rattle.ev_check.specs.Iterators.{Adds, is_down}
 use Rattle.ev_check.proofs.iterators.add_side.Given as goal
 
 abbrev pub invariant-loop-pattern : goal.invariant-loop-pattern
-invariant-loop-pattern l = Adds (contains_text l.initial.names) (contains_text l.names) (λ v. list_any (is_down v) (take l.pattern-index l.side))
+invariant-loop-pattern l =
+    Adds (contains_text l.initial.names) (contains_text l.names)
+    (λ v. list_any (is_down v) (take l.pattern-index l.side))

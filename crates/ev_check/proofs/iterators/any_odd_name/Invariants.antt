@@ -5,4 +5,5 @@ use Rattle.ev_check.specs.Iterators.{has_odd_name}
 use Rattle.ev_check.proofs.iterators.any_odd_name.Given as goal
 
 abbrev pub invariant-loop-pattern : goal.invariant-loop-pattern
-invariant-loop-pattern l = list_any (has_odd_name (contains_text l.down)) (take l.pattern-index l.side) ≡ false
+invariant-loop-pattern l =
+    list_any (has_odd_name (contains_text l.down)) (take l.pattern-index l.side) ≡ false

@@ -4,4 +4,5 @@ use Rattle.std.specs.Hash as fed
 use Rattle.ev_check.proofs.known.hash_each.Given as goal
 
 abbrev pub invariant-loop-name : goal.invariant-loop-name
-invariant-loop-name g l = l.state ≡ fold g.H.Hasher.write l.initial.state (flat_map fed.str (take l.name-index l.names))
+invariant-loop-name g l =
+    l.state ≡ fold g.H.Hasher.write l.initial.state (flat_map fed.str (take l.name-index l.names))

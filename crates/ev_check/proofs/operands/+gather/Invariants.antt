@@ -4,4 +4,6 @@ use Rattle.ev_check.specs.Operands.{operands_in}
 use Rattle.ev_check.proofs.operands.+gather.Given as goal
 
 abbrev pub invariant-gather_each-loop-cond : goal.invariant-gather_each-loop-cond
-invariant-gather_each-loop-cond l = l.found.items ≡ l.initial.found.items ++ operands_in (conditions (map view_cond (take l.cond-index l.conds)))
+invariant-gather_each-loop-cond l =
+    l.found.items ≡ l.initial.found.items
+    ++ operands_in (conditions (map view_cond (take l.cond-index l.conds)))

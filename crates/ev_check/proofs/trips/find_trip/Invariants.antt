@@ -4,4 +4,5 @@ use Rattle.ev_check.specs.Faults.{IsTripped}
 use Rattle.ev_check.proofs.trips.find_trip.Given as goal
 
 abbrev pub invariant-loop-statement : goal.invariant-loop-statement
-invariant-loop-statement l = (j : ℕ) → j < l.statement-index → (s : Statement) → slice_get l.statements j ≡ Some s → IsTripped l.statements s → ⊥
+invariant-loop-statement l = (j : ℕ) → j < l.statement-index → (s : Statement)
+    → slice_get l.statements j ≡ Some s → IsTripped l.statements s → ⊥

@@ -1,39 +1,38 @@
-use Rattle.std.proofs.Common.{◌≡◌, ◌∙◌, sym, codes, true, false, arith}
+use Rattle.std.proofs.Common.{codes}
 use Rattle.std.proofs.lemmas.Result.{err_from_is_err_and}
-use Rattle.std.proofs.lemmas.List.{length-map}
-use Rattle.ev_tree.specs.Grammar.{engine_attr}
-use Rattle.ev_parse.specs.Read.{after_at, more_at, is, opens_at}
+use Rattle.ev_parse.specs.Read.{more_at}
 use Rattle.ev_parse.specs.Reading.{engine_attr_at}
-use Rattle.ev_parse.specs.Toks.{toks, tok_of}
+use Rattle.ev_parse.specs.Toks.{toks}
 use Rattle.ev_parse.proofs.GrammarLaws.{engine_attr_law}
-use Rattle.ev_parse.proofs.Loops.{shortens, onto_goes, onto_fails, onto_stops, onto_nothing, fails_through}
-use Rattle.ev_parse.proofs.Rules.{after, begun, starts_sign}
+use Rattle.ev_parse.proofs.Loops.{loop_fails, loop_shorter, loop_grows, loop_ends, onto_nothing}
 use Rattle.ev_parse.proofs.attrs.engine_attrs.Goals as goal
 
 pub more-init : goal.more-init
-more-init c = rw c.new-items.ensures.items (onto_nothing (more_at (codes ",") engine_attr_at (toks c.args.text.now c.args.tokens.now)))
+more-init c =
+    rw c.new-items.ensures.items
+    (onto_nothing (more_at (codes ",") engine_attr_at (toks c.args.text.now c.args.tokens.now)))
 
 pub returns-in_err-next : goal.returns-in_err-next
 returns-in_err-next c =
-    let opened : opens_at (is (codes ",")) (toks c.args.text.now c.more.rest.now) ≡ true = sym c.next_is.ensures ∙ c.more-test.true in
     let p = err_from_is_err_and c.from_residual.result c.from_residual.ensures.1 in
     rw (p.1, p.2)
-    (fails_through c.args.text.now c.in_err-next.field-0.0 (after_at (codes ",") engine_attr_at (toks c.args.text.now c.more.rest.now)) _ c.in_err-next.ensures
-    (λ rest f. sym c.more.invariant ∙ onto_fails (after_at (codes ",") engine_attr_at) (is (codes ",")) c.more.items.items (toks c.args.text.now c.more.rest.now) rest opened f))
+    (loop_fails (codes ",") engine_attr_law c.args.text.now c.more.items.items c.more.rest.now _ _
+    c.next_is.ensures c.more.invariant c.more-test.true
+    c.in_err-next.field-0.0 c.in_err-next.ensures)
 
 pub more-smaller : goal.more-smaller
 more-smaller c =
-    let less = shortens (is (codes ",")) (begun (starts_sign (codes ",") engine_attr)) (after (codes ",") engine_attr_law) (toks c.args.text.now c.more.rest.now) (c.in_ok-next.next, toks c.args.text.now c.in_ok-next.after.now) c.in_ok-next.ensures in
-    omega (arith, less, length-map c.in_ok-next.after.now (tok_of c.args.text.now), length-map c.more.rest.now (tok_of c.args.text.now))
+    loop_shorter (codes ",") engine_attr_law c.args.text.now c.more.rest.now c.in_ok-next.after.now
+    c.in_ok-next.next c.in_ok-next.ensures
 
 pub more-preserved : goal.more-preserved
 more-preserved c =
-    let opened : opens_at (is (codes ",")) (toks c.args.text.now c.more.rest.now) ≡ true = sym c.next_is.ensures ∙ c.more-test.true in
     rw c.in_ok-push.ensures.items
-    (onto_goes (is (codes ",")) (begun (starts_sign (codes ",") engine_attr)) (after (codes ",") engine_attr_law) c.more.items.items (toks c.args.text.now c.more.rest.now) (c.in_ok-next.next, toks c.args.text.now c.in_ok-next.after.now) opened c.in_ok-next.ensures
-    ∙ c.more.invariant)
+    (loop_grows (codes ",") engine_attr_law c.args.text.now c.more.items.items c.more.rest.now _ _
+    c.next_is.ensures c.more.invariant c.more-test.true
+    c.in_ok-next.next c.in_ok-next.after.now c.in_ok-next.ensures)
 
 pub returns : goal.returns
 returns c =
-    let closed : opens_at (is (codes ",")) (toks c.args.text.now c.more.rest.now) ≡ false = sym c.next_is.ensures ∙ c.more-test.false in
-    rw c.new.ensures (sym c.more.invariant ∙ onto_stops (after_at (codes ",") engine_attr_at) (is (codes ",")) c.more.items.items (toks c.args.text.now c.more.rest.now) closed)
+    rw c.new.ensures (loop_ends (codes ",") engine_attr_law c.args.text.now c.more.items.items
+    c.more.rest.now _ _ c.next_is.ensures c.more.invariant c.more-test.false)

@@ -33,7 +33,10 @@ decreases-nested l = 8 * l.depth + 7
 -- the values at hand, in front of those to be read
 abbrev pub invariant-more_all-more : goal.invariant-more_all-more
 invariant-more_all-more l =
-    onto (map view_cond l.items.items) (more_at (codes "&&") (unary_at l.depth) (toks l.text l.rest)) ≡ onto (view_cond l.fn.first ∷ []) (more_at (codes "&&") (unary_at l.depth) (toks l.text l.tokens))
+    onto (map view_cond l.items.items)
+    (more_at (codes "&&") (unary_at l.depth) (toks l.text l.rest))
+    ≡ onto (view_cond l.fn.first ∷ [])
+    (more_at (codes "&&") (unary_at l.depth) (toks l.text l.tokens))
 
 abbrev pub decreases-more_all-more : goal.decreases-more_all-more
 decreases-more_all-more l = length l.rest
@@ -41,7 +44,10 @@ decreases-more_all-more l = length l.rest
 -- the values at hand, in front of those to be read
 abbrev pub invariant-more_any-more : goal.invariant-more_any-more
 invariant-more_any-more l =
-    onto (map view_cond l.items.items) (more_at (codes "||") (all_of_at (unary_at l.depth)) (toks l.text l.rest)) ≡ onto (view_cond l.fn.first ∷ []) (more_at (codes "||") (all_of_at (unary_at l.depth)) (toks l.text l.tokens))
+    onto (map view_cond l.items.items)
+    (more_at (codes "||") (all_of_at (unary_at l.depth)) (toks l.text l.rest))
+    ≡ onto (view_cond l.fn.first ∷ [])
+    (more_at (codes "||") (all_of_at (unary_at l.depth)) (toks l.text l.tokens))
 
 abbrev pub decreases-more_any-more : goal.decreases-more_any-more
 decreases-more_any-more l = length l.rest

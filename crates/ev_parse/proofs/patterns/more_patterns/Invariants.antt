@@ -9,7 +9,9 @@ use Rattle.ev_parse.proofs.patterns.more_patterns.Given as goal
 -- the values at hand, in front of those to be read
 abbrev pub invariant-more : goal.invariant-more
 invariant-more l =
-    onto (map view_pattern l.items.items) (more_at (codes ",") pattern_at (toks l.text l.rest)) ≡ onto (view_pattern l.fn.first ∷ []) (more_at (codes ",") pattern_at (toks l.text l.tokens))
+    onto (map view_pattern l.items.items) (more_at (codes ",") pattern_at (toks l.text l.rest))
+    ≡ onto (view_pattern l.fn.first ∷ [])
+    (more_at (codes ",") pattern_at (toks l.text l.tokens))
 
 abbrev pub decreases-more : goal.decreases-more
 decreases-more l = length l.rest

@@ -9,5 +9,7 @@ use Rattle.ev_parse.proofs.sums.defined.Goals as goal
 pub returns : goal.returns
 returns c =
     let rolled = fold-roll-Cond Condition layer (Cond-F.Defined c.in_ok-name.name) in
-    let seen : view_cond (cond_defined c.in_ok-name.name) ≡ Defined c.in_ok-name.name = ap view_cond (sym (rolls-Defined c.in_ok-name.name)) ∙ rolled in
-    ap (λ r. bind r (λ a rest. Ok (Defined a, rest))) c.in_ok-name.ensures ∙ ap (λ d. Ok (d, toks c.args.text.now c.in_ok-name.rest.now)) (sym seen)
+    let seen : view_cond (cond_defined c.in_ok-name.name) ≡ Defined c.in_ok-name.name =
+    ap view_cond (sym (rolls-Defined c.in_ok-name.name)) ∙ rolled in
+    ap (λ r. bind r (λ a rest. Ok (Defined a, rest))) c.in_ok-name.ensures
+    ∙ ap (λ d. Ok (d, toks c.args.text.now c.in_ok-name.rest.now)) (sym seen)

@@ -8,7 +8,8 @@ use Rattle.ev_parse.proofs.sums.more_operands.Given as goal
 -- the values at hand, in front of those to be read
 abbrev pub invariant-more : goal.invariant-more
 invariant-more l =
-    onto l.items.items (more_at (codes "+") operand_at (toks l.text l.rest)) ≡ onto (l.fn.first ∷ []) (more_at (codes "+") operand_at (toks l.text l.tokens))
+    onto l.items.items (more_at (codes "+") operand_at (toks l.text l.rest))
+    ≡ onto (l.fn.first ∷ []) (more_at (codes "+") operand_at (toks l.text l.tokens))
 
 abbrev pub decreases-more : goal.decreases-more
 decreases-more l = length l.rest

@@ -13,7 +13,12 @@ returns c =
     let attrs = behind (codes ",") engine_attr_tokens c.args.attrs.now in
     let semi = Sign (codes ";") ∷ [] in
     on_ok_weaker c.put_end.result
-    (λ e. then_text c.args.out.now.items c.put.new.out.items end (Sign (codes "engine") ∷ []) (declared ++ (attrs ++ semi)) c.in_ok-put.ensures
-    (then_text c.put.new.out.items c.print_declared.new.out.items end declared (attrs ++ semi) c.in_ok-print_declared.ensures
-    (then_text c.print_declared.new.out.items c.print_engine_attrs.new.out.items end attrs semi (c.in_ok-print_engine_attrs.ensures ∙ ap (λ l. c.print_declared.new.out.items ++ text_of (behind (codes ",") engine_attr_tokens l)) c.as_slice.ensures) e)))
+    (λ e. then_text c.args.out.now.items c.put.new.out.items end (Sign (codes "engine") ∷ [])
+    (declared ++ (attrs ++ semi)) c.in_ok-put.ensures
+    (then_text c.put.new.out.items c.print_declared.new.out.items end declared (attrs ++ semi)
+    c.in_ok-print_declared.ensures
+    (then_text c.print_declared.new.out.items c.print_engine_attrs.new.out.items end attrs semi
+    (c.in_ok-print_engine_attrs.ensures
+    ∙ ap (λ l. c.print_declared.new.out.items
+    ++ text_of (behind (codes ",") engine_attr_tokens l)) c.as_slice.ensures) e)))
     c.put_end.ensures

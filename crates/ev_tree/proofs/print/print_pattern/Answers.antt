@@ -13,7 +13,13 @@ returns c =
     let guard = guard_tokens (view_option c.args.pattern.now.cond) in
     let parts = between (codes "/") part_tokens c.args.pattern.now.parts in
     on_ok_weaker c.print_guard.result
-    (λ e. then_text c.args.out.now.items c.put_class.new.out.items end (Class c.args.pattern.now.class ∷ []) (Sign (codes "@") ∷ (parts ++ guard)) c.in_ok-put_class.ensures
-    (then_text c.put_class.new.out.items c.put.new.out.items end (Sign (codes "@") ∷ []) (parts ++ guard) c.in_ok-put.ensures
-    (then_text c.put.new.out.items c.print_parts.new.out.items end parts guard (c.in_ok-print_parts.ensures ∙ ap (λ l. c.put.new.out.items ++ text_of (between (codes "/") part_tokens l)) c.as_slice.ensures) e)))
+    (λ e. then_text c.args.out.now.items c.put_class.new.out.items end
+    (Class c.args.pattern.now.class ∷ []) (Sign (codes "@") ∷ (parts ++ guard))
+    c.in_ok-put_class.ensures
+    (then_text c.put_class.new.out.items c.put.new.out.items end (Sign (codes "@") ∷ [])
+    (parts ++ guard) c.in_ok-put.ensures
+    (then_text c.put.new.out.items c.print_parts.new.out.items end parts guard
+    (c.in_ok-print_parts.ensures
+    ∙ ap (λ l. c.put.new.out.items ++ text_of (between (codes "/") part_tokens l))
+    c.as_slice.ensures) e)))
     c.print_guard.ensures

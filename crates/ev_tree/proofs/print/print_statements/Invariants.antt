@@ -6,4 +6,6 @@ use Rattle.ev_tree.proofs.print.print_statements.Given as goal
 
 -- the text of what the loop has passed stands behind what stood there
 abbrev pub invariant-loop-statement : goal.invariant-loop-statement
-invariant-loop-statement l = l.out.items ≡ l.initial.out.items ++ text_of (file_tokens (map view_statement (take l.statement-index l.statements)))
+invariant-loop-statement l =
+    l.out.items ≡ l.initial.out.items
+    ++ text_of (file_tokens (map view_statement (take l.statement-index l.statements)))

@@ -12,6 +12,11 @@ returns c =
     let how = Sign (compare_sign c.args.how) ∷ [] in
     let end = c.print_sum-2.new.out.items in
     on_ok_weaker c.print_sum-2.result
-    (λ e. then_text c.args.out.now.items c.print_sum.new.out.items end (sum_tokens c.args.left.now) (how ++ right) (c.in_ok-print_sum.ensures ∙ ap (λ l. c.args.out.now.items ++ text_of (sum_tokens l)) c.as_slice.ensures)
-    (then_text c.print_sum.new.out.items c.print_compare.new.out.items end how right c.in_ok-print_compare.ensures (e ∙ ap (λ l. c.print_compare.new.out.items ++ text_of (sum_tokens l)) c.as_slice-2.ensures)))
+    (λ e. then_text c.args.out.now.items c.print_sum.new.out.items end (sum_tokens c.args.left.now)
+    (how ++ right) (c.in_ok-print_sum.ensures
+    ∙ ap (λ l. c.args.out.now.items ++ text_of (sum_tokens l)) c.as_slice.ensures)
+    (then_text c.print_sum.new.out.items c.print_compare.new.out.items end how right
+    c.in_ok-print_compare.ensures
+    (e ∙ ap (λ l. c.print_compare.new.out.items ++ text_of (sum_tokens l))
+    c.as_slice-2.ensures)))
     c.print_sum-2.ensures

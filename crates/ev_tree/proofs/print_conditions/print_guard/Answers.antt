@@ -15,7 +15,9 @@ returns-in_ok-print_cond-in-Some c =
     let end = c.put-in-Some.new.out.items in
     let shown = show Whole (view_cond c.in-Some.cond) in
     on_ok_weaker c.put-in-Some.result
-    (λ e. then_text old c.put.new.out.items end (Sign (codes "{") ∷ []) (shown ++ Sign (codes "}") ∷ []) c.in_ok-put-in-Some.ensures
-    (then_text c.put.new.out.items c.print_cond.new.out.items end shown (Sign (codes "}") ∷ []) c.in_ok-print_cond-in-Some.ensures e)
+    (λ e. then_text old c.put.new.out.items end (Sign (codes "{") ∷ [])
+    (shown ++ Sign (codes "}") ∷ []) c.in_ok-put-in-Some.ensures
+    (then_text c.put.new.out.items c.print_cond.new.out.items end shown (Sign (codes "}") ∷ [])
+    c.in_ok-print_cond-in-Some.ensures e)
     ∙ ap (λ o. old ++ text_of (guard_tokens (view_option o))) (sym c.in-Some.is))
     c.put-in-Some.ensures

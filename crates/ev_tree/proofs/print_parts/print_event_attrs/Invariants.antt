@@ -5,4 +5,6 @@ use Rattle.ev_tree.proofs.print_parts.print_event_attrs.Given as goal
 
 -- the text of what the loop has passed stands behind what stood there
 abbrev pub invariant-loop-other : goal.invariant-loop-other
-invariant-loop-other l = l.out.items ≡ l.initial.out.items ++ text_of (behind (codes ",") event_attr_tokens (take l.other-index l.attrs))
+invariant-loop-other l =
+    l.out.items ≡ l.initial.out.items
+    ++ text_of (behind (codes ",") event_attr_tokens (take l.other-index l.attrs))

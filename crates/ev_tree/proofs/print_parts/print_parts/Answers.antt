@@ -5,8 +5,11 @@ use Rattle.ev_tree.proofs.print_parts.print_parts.Goals as goal
 
 pub loop-other-preserved : goal.loop-other-preserved
 loop-other-preserved c =
-    text_step c.print_part.new.out.items c.loop-other.out.items c.put.new.out.items c.print_part-in-loop-other.new.out.items (codes "/")
+    text_step c.print_part.new.out.items c.loop-other.out.items c.put.new.out.items
+    c.print_part-in-loop-other.new.out.items (codes "/")
     (behind (codes "/") part_tokens (take c.loop-other.other-index c.in-Some.others.now))
     (behind (codes "/") part_tokens (take (c.loop-other.other-index + 1) c.in-Some.others.now))
-    (part_tokens c.other-item.result) (behind_more (codes "/") part_tokens c.in-Some.others.now c.loop-other.other-index c.other-item.result c.loop-other-test.true c.other-item.is)
+    (part_tokens c.other-item.result)
+    (behind_more (codes "/") part_tokens c.in-Some.others.now c.loop-other.other-index
+    c.other-item.result c.loop-other-test.true c.other-item.is)
     c.loop-other.invariant c.in_ok-put.ensures c.in_ok-print_part-2.ensures

@@ -5,4 +5,6 @@ use Rattle.ev_tree.proofs.print_parts.print_parts.Given as goal
 
 -- the text of what the loop has passed stands behind what stood there
 abbrev pub invariant-loop-other : goal.invariant-loop-other
-invariant-loop-other l = l.out.items ≡ l.initial.out.items ++ text_of (behind (codes "/") part_tokens (take l.other-index l.others))
+invariant-loop-other l =
+    l.out.items ≡ l.initial.out.items
+    ++ text_of (behind (codes "/") part_tokens (take l.other-index l.others))

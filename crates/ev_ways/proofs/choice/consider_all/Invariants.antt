@@ -4,4 +4,5 @@ use Rattle.ev_ways.specs.Best.{IsBetter}
 use Rattle.ev_ways.proofs.choice.consider_all.Given as goal
 
 abbrev pub invariant-loop-node : goal.invariant-loop-node
-invariant-loop-node l = IsBetter (IsOneOf l.nodes l.node-index) (λ z. IsIn z l.nodes) l.distance l.fn.best l.best_now
+invariant-loop-node l =
+    IsBetter (IsOneOf l.nodes l.node-index) (λ z. IsIn z l.nodes) l.distance l.fn.best l.best_now

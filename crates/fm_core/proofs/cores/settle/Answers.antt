@@ -6,4 +6,5 @@ pub returns-clause-records : goal.returns-clause-records
 returns-clause-records c =
     c.push_reserved.ensures.items
     ∙ kept_more c.args.records.now.items c.args.spoken
-    (some_left c.as_slice.result.now c.args.spoken.events c.is_empty.result c.is_empty.ensures c.if-is_empty.false c.as_slice.ensures)
+    (some_left c.as_slice.result.now c.args.spoken.events c.is_empty.result c.is_empty.ensures
+    c.if-is_empty.false c.as_slice.ensures)

@@ -5,6 +5,8 @@ use Rattle.fm_core.proofs.counting.find_place.Goals as goal
 
 pub returns : goal.returns
 returns c =
-    let point = IsPartitionPoint-from_clause (before_class c.args.class.now) c.args.counts.now c.partition_point.result c.partition_point.ensures.partitioned
+    let point = IsPartitionPoint-from_clause (before_class c.args.class.now) c.args.counts.now
+    c.partition_point.result c.partition_point.ensures.partitioned
     (partitioned c.args.class.now c.args.counts.now c.requires) (λ a r f called. search rules) in
-    place_is c.args.class.now c.args.counts.now c.partition_point.result c.partition_point.ensures.bound point.0 point.1
+    place_is c.args.class.now c.args.counts.now c.partition_point.result
+    c.partition_point.ensures.bound point.0 point.1

@@ -1,17 +1,27 @@
 -- What was read is the entry that the bytes spell.
 use Rattle.std.proofs.Common.{sym, ap, ◌∙◌, arith}
-use Rattle.fm_nv.specs.Numbers.{AllBytes}
-use Rattle.fm_nv.specs.Reading.{IsMisspelled}
-use Rattle.fm_entry.specs.Reading.{entry_from, whole}
-use Rattle.fm_entry.proofs.EntryReader.{entry_spelled, entry_unread}
+use Rattle.fm_bytes.specs.Numbers.{AllBytes}
+use Rattle.fm_bytes.specs.Reading.{IsMisspelled, whole}
+use Rattle.fm_entry.specs.Reading.{entry_from}
+use Rattle.fm_entry.proofs.EntryReader.{entry_spelled, entry_whole}
 use Rattle.fm_entry.proofs.entry_reading.read_entry.Goals as goal
 
 pub returns-in-Ok-clause-found : goal.returns-in-Ok-clause-found
 returns-in-Ok-clause-found c =
     let all : AllBytes c.args.bytes.now = λ i. omega (arith, c.type_inv.bytes i) in
-    entry_spelled _ _ all (ap (λ bytes. whole (entry_from bytes)) (sym c.new-input.ensures) ∙ c.in-Ok.ensures.ok)
+    entry_spelled _ _ all (ap (λ bytes. whole (entry_from bytes)) (sym c.new-input.ensures)
+    ∙ c.in-Ok.ensures.ok)
 
-pub returns-in-Err-NoSpelling-clause-none : goal.returns-in-Err-NoSpelling-clause-none
-returns-in-Err-NoSpelling-clause-none c =
-    let misspelled : IsMisspelled c.in-Err-NoSpelling.field-0 = rw c.in-Err-NoSpelling.field-0-is tt in
-    λ entry spelled same. entry_unread _ entry (ap (λ bytes. whole (entry_from bytes)) (sym c.new-input.ensures) ∙ c.in-Err-NoSpelling.ensures.err misspelled) spelled same
+pub returns-in-Ok-clause-read : goal.returns-in-Ok-clause-read
+returns-in-Ok-clause-read c =
+    let read = ap (λ bytes. whole (entry_from bytes)) (sym c.new-input.ensures)
+    ∙ c.in-Ok.ensures.ok in
+    λ entry spelled same. sym read ∙ entry_whole _ entry spelled same
+
+pub returns-in-Err-NoSpelling-clause-read : goal.returns-in-Err-NoSpelling-clause-read
+returns-in-Err-NoSpelling-clause-read c =
+    let misspelled : IsMisspelled c.in-Err-NoSpelling.field-0 =
+    rw c.in-Err-NoSpelling.field-0-is tt in
+    let none = ap (λ bytes. whole (entry_from bytes)) (sym c.new-input.ensures)
+    ∙ c.in-Err-NoSpelling.ensures.err misspelled in
+    λ entry spelled same. sym none ∙ entry_whole _ entry spelled same

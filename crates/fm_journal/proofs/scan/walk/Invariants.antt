@@ -4,7 +4,7 @@ use Rattle.fm_journal.proofs.scan.walk.Given as goal
 
 abbrev pub invariant-records : goal.invariant-records
 invariant-records g l =
-    Walks g.D.Disk.seen g.D.Disk.images g.D.Disk.moment g.D.Disk.left_since g.D.Disk.name g.D.Disk.failures l.fn.disk l.disk l.first l.size l.at l.count
+    Walks g.D.Disk l.fn.disk l.disk l.piece l.first l.size l.at l.count
 
 abbrev pub decreases-records : goal.decreases-records
 decreases-records g l = l.size - l.at

@@ -11,4 +11,6 @@ pub list_json-returns : goal.list_json-returns
 list_json-returns t c =
     let end : c.loop-at.at ≡ count c.args.list.now = omega (arith, c.len-at-end.ensures) in
     view-Object c.loop-at.members
-    ∙ ap object (sym (c.loop-at.invariant ∙ ap (members_onto (members_view c.loop-at.members.entries)) (from_end c.args.list.now c.loop-at.at end)))
+    ∙ ap object (sym (c.loop-at.invariant
+    ∙ ap (members_onto (members_view c.loop-at.members.entries))
+    (from_end c.args.list.now c.loop-at.at end)))

@@ -7,10 +7,13 @@ use Rattle.fm_line.specs.Printed.{payload_data, members_onto}
 use Rattle.fm_line.proofs.data.+print.Given as goal
 
 abbrev pub invariant-list_json-loop-at : goal.invariant-list_json-loop-at
-invariant-list_json-loop-at l = members_onto no_members l.list ≡ members_onto (members_view l.members.entries) (from l.at l.list)
+invariant-list_json-loop-at l =
+    members_onto no_members l.list
+    ≡ members_onto (members_view l.members.entries) (from l.at l.list)
 
 abbrev pub invariant-lists_json-loop-list : goal.invariant-lists_json-loop-list
-invariant-lists_json-loop-list l = map view l.items.items ≡ map payload_data (take l.list-index l.lists)
+invariant-lists_json-loop-list l =
+    map view l.items.items ≡ map payload_data (take l.list-index l.lists)
 
 abbrev pub decreases-list_json : goal.decreases-list_json
 decreases-list_json l = 3 * depth l.list.now

@@ -4,4 +4,5 @@ use Rattle.serde_json.specs.View.{view}
 use Rattle.fm_line.proofs.data.numbers_json.Given as goal
 
 abbrev pub invariant-loop-number : goal.invariant-loop-number
-invariant-loop-number l = map view l.items.items ≡ map (λ n. number (unsigned n)) (take l.number-index l.numbers)
+invariant-loop-number l =
+    map view l.items.items ≡ map (λ n. number (unsigned n)) (take l.number-index l.numbers)

@@ -8,7 +8,8 @@ pub returns-in-Some : goal.returns-in-Some
 returns-in-Some c =
     c.len.ensures.len
     ∙ sym (members_len-members_view c.in-Some.members.now.entries)
-    ∙ key_count_object (view c.args.json.now) (members_view c.in-Some.members.now.entries) c.in-Some.ensures
+    ∙ key_count_object (view c.args.json.now) (members_view c.in-Some.members.now.entries)
+    c.in-Some.ensures
 
 pub returns-in-None : goal.returns-in-None
 returns-in-None c = key_count_other (view c.args.json.now) c.in-None.ensures

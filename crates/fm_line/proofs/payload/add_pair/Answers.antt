@@ -8,5 +8,6 @@ use Rattle.fm_line.proofs.payload.add_pair.Goals as goal
 pub returns-in-Ok : goal.returns-in-Ok
 returns-in-Ok c =
     ap Some c.in-Ok.ensures.ok
-    ∙ pushed_ok (refusal c.args.name.now (datum c.args.value) c.args.list) (add c.args.name.now (datum c.args.value) c.args.list)
+    ∙ pushed_ok (refusal c.args.name.now (datum c.args.value) c.args.list)
+    (add c.args.name.now (datum c.args.value) c.args.list)
     c.push.result c.in-Ok.field-0 c.push.ensures.refused c.in-Ok.is

@@ -9,4 +9,5 @@ returns-in-None c = words_none c.args.line.now (sym c.space_place.ensures ∙ c.
 pub returns-in-Some : goal.returns-in-Some
 returns-in-Some c =
     words_at c.args.line.now c.in-Some.at (sym c.space_place.ensures ∙ c.in-Some.is)
-    ∙ ap (λ rest. take c.in-Some.at c.args.line.now ∷ words rest) (sym (drop_whole (c.in-Some.at + 1) c.args.line.now))
+    ∙ ap (λ rest. take c.in-Some.at c.args.line.now ∷ words rest)
+    (sym (drop_whole (c.in-Some.at + 1) c.args.line.now))

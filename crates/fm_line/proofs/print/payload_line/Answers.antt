@@ -5,5 +5,6 @@ use Rattle.fm_line.proofs.print.payload_line.Goals as goal
 
 pub returns : goal.returns
 returns c =
-    c.in_ok-to_string.ensures.text (ap has_float c.in_ok-object.ensures ∙ payload_floatless c.args.payload.now)
+    c.in_ok-to_string.ensures.text (ap has_float c.in_ok-object.ensures
+    ∙ payload_floatless c.args.payload.now)
     ∙ ap compact_text c.in_ok-object.ensures

@@ -6,4 +6,5 @@ use Rattle.fm_name.proofs.Scanning.{pieces}
 use Rattle.fm_name.proofs.grammar.joins_pieces.Given as goal
 
 abbrev pub invariant-loop-byte : goal.invariant-loop-byte
-invariant-loop-byte l = pieces l.begun (drop l.byte-index l.bytes) ≡ list_all is_piece (slice_split (λ b. b == 45) l.bytes)
+invariant-loop-byte l = pieces l.begun (drop l.byte-index l.bytes)
+    ≡ list_all is_piece (slice_split (λ b. b == 45) l.bytes)

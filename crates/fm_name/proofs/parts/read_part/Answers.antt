@@ -3,4 +3,5 @@ use Rattle.fm_name.proofs.Digits.{has_equals}
 use Rattle.fm_name.proofs.parts.read_part.Goals as goal
 
 pub unreachable-requires : goal.unreachable-requires
-unreachable-requires c = has_equals c.args.text.now (c.in-None.ensures.byte (lit< tt) (λ w o f. f)) c.requires
+unreachable-requires c = has_equals c.args.text.now (c.in-None.ensures.byte (lit< tt) (λ w o f. f))
+    c.requires

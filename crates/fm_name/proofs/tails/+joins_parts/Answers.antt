@@ -6,4 +6,6 @@ pub returns-then-byte-eq47 : goal.returns-then-byte-eq47
 returns-then-byte-eq47 t c =
     c.joins_parts.ensures
     ∙ sym (parts_start c.args.room c.args.bytes.now (omega arith)
-    ∙ (ap (goes (c.args.room - 1)) (sym c.in-Some.ensures) ∙ slash_next (c.args.room - 1) c.in-Some.rest.now c.in-len1-up.len_at_least c.if-byte-eq47.true))
+    ∙ (ap (goes (c.args.room - 1)) (sym c.in-Some.ensures)
+    ∙ slash_next (c.args.room - 1) c.in-Some.rest.now c.in-len1-up.len_at_least
+    c.if-byte-eq47.true))

@@ -7,4 +7,5 @@ use Rattle.fm_nv.proofs.content.place_of.Goals as goal
 pub returns : goal.returns
 returns c =
     let e = c.index-cells-at.is in
-    sym (ap (λ (y : Cell). y.end) e) ∙ begins_found c.args.cells.now c.args.at c.index-cells-at.result (omega arith) c.requires e
+    sym (ap (λ (y : Cell). y.end) e)
+    ∙ begins_found c.args.cells.now c.args.at c.index-cells-at.result (omega arith) c.requires e

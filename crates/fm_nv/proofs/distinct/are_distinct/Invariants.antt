@@ -9,7 +9,9 @@ use Rattle.fm_nv.proofs.distinct.are_distinct.Given as goal
 abbrev pub invariant-pairs : goal.invariant-pairs
 invariant-pairs l =
     (l.at ≤ count l.pairs)
-    × ((q : Bor (List ℕ)) → contains (λ a b. slice_cmp nat_cmp a.now b.now) l.behind q ≡ has q.now (from l.at l.pairs))
+    × ((q : Bor (List ℕ))
+    → contains (λ a b. slice_cmp nat_cmp a.now b.now) l.behind q
+    ≡ has q.now (from l.at l.pairs))
     × (distinct (from l.at l.pairs) ≡ true)
 
 abbrev pub decreases-pairs : goal.decreases-pairs

@@ -6,5 +6,6 @@ use Rattle.fm_nv.proofs.push.are_short.Given as goal
 
 abbrev pub invariant-items : goal.invariant-items
 invariant-items l =
-    (list_all (λ t. nat_le (length t) 65536) (drop l.text-index l.items) ≡ list_all (λ t. nat_le (length t) 65536) l.items)
+    (list_all (λ t. nat_le (length t) 65536) (drop l.text-index l.items)
+    ≡ list_all (λ t. nat_le (length t) 65536) l.items)
     × (list_all is_text (drop l.text-index l.items) ≡ list_all is_text l.items)

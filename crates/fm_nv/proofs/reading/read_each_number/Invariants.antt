@@ -1,9 +1,10 @@
 -- The numbers so far, and those that are left, are all.
 use Rattle.std.proofs.Common.{◌≡◌, ◌-◌}
-use Rattle.fm_nv.specs.Reading.{items_from, number_from}
-use Rattle.fm_nv.proofs.ReadLoops.{behind}
+use Rattle.fm_bytes.specs.Reading.{items_from, number_from}
+use Rattle.fm_bytes.proofs.ReadLoops.{behind}
 use Rattle.fm_nv.proofs.reading.read_each_number.Given as goal
 
 abbrev pub invariant-items : goal.invariant-items
 invariant-items l =
-    items_from (number_from 8) l.count l.initial.input ≡ behind l.items.items (items_from (number_from 8) (l.count - l.at) l.input)
+    items_from (number_from 8) l.count l.initial.input
+    ≡ behind l.items.items (items_from (number_from 8) (l.count - l.at) l.input)

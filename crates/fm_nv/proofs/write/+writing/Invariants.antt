@@ -7,11 +7,13 @@ use Rattle.fm_nv.proofs.write.+writing.Given as goal
 
 abbrev pub invariant-put_pairs-pairs : goal.invariant-put_pairs-pairs
 invariant-put_pairs-pairs l =
-    (l.out.items ++ body_bytes (from l.at l.nv) ≡ l.initial.out.items ++ body_bytes l.nv) × IsTrue (pairs_fit (from l.at l.nv))
+    (l.out.items ++ body_bytes (from l.at l.nv) ≡ l.initial.out.items ++ body_bytes l.nv)
+    × IsTrue (pairs_fit (from l.at l.nv))
 
 abbrev pub invariant-put_each-items : goal.invariant-put_each-items
 invariant-put_each-items l =
-    l.out.items ++ lists_bytes (lists_of (drop l.list-index l.list-items)) ≡ l.initial.out.items ++ lists_bytes (lists_of l.list-items)
+    l.out.items ++ lists_bytes (lists_of (drop l.list-index l.list-items)) ≡ l.initial.out.items
+    ++ lists_bytes (lists_of l.list-items)
 
 abbrev pub decreases-put_list : goal.decreases-put_list
 decreases-put_list l = 6 * depth l.nv.now + 1

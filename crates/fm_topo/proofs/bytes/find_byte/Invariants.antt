@@ -4,4 +4,6 @@ use Rattle.std.specs.List.{position_or_len}
 use Rattle.fm_topo.proofs.bytes.find_byte.Given as goal
 
 abbrev pub invariant-loop-at : goal.invariant-loop-at
-invariant-loop-at l = position_or_len (λ b. b == l.byte) l.text ≡ l.at + position_or_len (λ b. b == l.byte) (drop l.at l.text)
+invariant-loop-at l =
+    position_or_len (λ b. b == l.byte) l.text
+    ≡ l.at + position_or_len (λ b. b == l.byte) (drop l.at l.text)

@@ -17,20 +17,23 @@ before g c =
 pub returns-clause-fallen : goal.returns-clause-fallen
 returns-clause-fallen g c =
     rw (← c.self.view_is)
-    (fall_book g.M.Module.meaning g.M.Module.state (before g c) c.args.module c.index_mut-own.result.now c.args.hand c.replace.new.dest
-    (rw (← c.self.view_is) at c.requires.known) c.index_mut-own.ensures.value c.replace.ensures.after
-    (rw (← c.self.view_is) at c.requires.lawful) (rw (← c.self.view_is) at c.requires.follows)
-    (rw (← c.self.view_is) at c.requires.above) (rw (← c.self.view_is) at c.requires.below))
+    (fall_book g.M.Module (before g c) c.args.module c.index_mut-own.result.now c.args.hand
+    c.replace.new.dest
+    (rw (← c.self.view_is) at c.requires.known) c.index_mut-own.ensures.value
+    c.replace.ensures.after
+    (rw (← c.self.view_is) at c.requires.lawful) (rw (← c.self.view_is) at c.requires.may))
 
 pub returns-clause-back : goal.returns-clause-back
 returns-clause-back g c =
     rw (← c.self.view_is)
     (read_at c.self.inside.hands.items c.args.module c.index_mut-own.result.now c.replace.result
-    (rw (← c.self.view_is) at c.requires.known) c.index_mut-own.ensures.value c.replace.ensures.value)
+    (rw (← c.self.view_is) at c.requires.known) c.index_mut-own.ensures.value
+    c.replace.ensures.value)
 
 pub returns-clause-lawful : goal.returns-clause-lawful
 returns-clause-lawful g c =
-    fall_lawful g.M.Module.meaning g.M.Module.state (before g c) c.args.module c.index_mut-own.result.now c.args.hand c.replace.new.dest
-    (rw (← c.self.view_is) at c.requires.known) c.index_mut-own.ensures.value c.replace.ensures.after
-    (rw (← c.self.view_is) at c.requires.lawful) (rw (← c.self.view_is) at c.requires.follows)
-    (rw (← c.self.view_is) at c.requires.above) (rw (← c.self.view_is) at c.requires.below)
+    fall_lawful g.M.Module (before g c) c.args.module c.index_mut-own.result.now c.args.hand
+    c.replace.new.dest
+    (rw (← c.self.view_is) at c.requires.known) c.index_mut-own.ensures.value
+    c.replace.ensures.after
+    (rw (← c.self.view_is) at c.requires.lawful) (rw (← c.self.view_is) at c.requires.may)

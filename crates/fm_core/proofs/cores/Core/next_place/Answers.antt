@@ -16,20 +16,20 @@ before g c =
 
 pub overflow_sub-result : goal.overflow_sub-result
 overflow_sub-result g c =
-    place_low g.M.Module.meaning g.M.Module.state (before g c) c.args.at c.index-hand.result.now c.cursor.result
+    place_low g.M.Module (before g c) c.args.at c.index-hand.result.now c.cursor.result
     (rw (← c.self.view_is) at c.requires.inside) c.index-hand.ensures c.cursor.ensures
     (rw (← c.self.view_is) at c.requires.lawful)
 
 pub returns-clause-hand : goal.returns-clause-hand
 returns-clause-hand g c =
     rw (← c.self.view_is)
-    (place_is g.M.Module.meaning g.M.Module.state (before g c) c.args.at c.index-hand.result.now c.cursor.result
+    (place_is g.M.Module (before g c) c.args.at c.index-hand.result.now c.cursor.result
     (rw (← c.self.view_is) at c.requires.inside) c.index-hand.ensures c.cursor.ensures
     (rw (← c.self.view_is) at c.requires.lawful))
 
 pub returns-clause-cursor : goal.returns-clause-cursor
 returns-clause-cursor g c =
     rw (← c.self.view_is)
-    (place_cursor g.M.Module.meaning g.M.Module.state (before g c) c.args.at c.index-hand.result.now c.cursor.result
+    (place_cursor g.M.Module (before g c) c.args.at c.index-hand.result.now c.cursor.result
     (rw (← c.self.view_is) at c.requires.inside) c.index-hand.ensures c.cursor.ensures
     (rw (← c.self.view_is) at c.requires.lawful))

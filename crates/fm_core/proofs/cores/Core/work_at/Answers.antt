@@ -19,20 +19,22 @@ idle_before g c =
 pub returns-then-place-len-clause-answer : goal.returns-then-place-len-clause-answer
 returns-then-place-len-clause-answer g c =
     rw (← c.self.view_is)
-    ((work_idle g.M.Module.meaning g.M.Module.state (idle_before g c) c.args.at c.next_place-place.result c.len.result
+    ((work_idle g.M.Module (idle_before g c) c.args.at c.next_place-place.result c.len.result
     (rw (← c.self.view_is) at c.requires.lawful) (rw (← c.self.view_is) at c.requires.inside)
-    (rw (← c.self.view_is) at c.next_place-place.ensures.hand) (c.len.ensures ∙ c.self.inside.entries.ok.0) c.if-place-len.true).0)
+    (rw (← c.self.view_is) at c.next_place-place.ensures.hand)
+    (c.len.ensures ∙ c.self.inside.entries.ok.0) c.if-place-len.true).0)
 
 pub returns-then-place-len-clause-worked : goal.returns-then-place-len-clause-worked
 returns-then-place-len-clause-worked g c =
     rw (← c.self.view_is)
-    ((work_idle g.M.Module.meaning g.M.Module.state (idle_before g c) c.args.at c.next_place-place.result c.len.result
+    ((work_idle g.M.Module (idle_before g c) c.args.at c.next_place-place.result c.len.result
     (rw (← c.self.view_is) at c.requires.lawful) (rw (← c.self.view_is) at c.requires.inside)
-    (rw (← c.self.view_is) at c.next_place-place.ensures.hand) (c.len.ensures ∙ c.self.inside.entries.ok.0) c.if-place-len.true).1)
+    (rw (← c.self.view_is) at c.next_place-place.ensures.hand)
+    (c.len.ensures ∙ c.self.inside.entries.ok.0) c.if-place-len.true).1)
 
 pub advance_at-requires-clause-number : goal.advance_at-requires-clause-number
 advance_at-requires-clause-number g c κs = λ alive.
-    work_number g.M.Module.meaning g.M.Module.state
+    work_number g.M.Module
     (record {
       base = c.self.inside.base;
       kept = c.self.inside.kept.items;
@@ -40,7 +42,9 @@ advance_at-requires-clause-number g c κs = λ alive.
       hands = c.self.inside.hands.items;
       records = c.self.inside.records.items;
     })
-    c.args.at c.next_place-place.result c.len.result (rw (← c.self.view_is) at c.next_place-place.ensures.hand) (c.len.ensures ∙ c.self.inside.entries.ok.0)
+    c.args.at c.next_place-place.result c.len.result
+    (rw (← c.self.view_is) at c.next_place-place.ensures.hand)
+    (c.len.ensures ∙ c.self.inside.entries.ok.0)
     c.if-place-len.false c.self.invariant.few
 
 -- the core at the call, where the step answered
@@ -55,17 +59,26 @@ done_before g c =
     }
 
 done : (g : Over) → (c : goal.After-settle g)
-    → Works g.M.Module.meaning g.M.Module.state (done_before g c) (record (done_before g c) { hands = c.advance_at.new.hands.items; records = c.settle.new.records.items }) c.args.at c.settle.result
+    → Works g.M.Module (done_before g c)
+    (record (done_before g c) {
+      hands = c.advance_at.new.hands.items;
+      records =
+          c.settle.new.records.items;
+    }) c.args.at c.settle.result
 done g c =
-    work_done g.M.Module.meaning g.M.Module.state (done_before g c) c.args.at c.next_place-place.result c.len.result
-    c.index.result.now c.advance_at.new.hands.items c.settle.new.records.items c.in_ok-spoken.spoken c.settle.result
+    work_done g.M.Module (done_before g c) c.args.at c.next_place-place.result c.len.result
+    c.index.result.now c.advance_at.new.hands.items c.settle.new.records.items c.in_ok-spoken.spoken
+    c.settle.result
     (rw (← c.self.view_is) at c.requires.lawful) (rw (← c.self.view_is) at c.requires.inside)
-    (rw (← c.self.view_is) at c.next_place-place.ensures.hand) (c.len.ensures ∙ c.self.inside.entries.ok.0) c.if-place-len.false c.index.ensures
+    (rw (← c.self.view_is) at c.next_place-place.ensures.hand)
+    (c.len.ensures ∙ c.self.inside.entries.ok.0) c.if-place-len.false c.index.ensures
     c.in_ok-spoken.ensures.hand c.in_ok-spoken.ensures.words
-    (c.settle.ensures.records ∙ ap (λ rs. rs ++ kept_record c.in_ok-spoken.spoken) c.reserve.ensures.items) c.settle.ensures.answer
+    (c.settle.ensures.records
+    ∙ ap (λ rs. rs ++ kept_record c.in_ok-spoken.spoken) c.reserve.ensures.items)
+    c.settle.ensures.answer
 
 pub returns-clause-answer : goal.returns-clause-answer
-returns-clause-answer g c = rw (← c.self.view_is) ((done g c).told)
+returns-clause-answer g c = rw (← c.self.view_is) ((done g c).answered)
 
 pub returns-clause-worked : goal.returns-clause-worked
 returns-clause-worked g c = rw (← c.self.view_is) ((done g c).worked)

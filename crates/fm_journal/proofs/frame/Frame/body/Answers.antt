@@ -5,4 +5,6 @@ use Rattle.fm_journal.proofs.Records.{length-framed}
 use Rattle.fm_journal.proofs.frame.Frame.body.Goals as goal
 
 pub returns-clause-size : goal.returns-clause-size
-returns-clause-size c = ap length (c.deref.ensures.value ∙ c.self.invariant.0 ∙ ap framed c.self.view_is) ∙ length-framed c.args.self.now
+returns-clause-size c =
+    ap length (c.deref.ensures.value ∙ c.self.invariant.0 ∙ ap framed c.self.view_is)
+    ∙ length-framed c.args.self.now

@@ -6,8 +6,12 @@ use Rattle.fm_line.proofs.split.Splitter.finish.Goals as goal
 pub returns-clause-lines : goal.returns-clause-lines
 returns-clause-lines c =
     let free : IsInProgress c.args.self.now.pending =
-    subst (λ s. IsInProgress s.pending) c.self.view_is (view_in_progress c.self.inside.is_long c.self.inside.pending.items c.self.invariant.free c.self.invariant.short) in
-    let some : c.args.self.now.pending ≢ Some [] = λ e. let yes : c.is_between.result ≡ true = c.is_between.ensures.1 e in let no : c.is_between.result ≡ false = c.if-is_between.false in cc in
+    subst (λ s. IsInProgress s.pending) c.self.view_is
+    (view_in_progress c.self.inside.is_long c.self.inside.pending.items c.self.invariant.free
+    c.self.invariant.short) in
+    let some : c.args.self.now.pending ≢ Some [] = λ e. let yes : c.is_between.result ≡ true =
+    c.is_between.ensures.1 e in let no : c.is_between.result ≡ false = c.if-is_between.false in
+    cc in
     cut_last c.args.self.now.pending free some ∙ ap (λ o. o ∷ []) (sym c.end.ensures.line)
 
 pub returns-then-is_between-clause-lines : goal.returns-then-is_between-clause-lines

@@ -2,7 +2,7 @@
 use Rattle.std.proofs.Common.{ap, ◌∙◌}
 use Rattle.std.specs.Str.{is_utf8}
 use Rattle.std.proofs.lemmas.Str.{IsUtf8-from_is_utf8}
-use Rattle.fm_nv.proofs.Booleans.{and_parts}
+use Rattle.fm_bytes.proofs.Booleans.{and_parts}
 use Rattle.fm_nv.proofs.nv.Nv.name.Goals as goal
 
 pub unreachable-requires : goal.unreachable-requires

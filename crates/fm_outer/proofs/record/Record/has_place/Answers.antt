@@ -6,4 +6,6 @@ pub returns : goal.returns
 returns c =
     let tape = c.self.inside in
     let counts = places-ops_of tape.calls.items tape.bytes.items c.self.invariant.whole in
-    rw (← c.self.view_is) (places_fit c.args.count tape.size (c.len.result + c.len-2.result) _ (omega (arith, counts)) (omega arith))
+    rw (← c.self.view_is)
+    (places_fit c.args.count tape.size (c.len.result + c.len-2.result) _ (omega (arith, counts))
+    (omega arith))

@@ -6,13 +6,14 @@ use Rattle.fm_top.proofs.reading.Reading.feed.Given as goal
 abbrev pub invariant-piece : goal.invariant-piece
 invariant-piece g l = record {
   inside : l.at ≤ length l.piece;
-  moved : Moved (g.T.Taker.went l.initial.taker l.taker) (Appends (g.K.Sink.put_bytes l.initial.out) (g.K.Sink.put_bytes l.out))
-      l.initial.self.is_told (g.T.Taker.next l.initial.taker) (take l.at l.piece) l.initial.self.splitter.pending l.self.splitter.pending l.initial.self.lines l.self.lines;
+  moved : Moved (g.T.Taker.went l.initial.taker l.taker)
+      (Appends (g.K.Sink.put_bytes l.initial.out) (g.K.Sink.put_bytes l.out))
+      g.T.Taker.TELLS_NUMBERS (g.T.Taker.next l.initial.taker) (take l.at l.piece)
+      l.initial.self.splitter.pending l.self.splitter.pending l.initial.self.lines l.self.lines;
   grew : l.self.lines ≤ l.initial.self.lines + l.at;
   ready : g.T.Taker.ready l.taker;
   same_taker : g.T.Taker.name l.taker ≡ g.T.Taker.name l.initial.taker;
-  same_telling : l.self.is_told ≡ l.initial.self.is_told;
-  later : g.K.Sink.failures l.initial.out ≤ g.K.Sink.failures l.out;
+  quiet : g.K.Sink.failures l.out ≡ g.K.Sink.failures l.initial.out;
 }
 
 abbrev pub decreases-piece : goal.decreases-piece

@@ -4,10 +4,12 @@ use Rattle.fm_top.proofs.tally.Tally.turn.Goals as goal
 
 pub returns-clause-same : goal.returns-clause-same
 returns-clause-same c =
-    turned_same c.args.self.now _ c.drain.new.self c.requires c.drain.ensures.worked c.in_ok-drain.ensures.done c.in_ok-next.ensures.next
+    turned_same c.args.self.now _ c.drain.new.self c.requires c.drain.ensures.worked
+    c.in_ok-drain.ensures.done c.in_ok-next.ensures.next
     (ap (λ rs. c.args.self.now.spoken + length rs) c.spoken.ensures)
 
 pub returns-clause-ready : goal.returns-clause-ready
 returns-clause-ready c =
-    turned_ready c.args.self.now _ c.drain.new.self c.requires c.drain.ensures.worked c.in_ok-drain.ensures.done c.in_ok-next.ensures.next
+    turned_ready c.args.self.now _ c.drain.new.self c.requires c.drain.ensures.worked
+    c.in_ok-drain.ensures.done c.in_ok-next.ensures.next
     (ap (λ rs. c.args.self.now.spoken + length rs) c.spoken.ensures) c.in_ok-next.ensures.ready

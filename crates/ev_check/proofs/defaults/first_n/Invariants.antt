@@ -1,0 +1,7 @@
+use Rattle.std.proofs.Common.{◌≡◌, drop}
+use Rattle.ev_check.specs.Attributes.{n_value}
+use Rattle.ev_check.specs.Defaults.{first_by}
+use Rattle.ev_check.proofs.defaults.first_n.Given as goal
+
+abbrev pub invariant-loop-attr : goal.invariant-loop-attr
+invariant-loop-attr l = first_by n_value l.attrs ≡ first_by n_value (drop l.attr-index l.attrs)

@@ -1,5 +1,0 @@
-use Rattle.ev_print.proofs.Spelled.{spelled_again}
-use Rattle.ev_print.proofs.law.printed_text_spells.Goals as goal
-
-pub returns : goal.returns
-returns c = spelled_again

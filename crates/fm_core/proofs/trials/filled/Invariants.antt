@@ -1,5 +1,0 @@
-use Rattle.fm_core.specs.Trials.{IsFilled}
-use Rattle.fm_core.proofs.trials.filled.Given as goal
-
-abbrev pub invariant-reports : goal.invariant-reports
-invariant-reports l = IsFilled l.core

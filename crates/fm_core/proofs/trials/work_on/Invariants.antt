@@ -1,5 +1,0 @@
-use Rattle.fm_core.specs.Trials.{IsFilled}
-use Rattle.fm_core.proofs.trials.work_on.Given as goal
-
-abbrev pub invariant-turns : goal.invariant-turns
-invariant-turns l = IsFilled l.core

@@ -1,7 +1,0 @@
-use Rattle.std.proofs.Common.{◌≡◌, ◌<◌, drop}
-use Rattle.std.specs.Str.Parse.{digits_value_after}
-use Rattle.fm_entry.proofs.decimal.read_below.Given as goal
-
-abbrev pub invariant-loop-digit : goal.invariant-loop-digit
-invariant-loop-digit l =
-    (digits_value_after 10 0 l.word ≡ digits_value_after 10 l.number (drop l.digit-index l.word)) × (l.number < l.limit)

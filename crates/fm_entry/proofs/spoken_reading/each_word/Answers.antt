@@ -1,8 +1,0 @@
--- One more item was read.
-use Rattle.fm_nv.proofs.ReadLoops.{items_more}
-use Rattle.fm_entry.specs.Reading.{word_from}
-use Rattle.fm_entry.proofs.spoken_reading.each_word.Goals as goal
-
-pub items-preserved : goal.items-preserved
-items-preserved c =
-    items_more (word_from c.args.own) _ _ _ _ _ _ _ _ c.items-test.true c.items.invariant c.in_ok-word.ensures.ok c.in_ok-push.ensures.items

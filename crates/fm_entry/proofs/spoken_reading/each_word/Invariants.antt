@@ -1,9 +1,0 @@
--- What was read so far, and what is left, is all.
-use Rattle.std.proofs.Common.{◌≡◌, ◌-◌}
-use Rattle.fm_nv.specs.Reading.{items_from}
-use Rattle.fm_nv.proofs.ReadLoops.{behind}
-use Rattle.fm_entry.specs.Reading.{word_from}
-use Rattle.fm_entry.proofs.spoken_reading.each_word.Given as goal
-
-abbrev pub invariant-items : goal.invariant-items
-invariant-items l = items_from (word_from l.own) l.count l.initial.input ≡ behind l.items.items (items_from (word_from l.own) (l.count - l.at) l.input)

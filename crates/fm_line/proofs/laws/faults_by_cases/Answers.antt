@@ -1,8 +1,0 @@
-use Rattle.fm_line.proofs.Cases.{says_entry, says_only}
-use Rattle.fm_line.proofs.laws.faults_by_cases.Goals as goal
-
-pub returns-clause-says : goal.returns-clause-says
-returns-clause-says c = says_entry
-
-pub returns-clause-only : goal.returns-clause-only
-returns-clause-only c = says_only

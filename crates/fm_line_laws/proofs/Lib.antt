@@ -1,0 +1,16 @@
+pub mod Back
+pub mod Cases
+pub mod Compact
+pub mod Escaped
+pub mod Graphic
+pub mod Lengths
+pub mod Lexed
+pub mod Names
+pub mod PayloadBack
+pub mod Payloads
+pub mod PieceLines
+pub mod PlainBack
+pub mod Reading
+pub mod Samples
+pub mod Sized
+pub mod WordRuns

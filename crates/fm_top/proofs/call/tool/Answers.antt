@@ -1,0 +1,22 @@
+use Rattle.std.proofs.Common.{refl, rules, Some, None}
+use Rattle.fm_top.specs.Outside.{sink_at}
+use Rattle.fm_top.specs.declared.words.Command.TheVariants.{Accept, Replay}
+use Rattle.fm_top.proofs.Doing.{does_as, works_as, does_accept, does_replay}
+use Rattle.fm_top.proofs.call.tool.Goals as goal
+
+pub returns-in-Some-Accept-clause-does : goal.returns-in-Some-Accept-clause-does
+returns-in-Some-Accept-clause-does g c =
+    does_as _ (Some Accept) _ _ _ (search rules)
+    (does_accept _ _ (sink_at g.K.Sink c.accept.new.out) c.accept.result _
+    c.accept.ensures.all c.accept.ensures.until
+    c.accept.ensures.counts_input c.accept.ensures.counts_out c.accept.ensures.counts_disk
+    c.end.ensures (record { rules = refl; topo = refl; acts = refl; disks = λ n. refl }))
+
+pub returns-in-Some-Replay-clause-does : goal.returns-in-Some-Replay-clause-does
+returns-in-Some-Replay-clause-does g c =
+    does_as _ (Some Replay) _ _ _ (search rules)
+    (does_replay _ _ (sink_at g.K.Sink c.replay.new.out) c.replay.result _
+    c.replay.ensures.all c.replay.ensures.until c.replay.ensures.counts_input
+    c.replay.ensures.counts_out
+    c.end-in-Some-Replay.ensures
+    (record { rules = refl; topo = refl; acts = refl; disks = λ n. refl }) refl)

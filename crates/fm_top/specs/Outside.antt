@@ -1,0 +1,95 @@
+-- What stands outside at one moment, as plain records: what each object tells, and its count of
+-- faults.
+use Rattle.std.specs.Prelude.{ℕ, List, [], ◌∷◌, map, Option}
+use Rattle.fm_outer.specs.declared.source.Source.{Ghosts as SourceGhosts}
+use Rattle.fm_outer.specs.declared.sink.Sink.{Ghosts as SinkGhosts}
+use Rattle.fm_outer.specs.declared.disk.Disk.{Ghosts as DiskGhosts}
+use Rattle.fm_top.specs.declared.six_disks.Disks.{Disks}
+
+-- the bytes that a source has left, where it tells them
+pub record SourceAt : Type 0 where
+  pub left : Option (List ℕ)
+  pub failures : ℕ
+
+-- the bytes that were put, where the sink tells them
+pub record SinkAt : Type 0 where
+  pub bytes : Option (List ℕ)
+  pub failures : ℕ
+
+-- the paths that an actuator holds, where it tells them
+pub record ActAt : Type 0 where
+  pub held : Option (List (List ℕ))
+  pub failures : ℕ
+
+-- what a read of a disk gives, where it tells that, and the images that a crash may leave
+pub record DiskAt : Type 1 where
+  pub seen : Option (List ℕ)
+  pub images : List ℕ → Type 0
+  pub failures : ℕ
+
+pub record DisksAt : Type 1 where
+  pub conf : DiskAt
+  pub err_a : DiskAt
+  pub err_b : DiskAt
+  pub slot_a : DiskAt
+  pub slot_b : DiskAt
+  pub flt : DiskAt
+
+pub record Outside : Type 1 where
+  pub input : SourceAt
+  pub rules : List SourceAt
+  pub topo : SourceAt
+  pub out : SinkAt
+  pub disks : DisksAt
+  pub acts : List ActAt
+
+-- each object as it stands
+
+abbrev pub source_at : {S : Type 0} → SourceGhosts S → S → SourceAt
+source_at g source = record { left = g.left source; failures = g.failures source }
+
+abbrev pub sink_at : {K : Type 0} → SinkGhosts K → K → SinkAt
+sink_at g sink = record { bytes = g.put_bytes sink; failures = g.failures sink }
+
+abbrev pub act_at : Option (List (List ℕ)) → ℕ → ActAt
+act_at held failures = record { held = held; failures = failures }
+
+abbrev pub disk_at : {D : Type 0} → DiskGhosts D → D → DiskAt
+disk_at g disk = record { seen = g.seen disk; images = g.images disk; failures = g.failures disk }
+
+abbrev pub disks_at : {D : Type 0} → DiskGhosts D → Disks D → DisksAt
+disks_at g disks = record {
+  conf = disk_at g disks.conf;
+  err_a = disk_at g disks.err_a;
+  err_b = disk_at g disks.err_b;
+  slot_a = disk_at g disks.slot_a;
+  slot_b = disk_at g disks.slot_b;
+  flt = disk_at g disks.flt;
+}
+
+-- the counts of faults of all sources, all disks and all actuators
+
+abbrev pub source_counts : Outside → List ℕ
+source_counts o = o.input.failures ∷ o.topo.failures ∷ map (λ s. s.failures) o.rules
+
+abbrev pub disk_counts : DisksAt → List ℕ
+disk_counts d =
+    d.conf.failures ∷ d.err_a.failures ∷ d.err_b.failures
+    ∷ d.slot_a.failures ∷ d.slot_b.failures ∷ d.flt.failures ∷ []
+
+abbrev pub act_counts : Outside → List ℕ
+act_counts o = map (λ a. a.failures) o.acts
+
+pub record Counts : Type 0 where
+  pub sources : List ℕ
+  pub out : ℕ
+  pub disks : List ℕ
+  pub acts : List ℕ
+
+abbrev pub counts_of : Outside → Counts
+counts_of o = record {
+  sources = source_counts o;
+  out = o.out.failures;
+  disks = disk_counts o.disks;
+  acts = act_counts o;
+}
