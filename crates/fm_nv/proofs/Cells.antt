@@ -1,11 +1,14 @@
 -- The pairs of cells whose names stand one behind the other.
+use Rattle.std.proofs.Common.{Bool, true, false}
 use Rattle.std.proofs.Common.{◌≡◌, ℕ, zero, suc, ◌+◌, ◌-◌, ◌<◌, ◌≤◌, max, nat_lt, IsTrue, List, []}
 use Rattle.std.proofs.Common.{◌∷◌, ◌++◌, length, length-append, get_or, take, drop, refl, sym, ap}
 use Rattle.std.proofs.Common.{◌∙◌, arith, subst}
+use Rattle.std.specs.Bool.{OnTrue}
 use Rattle.std.specs.Str.{is_utf8}
 use Rattle.std.proofs.lemmas.Bool.{leb-true}
 use Rattle.std.proofs.lemmas.List.{take-append-le, take_all}
 use Rattle.std.proofs.Math.Seq.{drop-append_seam}
+use Rattle.fm_nv.specs.Ascending.{LastIsGreatest, IsPast}
 use Rattle.fm_nv.specs.Data.{Pairs, Data, no_pairs, pair, count, depth, data_depth, name_at}
 use Rattle.fm_nv.specs.Data.{value_at, add}
 use Rattle.fm_nv.specs.Spelled.{is_pair_name, names_fit}
@@ -13,6 +16,7 @@ use Rattle.fm_nv.specs.View.{datum, between, begins, pairs_in, AreEnds, IsConten
 use Rattle.fm_nv.specs.declared.nv.Cell.{Cell}
 use Rattle.fm_bytes.proofs.Booleans.{and_parts, and_true}
 use Rattle.fm_nv.proofs.Adding.{depth_add}
+use Rattle.fm_nv.proofs.Greatest.{past_is_greatest}
 
 -- there are as many pairs as cells
 pub count_in : (names : List ℕ) (b : ℕ) (cs : List Cell) → count (pairs_in names b cs) ≡ length cs
@@ -111,10 +115,10 @@ name_fits (pair j d ps) (suc n) h k =
 
 -- a cell and its name more are a pair more
 pub content_pairs : (names k more : List ℕ) (cs all : List Cell) (c : Cell) (deep : ℕ)
-    → IsContent deep names cs → c.end ≡ length names + length k
+    (ascending : Bool) → IsContent deep ascending names cs → c.end ≡ length names + length k
     → more ≡ names ++ k → all ≡ cs ++ c ∷ []
     → pairs_in more 0 all ≡ add k (datum c.value) (pairs_in names 0 cs)
-content_pairs names k more cs all c deep h e named_by held_by =
+content_pairs names k more cs all c deep ascending h e named_by held_by =
     (λ i. pairs_in (named_by i) 0 (held_by i)) ∙ pairs_push names k 0 cs c h.ends e
 
 -- the same at the next place, as code names it
@@ -143,12 +147,18 @@ name_size k h =
     let sized = and_parts (is_utf8 k) _ h in
     leb-true (length k) 255 (and_parts (nat_lt 0 (length k)) _ sized.1).1
 
+where_past : (past : Bool) (k : List ℕ) (d : Data) (ps : Pairs) → OnTrue past (IsPast k ps)
+    → OnTrue past (LastIsGreatest (add k d ps))
+where_past true k d ps h = past_is_greatest k d ps h
+where_past false k d ps h = h
+
 -- what is kept with one pair more
-content_more : (deep more : ℕ) (names k : List ℕ) (cs : List Cell) (c : Cell)
-    → IsContent deep names cs → IsTrue (is_pair_name k) → length cs < 65535
+content_more : (deep more : ℕ) (before past : Bool) (names k : List ℕ) (cs : List Cell) (c : Cell)
+    → IsContent deep before names cs → IsTrue (is_pair_name k) → length cs < 65535
     → c.end ≡ length names + length k → more ≡ max deep (suc (data_depth (datum c.value)))
-    → IsContent more (names ++ k) (cs ++ c ∷ [])
-content_more deep more names k cs c h name room e deeper =
+    → OnTrue past (IsPast k (pairs_in names 0 cs))
+    → IsContent more past (names ++ k) (cs ++ c ∷ [])
+content_more deep more before past names k cs c h name room e deeper greatest =
     let same = pairs_push names k 0 cs c h.ends e in
     let size : c.end ≡ length (names ++ k) = omega (arith, length-append names k) in
     let small = name_size k name in
@@ -159,6 +169,8 @@ content_more deep more names k cs c h name room e deeper =
         depth_add k (datum c.value) (pairs_in names 0 cs),
         h.depth_is,
       );
+      greatest = subst (λ (ps : Pairs). OnTrue past (LastIsGreatest ps)) (sym same)
+          (where_past past k (datum c.value) (pairs_in names 0 cs) greatest);
       ends = subst (λ (n : ℕ). AreEnds n 0 (cs ++ c ∷ [])) size
           (ends_push (length names) 0 cs c h.ends (omega arith));
       named = ap names_fit same
@@ -167,12 +179,15 @@ content_more deep more names k cs c h name room e deeper =
       few = omega (arith, length-append cs (c ∷ []));
     }
 
-pub content_push : (deep more : ℕ) (names k all_names : List ℕ) (cs all : List Cell) (c : Cell)
-    → IsContent deep names cs → IsTrue (is_pair_name k) → length cs < 65535
+pub content_push : (deep more : ℕ) (before past : Bool) (names k all_names : List ℕ)
+    (cs all : List Cell) (c : Cell)
+    → IsContent deep before names cs → IsTrue (is_pair_name k) → length cs < 65535
     → c.end ≡ length names + length k → more ≡ max deep (suc (data_depth (datum c.value)))
+    → OnTrue past (IsPast k (pairs_in names 0 cs))
     → all_names ≡ names ++ k → all ≡ cs ++ c ∷ []
-    → IsContent more all_names all
-content_push deep more names k all_names cs all c h name room e deeper named_by held_by =
-    subst (λ (ns : List ℕ). IsContent more ns all) (sym named_by)
-    (subst (λ (ys : List Cell). IsContent more (names ++ k) ys) (sym held_by)
-    (content_more deep more names k cs c h name room e deeper))
+    → IsContent more past all_names all
+content_push deep more before past names k all_names cs all c h name room e deeper greatest named_by
+    held_by =
+    subst (λ (ns : List ℕ). IsContent more past ns all) (sym named_by)
+    (subst (λ (ys : List Cell). IsContent more past (names ++ k) ys) (sym held_by)
+    (content_more deep more before past names k cs c h name room e deeper greatest))

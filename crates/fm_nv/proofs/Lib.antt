@@ -1,6 +1,7 @@
 pub mod Places
 pub mod Steps
 pub mod Adding
+pub mod Greatest
 pub mod Cells
 pub mod Apart
 pub mod Readers

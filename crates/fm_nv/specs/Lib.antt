@@ -1,4 +1,5 @@
 pub mod Data
+pub mod Ascending
 pub mod Stored
 pub mod View
 pub mod Kept

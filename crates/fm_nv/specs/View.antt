@@ -1,6 +1,9 @@
 -- How the values of the program are seen as data.
 use Rattle.std.specs.Prelude.{◌≡◌, ℕ, zero, suc, ◌-◌, ◌*◌, ◌≤◌, IsTrue, List, [], ◌∷◌, length, take}
 use Rattle.std.specs.Prelude.{drop}
+use Rattle.std.specs.Prelude.{Bool as Truth}
+use Rattle.std.specs.Bool.{OnTrue}
+use Rattle.fm_nv.specs.Ascending.{LastIsGreatest}
 use Rattle.fm_nv.specs.Data.{Pairs, Data, no_pairs, pair, boolean, unsigned, signed, text, nested}
 use Rattle.fm_nv.specs.Data.{unsigneds, texts, lists, lists_of, depth}
 use Rattle.fm_nv.specs.Spelled.{names_fit}
@@ -41,9 +44,12 @@ abbrev pub AreEnds : ℕ → ℕ → List Cell → Type 0
 AreEnds size begin [] = begin ≡ size
 AreEnds size begin (c ∷ cs) = (begin ≤ c.end) × AreEnds size c.end cs
 
--- what is kept of pairs: how deep they are, the bytes of their names, and the cells
-pub record IsContent (deep : ℕ) (names : List ℕ) (cells : List Cell) : Type 0 where
+-- what is kept of pairs: how deep they are, whether their names are known to ascend, the bytes of
+-- the names, and the cells
+pub record IsContent (deep : ℕ) (ascending : Truth) (names : List ℕ) (cells : List Cell)
+    : Type 0 where
   pub depth_is : deep ≡ depth (pairs_in names 0 cells)
+  pub greatest : OnTrue ascending (LastIsGreatest (pairs_in names 0 cells))
   pub ends : AreEnds (length names) 0 cells
   pub named : IsTrue (names_fit (pairs_in names 0 cells))
   pub bytes : length names ≤ 255 * length cells

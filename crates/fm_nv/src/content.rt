@@ -4,6 +4,8 @@ ghost use Rattle.std.specs.Prelude.{◌≡◌, ◌+◌, ◌<◌, ◌≤◌, OnOk
 ghost use Rattle.fm_nv.specs.Data.{no_pairs, add, count, depth, data_depth, find, name_at};
 ghost use Rattle.fm_nv.specs.Data.{value_at};
 ghost use Rattle.fm_nv.specs.Spelled.{is_pair_name};
+ghost use Rattle.std.specs.Bool.{OnTrue};
+ghost use Rattle.fm_nv.specs.Ascending.{IsPast};
 ghost use Rattle.fm_nv.specs.View.{AreEnds, begins, between, datum, pairs_in};
 
 use crate::nv::{Cell, Content, Value};
@@ -17,6 +19,7 @@ impl Content {
     {
         Content {
             deep: 1,
+            ascending: true,
             names: Vec::new(alloc),
             cells: Vec::new(alloc),
         }
@@ -69,6 +72,18 @@ impl Content {
         None
     }
 
+    /// Whether a name is greater than each name of the pairs: false where that isn't known.
+    #[tactic(auto, using(crate::proofs::Greatest::past_nothing))]
+    pub(crate) fn is_past(&self, name: &str) -> bool
+        ensures { OnTrue result (IsPast name.now self.now) }
+    {
+        let count = self.len();
+        if count == 0 {
+            return true;
+        }
+        self.ascending && self.name_bytes(count - 1).cmp(name.as_bytes()).is_lt()
+    }
+
     /// Adds a pair at the end, whether its name is there or not.
     pub(crate) fn push(&mut self, name: &str, value: Value) -> Result<(), NoMemory>
         requires name { IsTrue (is_pair_name name.now) }
@@ -77,11 +92,13 @@ impl Content {
         ensures kept { OnErr result (self.new ≡ self.old) }
     {
         let deep = self.deep.max(value.depth() + 1);
+        let ascending = self.is_past(name);
         let end = (self.names.len() + name.len()) as u32;
         self.cells.reserve(1)?;
         self.names.extend_from_slice(name.as_bytes())?;
         self.cells.push_reserved(Cell { end, value });
         self.deep = deep;
+        self.ascending = ascending;
         Ok(())
     }
 }

@@ -38,6 +38,7 @@ impl Content {
         }
         Ok(Content {
             deep: self.deep,
+            ascending: self.ascending,
             names,
             cells,
         })

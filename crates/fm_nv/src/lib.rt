@@ -13,7 +13,8 @@
 //! A list without pairs keeps nothing, and any other keeps a `Content`: the depth, the bytes of the
 //! names one behind the other in one piece, and a `Cell` for each pair, with its value and the
 //! place where its name ends (`IsContent` of `specs/View.antt`). So a list takes three blocks
-//! beside those of its values, however many names it has.
+//! beside those of its values, however many names it has. It keeps too whether its last name is
+//! known to be the greatest: a greater one need not be looked for.
 //!
 //! `read_nv` answers a list exactly where the bytes begin with the spelling of one. It reads over
 //! an `Input`, the bytes that are left; each reader ensures what the front of them reads as

@@ -41,6 +41,9 @@ pub(crate) struct Cell {
 pub(crate) struct Content {
     /// How deep the list of the pairs is.
     pub(crate) deep: u64,
+    /// Whether the last name was found to be greater than all before it, in the order of bytes: a
+    /// name that is greater still is then no name of the list, and need not be looked for.
+    pub(crate) ascending: bool,
     /// The names, one behind the other: each begins where the name before it ends. They are bytes
     /// and no `String`, since each name is a text by itself, and is cut out and compared without a
     /// look at where characters begin.
@@ -62,7 +65,7 @@ impl Model for Content {
 
     ghost view = { λ a. pairs_in a.names.items 0 a.cells.items };
 
-    ghost invariant = { λ a. IsContent a.deep a.names.items a.cells.items };
+    ghost invariant = { λ a. IsContent a.deep a.ascending a.names.items a.cells.items };
 
     ghost size = { content_reach };
 

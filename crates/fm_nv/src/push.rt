@@ -88,12 +88,16 @@ fn is_sized(name: &str) -> bool
     0 < name.len() && name.len() <= 255
 }
 
-/// Whether a name is there.
-#[tactic(auto, using(crate::proofs::Places::has_found))]
+/// Whether a name is there. It isn't looked for where it is greater than all that are there, so a
+/// list whose names come in the order of bytes grows in time linear in them.
+#[tactic(auto, using(crate::proofs::Places::has_found, crate::proofs::Greatest::past_is_new))]
 fn has_name(list: &Nv, name: &str) -> bool
     ensures { result ≡ has name.now list.now }
 {
-    list.get(name).is_some()
+    match &list.content {
+        None => false,
+        Some(content) => !content.is_past(name) && content.get(name).is_some(),
+    }
 }
 
 /// Whether the list would be deeper than 8.
