@@ -12,8 +12,8 @@ HasReadPayload (Report class path moment payload) = list_of (payload_data payloa
 HasReadPayload _ = Unit {0}
 
 -- if some line gives the entry, the line that is printed for it gives it too
-abbrev pub ReadsBack : Entry → Type 0
-ReadsBack entry = (line : List ℕ) → line_entry line ≡ Ok entry
+abbrev pub LineReadsBack : Entry → Type 0
+LineReadsBack entry = (line : List ℕ) → line_entry line ≡ Ok entry
     → line_entry (line_text entry) ≡ Ok entry
 
 -- what is printed is no longer than any line that gives the entry

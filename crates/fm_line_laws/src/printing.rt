@@ -4,7 +4,7 @@ ghost use Rattle.std.specs.Prelude.{◌≡◌, ◌≤◌, ◌++◌, false, OnOk,
 ghost use Rattle.fm_entry.specs.Entries.{is_reload};
 ghost use Rattle.fm_line.specs.Printed.{line_text};
 ghost use Rattle.fm_line.specs.Sound.{HasSpelledPayload};
-ghost use Rattle.fm_line_laws.specs.Printing.{IsShortest, ReadsBack};
+ghost use Rattle.fm_line_laws.specs.Printing.{IsShortest, LineReadsBack};
 
 use fm_bytes::NoMemory;
 use fm_entry::Entry;
@@ -27,7 +27,7 @@ pub fn print_back(alloc: Global, entry: &Entry, out: &mut Vec<u8>) -> Result<(),
     requires { is_reload entry.now ≡ false }
     ensures ok { OnOk result (out.new.items ≡ out.old.items ++ line_text entry.now) }
     ensures err { OnErr result (out.new.items ≡ out.old.items) }
-    ensures back { OnOk result (ReadsBack entry.now) }
+    ensures back { OnOk result (LineReadsBack entry.now) }
     ensures shortest { IsShortest entry.now }
 {
     prove_payload(entry);

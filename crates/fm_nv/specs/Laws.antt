@@ -5,8 +5,8 @@ use Rattle.fm_nv.specs.Reading.{list_from}
 use Rattle.fm_nv.specs.Spelled.{IsSpelledList, pairs_bytes}
 
 -- the spelling of a list reads as the list, and leaves what follows
-abbrev pub ReadsBack : Type 0
-ReadsBack =
+abbrev pub ListsReadBack : Type 0
+ListsReadBack =
     (ps : Pairs) (rest : List ℕ) → IsSpelledList ps
     → list_from 8 (pairs_bytes ps ++ rest) ≡ Some (ps, rest)
 
