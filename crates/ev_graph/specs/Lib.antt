@@ -1,0 +1,9 @@
+pub mod Sets
+pub mod Kinds
+pub mod Wiring
+pub mod Table
+pub mod Reached
+pub mod Ranking
+pub mod Lawful
+pub mod Cutting
+pub mod Rules
