@@ -17,9 +17,9 @@ use Rattle.std.proofs.KnownBytes.{Appends-nil, Consumes-nil}
 use Rattle.fm_journal.specs.declared.fault.JournalFault.{JournalFault}
 use Rattle.fm_journal.specs.declared.fault.JournalFault.TheVariants as fault
 use Rattle.fm_top.specs.Accounts.{Accounts}
-use Rattle.fm_top.specs.Accepting.{ImageIs, LimitIs, Grew, NotOpened, AcceptedAll, AcceptedUntil}
+use Rattle.fm_top.specs.Accepting.{ImageIs, LimitIs, Grew, AcceptedAll}
 use Rattle.fm_top.specs.Accepting.{AcceptStops}
-use Rattle.fm_top.specs.Opening.{Stood, IsThere, OpeningCause, OpeningStops, LeftUnopened}
+use Rattle.fm_top.specs.Opening.{Stood, OpeningCause, OpeningStops, LeftUnopened}
 use Rattle.fm_top.specs.Recorders.{stop_for}
 use Rattle.fm_top.specs.Recording.{payloads_of, LastLeft, Recorded}
 use Rattle.fm_top.specs.Answers.{answers}

@@ -1,6 +1,6 @@
 -- One entry that is appended to a journal, or refused.
 use Rattle.std.proofs.Common.{◌≡◌, ℕ, ◌+◌, ◌^◌, ◌==◌, if◌then◌else◌, nat_lt, Bool, true, false}
-use Rattle.std.proofs.Common.{List, [], ◌∷◌, length, Option, None, Some, refl, sym, ◌∙◌, ap, subst}
+use Rattle.std.proofs.Common.{List, [], ◌∷◌, length, None, Some, refl, sym, ◌∙◌, ap, subst}
 use Rattle.std.proofs.Common.{arith, ◌⊎◌, inl, inr, ◌-◌, ◌++◌}
 use Rattle.std.proofs.Common.{append-nil}
 use Rattle.fm_outer.proofs.Moments.{CountsNow, leaves-now}

@@ -1,20 +1,20 @@
 -- What a command did, in the words of the whole call.
-use Rattle.std.proofs.Common.{◌≡◌, ◌⊎◌, ℕ, ◌∷◌, [], List, Bool, Option, Some, None, Result, Ok, Err}
+use Rattle.std.proofs.Common.{◌≡◌, ◌⊎◌, ℕ, ◌∷◌, List, Bool, Option, Some, None, Result, Ok, Err}
 use Rattle.std.proofs.Common.{IfSome, OnOk, IfErr, MatchResult, map, refl, sym, ◌∙◌, ap, subst, inl}
 use Rattle.std.proofs.Common.{inr}
 use Rattle.std.specs.Io.KnownBytes.{Appends, Consumes, IsAtEnd}
-use Rattle.fm_top.specs.Accepting.{AcceptRan, AcceptedAll, AcceptStops}
+use Rattle.fm_top.specs.Accepting.{AcceptedAll, AcceptStops}
 use Rattle.fm_top.specs.Accounts.{Accounts}
-use Rattle.fm_top.specs.Calls.{RoseAt, IsCaused, Does, Handed, WorksOn}
+use Rattle.fm_top.specs.Calls.{IsCaused, Does, Handed, WorksOn}
 use Rattle.fm_top.specs.Ending.{EndsAs}
-use Rattle.fm_top.specs.Opening.{Stood, IsThere, OpeningStops}
+use Rattle.fm_top.specs.Opening.{OpeningStops}
 use Rattle.fm_top.specs.Order.{Goes, IsOutsideFault, IsLimit, looks, world_of}
-use Rattle.fm_top.specs.Outside.{Outside, SinkAt, DisksAt, source_counts, disk_counts, counts_of}
-use Rattle.fm_top.specs.Replaying.{ReplayRan, ReplayedAll, ReplayStops, ReplayTaken}
+use Rattle.fm_top.specs.Outside.{Outside, SinkAt, DisksAt, disk_counts, counts_of}
+use Rattle.fm_top.specs.Replaying.{ReplayedAll, ReplayStops}
 use Rattle.fm_top.specs.Running.{Taken, RanUntil}
 use Rattle.fm_top.specs.declared.status.ToolStatus.{ToolStatus}
 use Rattle.fm_top.specs.declared.stops.Stop.{Stop}
-use Rattle.fm_top.specs.declared.stops.Stop.TheVariants.{Usage, Damaged, Read, Write, Disk, Memory}
+use Rattle.fm_top.specs.declared.stops.Stop.TheVariants.{Damaged, Read, Write, Disk, Memory}
 use Rattle.fm_top.specs.declared.stops.Stop.TheVariants.{Full}
 use Rattle.fm_top.specs.declared.words.Command.{Command}
 use Rattle.fm_top.specs.declared.words.Command.TheVariants.{Accept, Replay}

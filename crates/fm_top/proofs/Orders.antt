@@ -1,9 +1,8 @@
 -- A look either ends a command or lets it go on, where the disk tells its bytes.
-use Rattle.std.proofs.Common.{◌≡◌, ℕ, ◌<◌, List, [], length, Option, Some, IfSome, ap, subst, inl}
+use Rattle.std.proofs.Common.{◌≡◌, ℕ, ◌<◌, List, length, Some, IfSome, ap, subst, inl}
 use Rattle.std.proofs.Common.{inr}
 use Rattle.std.proofs.Common.{arith}
 use Rattle.fm_journal.specs.Damage.{IsDamagedAt}
-use Rattle.fm_journal.specs.Format.{IsJournal}
 use Rattle.fm_top.specs.Opening.{Stood}
 use Rattle.fm_top.specs.Order.{World, at_reports, Finds, Passes}
 use Rattle.fm_top.specs.declared.stops.Stop.{Stop}

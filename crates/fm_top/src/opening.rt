@@ -6,49 +6,6 @@ ghost use Rattle.fm_top.specs.Opening.{Stood, OpeningCause, LeftUnopened};
 use fm_journal::{Journal, JournalFault, Refused};
 use fm_outer::{Disk, Failed};
 
-/// Makes a journal without payloads on a disk without bytes. The first payload will have the number
-/// 0.
-fn make<D: Disk>(disk: D) -> Result<Journal<D>, Refused<D>>
-    requires { (bytes : List ℕ) → D.seen disk ≡ Some bytes → bytes ≡ [] }
-    ensures list { IfOk result (λ journal. (bytes : List ℕ) (first : ℕ) (payloads : List (List ℕ))
-        → D.seen disk ≡ Some bytes → Stood bytes first payloads
-        → (journal.first ≡ first) × Keeps D.Disk journal payloads) }
-    ensures there { IfOk result (λ journal. (bytes : List ℕ) → D.seen disk ≡ Some bytes
-        → (payloads : List (List ℕ)) × Stood bytes journal.first payloads) }
-    ensures is_open { IfOk result (λ journal. journal.closed ≡ None) }
-    ensures same_disk { IfOk result (λ journal. D.name journal.disk ≡ D.name disk) }
-    ensures same_disk_back { IfErr result (λ refused. D.name refused.disk ≡ D.name disk) }
-    ensures quiet { IfOk result (λ journal. D.failures journal.disk ≡ D.failures disk) }
-    ensures left_back { IfErr result
-        (λ refused. LeftUnopened (D.seen disk) (D.images disk) (D.images refused.disk)) }
-    ensures cause { IfErr result
-        (λ refused. OpeningCause (D.seen disk) (D.failures disk) (D.failures refused.disk)
-        refused.fault) }
-{
-    Journal::create(disk, 0)
-}
-
-/// Opens the journal on a disk that has bytes.
-fn open_there<D: Disk>(disk: D) -> Result<Journal<D>, Refused<D>>
-    requires { (bytes : List ℕ) → D.seen disk ≡ Some bytes → 0 < length bytes }
-    ensures list { IfOk result (λ journal. (bytes : List ℕ) (first : ℕ) (payloads : List (List ℕ))
-        → D.seen disk ≡ Some bytes → Stood bytes first payloads
-        → (journal.first ≡ first) × Keeps D.Disk journal payloads) }
-    ensures there { IfOk result (λ journal. (bytes : List ℕ) → D.seen disk ≡ Some bytes
-        → (payloads : List (List ℕ)) × Stood bytes journal.first payloads) }
-    ensures is_open { IfOk result (λ journal. journal.closed ≡ None) }
-    ensures same_disk { IfOk result (λ journal. D.name journal.disk ≡ D.name disk) }
-    ensures same_disk_back { IfErr result (λ refused. D.name refused.disk ≡ D.name disk) }
-    ensures quiet { IfOk result (λ journal. D.failures journal.disk ≡ D.failures disk) }
-    ensures left_back { IfErr result
-        (λ refused. LeftUnopened (D.seen disk) (D.images disk) (D.images refused.disk)) }
-    ensures cause { IfErr result
-        (λ refused. OpeningCause (D.seen disk) (D.failures disk) (D.failures refused.disk)
-        refused.fault) }
-{
-    Journal::open(disk)
-}
-
 /// Opens the journal on the disk, and makes it where the disk has no bytes.
 pub(crate) fn open_or_make<D: Disk>(disk: D) -> Result<Journal<D>, Refused<D>>
     ensures list { IfOk result (λ journal. (bytes : List ℕ) (first : ℕ) (payloads : List (List ℕ))
@@ -70,9 +27,9 @@ pub(crate) fn open_or_make<D: Disk>(disk: D) -> Result<Journal<D>, Refused<D>>
     match disk.len() {
         Ok(length) => {
             if length == 0 {
-                make(disk)
+                Journal::create(disk, 0)
             } else {
-                open_there(disk)
+                Journal::open(disk)
             }
         }
         Err(Failed) => Err(Refused {

@@ -1,4 +1,4 @@
-use Rattle.std.proofs.Common.{rules, ◌∙◌}
+use Rattle.std.proofs.Common.{◌∙◌}
 use Rattle.fm_top.proofs.Accepts.{accepted_all, accepted_until, ran_counts, counts_after}
 use Rattle.fm_top.proofs.Accepts.{opening_counts, not_opened}
 use Rattle.fm_top.proofs.Lending.{first_of_pair, second_of_pair}

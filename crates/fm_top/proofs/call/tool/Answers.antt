@@ -1,7 +1,7 @@
-use Rattle.std.proofs.Common.{refl, rules, Some, None}
+use Rattle.std.proofs.Common.{refl, rules, Some}
 use Rattle.fm_top.specs.Outside.{sink_at}
 use Rattle.fm_top.specs.declared.words.Command.TheVariants.{Accept, Replay}
-use Rattle.fm_top.proofs.Doing.{does_as, works_as, does_accept, does_replay}
+use Rattle.fm_top.proofs.Doing.{does_as, does_accept, does_replay}
 use Rattle.fm_top.proofs.call.tool.Goals as goal
 
 pub returns-in-Some-Accept-clause-does : goal.returns-in-Some-Accept-clause-does

@@ -1,4 +1,4 @@
-use Rattle.std.proofs.Common.{◌+◌, ◌∙◌, arith, refl, rules}
+use Rattle.std.proofs.Common.{◌+◌, ◌∙◌, arith, refl}
 use Rattle.std.proofs.lemmas.Result.{err_from_is_err_and}
 use Rattle.fm_top.proofs.OnPieces.{on_nothing, on_moved, on_stopped}
 use Rattle.fm_top.proofs.reading.Reading.read_all.Goals as goal
