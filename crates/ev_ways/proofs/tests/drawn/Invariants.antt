@@ -1,0 +1,6 @@
+use Rattle.std.proofs.Common.{◌≡◌, ◌≤◌, length}
+use Rattle.ev_ways.proofs.tests.drawn.Given as goal
+
+abbrev pub invariant-loop-from : goal.invariant-loop-from
+invariant-loop-from l =
+    record { nodes : l.arrows.nodes ≡ l.nodes; few : length l.arrows.causes ≤ l.from-index }
