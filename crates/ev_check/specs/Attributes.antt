@@ -12,6 +12,10 @@ use Rattle.ev_tree.specs.declared.tree.TimeWord.{TimeWord}
 use Rattle.ev_tree.specs.declared.tree.Unit.{Unit as TimeUnit}
 use Rattle.ev_tree.specs.declared.tree.Unit.TheVariants as units
 use Rattle.ev_check.specs.Categories.{is_fault, is_upset, is_report, is_serd}
+use Rattle.ev_check.specs.declared.attributes.EventWord.{EventWord}
+use Rattle.ev_check.specs.declared.attributes.EventWord.TheVariants as event_words
+use Rattle.ev_check.specs.declared.attributes.EngineWord.{EngineWord}
+use Rattle.ev_check.specs.declared.attributes.EngineWord.TheVariants as engine_words
 
 -- a unit in nanoseconds
 abbrev pub unit_length : TimeUnit → ℕ
@@ -55,6 +59,18 @@ t_value _ = None
 abbrev pub trip_value : EngineAttr → Option (List ℕ)
 trip_value (engine_attrs.Trip c) = Some c
 trip_value _ = None
+
+-- the attribute has that word
+abbrev pub is_event_attr : EventWord → EventAttr → Bool
+is_event_attr event_words.Fit = λ a. is_some (fit_value a)
+is_event_attr event_words.Retire = λ a. is_some (retire_value a)
+is_event_attr event_words.Engine = λ a. is_some (engine_value a)
+is_event_attr event_words.Within = λ a. is_some (within_value a)
+
+abbrev pub is_engine_attr : EngineWord → EngineAttr → Bool
+is_engine_attr engine_words.N = λ a. is_some (n_value a)
+is_engine_attr engine_words.T = λ a. is_some (t_value a)
+is_engine_attr engine_words.Trip = λ a. is_some (trip_value a)
 
 -- more than one of the attributes has such a value
 abbrev pub repeats : {A B : Type 0} → (A → Option B) → List A → Bool

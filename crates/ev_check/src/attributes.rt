@@ -1,10 +1,11 @@
 //! The attributes of an event or an engine statement: which stands twice, which is lacking, and
 //! which is misplaced or out of range.
-ghost use Rattle.std.specs.Prelude.{◌≡◌, ◌&&◌, ◌||◌, not, ◌*◌, nat_lt, count_by, is_some};
+ghost use Rattle.std.specs.Prelude.{◌≡◌, ◌&&◌, ◌||◌, not, ◌*◌, nat_lt, count_by};
 ghost use Rattle.std.specs.List.{list_any};
 ghost use Rattle.fm_name.specs.Category.{category_of};
 ghost use Rattle.ev_check.specs.Attributes.{fit_value, retire_value, engine_value, within_value};
 ghost use Rattle.ev_check.specs.Attributes.{n_value, t_value, trip_value, repeats, lacks};
+ghost use Rattle.ev_check.specs.Attributes.{is_event_attr, is_engine_attr};
 ghost use Rattle.ev_check.specs.Attributes.{is_misplaced, is_odd_trip, is_from, is_odd_number};
 ghost use Rattle.ev_check.specs.Attributes.{is_odd_size, unit_length, nanoseconds, is_odd_window};
 ghost use Rattle.ev_check.specs.Attributes.{is_odd_time};
@@ -27,123 +28,78 @@ pub(crate) fn both(one: bool, other: bool) -> bool
     one && other
 }
 
-/// Whether it is the attribute `FITrate`.
-fn is_fit(attr: &EventAttr) -> bool
-    ensures { result ≡ is_some (fit_value attr.now) }
-{
-    matches!(attr, EventAttr::Fit(_))
+/// The words of the attributes of an event.
+#[derive(Clone, Copy)]
+pub(crate) enum EventWord {
+    Fit,
+    Retire,
+    Engine,
+    Within,
 }
 
-/// Whether it is the attribute `retire`.
-fn is_retire(attr: &EventAttr) -> bool
-    ensures { result ≡ is_some (retire_value attr.now) }
-{
-    matches!(attr, EventAttr::Retire(_))
+/// The words of the attributes of an engine.
+#[derive(Clone, Copy)]
+pub(crate) enum EngineWord {
+    N,
+    T,
+    Trip,
 }
 
-/// Whether it is the attribute `engine`.
-fn is_engine(attr: &EventAttr) -> bool
-    ensures { result ≡ is_some (engine_value attr.now) }
+/// Whether the attribute has that word.
+fn is_event_attr(word: EventWord, attr: &EventAttr) -> bool
+    ensures { result ≡ is_event_attr word attr.now }
 {
-    matches!(attr, EventAttr::Engine(_))
+    match word {
+        EventWord::Fit => matches!(attr, EventAttr::Fit(_)),
+        EventWord::Retire => matches!(attr, EventAttr::Retire(_)),
+        EventWord::Engine => matches!(attr, EventAttr::Engine(_)),
+        EventWord::Within => matches!(attr, EventAttr::Within(_)),
+    }
 }
 
-/// Whether it is the attribute `within`.
-fn is_within(attr: &EventAttr) -> bool
-    ensures { result ≡ is_some (within_value attr.now) }
+/// Whether the attribute has that word.
+fn is_engine_attr(word: EngineWord, attr: &EngineAttr) -> bool
+    ensures { result ≡ is_engine_attr word attr.now }
 {
-    matches!(attr, EventAttr::Within(_))
+    match word {
+        EngineWord::N => matches!(attr, EngineAttr::N(_)),
+        EngineWord::T => matches!(attr, EngineAttr::T(_)),
+        EngineWord::Trip => matches!(attr, EngineAttr::Trip(_)),
+    }
 }
 
-/// Whether it is the attribute `N`.
-fn is_n(attr: &EngineAttr) -> bool
-    ensures { result ≡ is_some (n_value attr.now) }
+/// Whether the attribute with that word stands twice.
+fn repeats_event_attr(word: EventWord, attrs: &[EventAttr]) -> bool
+    ensures { result ≡ nat_lt 1 (count_by (is_event_attr word) attrs.now) }
 {
-    matches!(attr, EngineAttr::N(_))
+    attrs
+        .iter()
+        .filter(|attr| is_event_attr(word, *attr))
+        .count()
+        > 1
 }
 
-/// Whether it is the attribute `T`.
-fn is_t(attr: &EngineAttr) -> bool
-    ensures { result ≡ is_some (t_value attr.now) }
+/// Whether the attribute with that word stands twice.
+fn repeats_engine_attr(word: EngineWord, attrs: &[EngineAttr]) -> bool
+    ensures { result ≡ nat_lt 1 (count_by (is_engine_attr word) attrs.now) }
 {
-    matches!(attr, EngineAttr::T(_))
+    attrs
+        .iter()
+        .filter(|attr| is_engine_attr(word, *attr))
+        .count()
+        > 1
 }
 
-/// Whether it is the attribute `trip`.
-fn is_trip(attr: &EngineAttr) -> bool
-    ensures { result ≡ is_some (trip_value attr.now) }
+/// Whether the attribute with that word stands there.
+fn has_engine_attr(word: EngineWord, attrs: &[EngineAttr]) -> bool
+    ensures { result ≡ list_any (is_engine_attr word) attrs.now }
 {
-    matches!(attr, EngineAttr::Trip(_))
-}
-
-/// Whether the attribute `FITrate` stands twice.
-fn repeats_fit(attrs: &[EventAttr]) -> bool
-    ensures { result ≡ repeats fit_value attrs.now }
-{
-    attrs.iter().filter(|attr| is_fit(*attr)).count() > 1
-}
-
-/// Whether the attribute `retire` stands twice.
-fn repeats_retire(attrs: &[EventAttr]) -> bool
-    ensures { result ≡ repeats retire_value attrs.now }
-{
-    attrs.iter().filter(|attr| is_retire(*attr)).count() > 1
-}
-
-/// Whether the attribute `engine` stands twice.
-fn repeats_engine(attrs: &[EventAttr]) -> bool
-    ensures { result ≡ repeats engine_value attrs.now }
-{
-    attrs.iter().filter(|attr| is_engine(*attr)).count() > 1
-}
-
-/// Whether the attribute `within` stands twice.
-fn repeats_within(attrs: &[EventAttr]) -> bool
-    ensures { result ≡ repeats within_value attrs.now }
-{
-    attrs.iter().filter(|attr| is_within(*attr)).count() > 1
-}
-
-/// Whether the attribute `N` stands twice.
-fn repeats_n(attrs: &[EngineAttr]) -> bool
-    ensures { result ≡ repeats n_value attrs.now }
-{
-    attrs.iter().filter(|attr| is_n(*attr)).count() > 1
-}
-
-/// Whether the attribute `T` stands twice.
-fn repeats_t(attrs: &[EngineAttr]) -> bool
-    ensures { result ≡ repeats t_value attrs.now }
-{
-    attrs.iter().filter(|attr| is_t(*attr)).count() > 1
-}
-
-/// Whether the attribute `trip` stands twice.
-fn repeats_trip(attrs: &[EngineAttr]) -> bool
-    ensures { result ≡ repeats trip_value attrs.now }
-{
-    attrs.iter().filter(|attr| is_trip(*attr)).count() > 1
-}
-
-/// Whether the attribute `N` is given.
-fn has_n(attrs: &[EngineAttr]) -> bool
-    ensures { result ≡ list_any (λ a. is_some (n_value a)) attrs.now }
-{
-    attrs.iter().any(|attr| is_n(attr))
-}
-
-/// Whether the attribute `T` is given.
-fn has_t(attrs: &[EngineAttr]) -> bool
-    ensures { result ≡ list_any (λ a. is_some (t_value a)) attrs.now }
-{
-    attrs.iter().any(|attr| is_t(attr))
-}
-
-/// Whether the attribute `trip` is given.
-fn has_trip(attrs: &[EngineAttr]) -> bool
-    ensures { result ≡ list_any (λ a. is_some (trip_value a)) attrs.now }
-{
-    attrs.iter().any(|attr| is_trip(attr))
+    for attr in attrs {
+        if is_engine_attr(word, attr) {
+            return true;
+        }
+    }
+    false
 }
 
 /// Whether an attribute of an event stands twice.
@@ -151,10 +107,10 @@ pub(crate) fn repeats_in_event(attrs: &[EventAttr]) -> bool
     ensures { result ≡ ((repeats fit_value attrs.now || repeats retire_value attrs.now)
         || (repeats engine_value attrs.now || repeats within_value attrs.now)) }
 {
-    let fit = repeats_fit(attrs);
-    let retire = repeats_retire(attrs);
-    let engine = repeats_engine(attrs);
-    let within = repeats_within(attrs);
+    let fit = repeats_event_attr(EventWord::Fit, attrs);
+    let retire = repeats_event_attr(EventWord::Retire, attrs);
+    let engine = repeats_event_attr(EventWord::Engine, attrs);
+    let within = repeats_event_attr(EventWord::Within, attrs);
     either(either(fit, retire), either(engine, within))
 }
 
@@ -163,9 +119,9 @@ pub(crate) fn repeats_in_engine(attrs: &[EngineAttr]) -> bool
     ensures { result ≡ (repeats n_value attrs.now
         || (repeats t_value attrs.now || repeats trip_value attrs.now)) }
 {
-    let n = repeats_n(attrs);
-    let t = repeats_t(attrs);
-    let trip = repeats_trip(attrs);
+    let n = repeats_engine_attr(EngineWord::N, attrs);
+    let t = repeats_engine_attr(EngineWord::T, attrs);
+    let trip = repeats_engine_attr(EngineWord::Trip, attrs);
     either(n, either(t, trip))
 }
 
@@ -174,9 +130,9 @@ pub(crate) fn lacks_one(attrs: &[EngineAttr]) -> bool
     ensures { result ≡ (lacks n_value attrs.now ||
         (lacks t_value attrs.now || lacks trip_value attrs.now)) }
 {
-    let n = has_n(attrs);
-    let t = has_t(attrs);
-    let trip = has_trip(attrs);
+    let n = has_engine_attr(EngineWord::N, attrs);
+    let t = has_engine_attr(EngineWord::T, attrs);
+    let trip = has_engine_attr(EngineWord::Trip, attrs);
     either(!n, either(!t, !trip))
 }
 
@@ -195,7 +151,12 @@ fn is_misplaced(class: &Class, attr: &EventAttr) -> bool
 pub(crate) fn any_misplaced(class: &Class, attrs: &[EventAttr]) -> bool
     ensures { result ≡ list_any (is_misplaced (category_of class.now)) attrs.now }
 {
-    attrs.iter().any(|attr| is_misplaced(class, attr))
+    for attr in attrs {
+        if is_misplaced(class, attr) {
+            return true;
+        }
+    }
+    false
 }
 
 /// Whether the attribute names a trip that is no report.
@@ -212,7 +173,12 @@ fn is_odd_trip(attr: &EngineAttr) -> bool
 pub(crate) fn any_odd_trip(attrs: &[EngineAttr]) -> bool
     ensures { result ≡ list_any is_odd_trip attrs.now }
 {
-    attrs.iter().any(|attr| is_odd_trip(attr))
+    for attr in attrs {
+        if is_odd_trip(attr) {
+            return true;
+        }
+    }
+    false
 }
 
 /// Whether the number is from the one to the other, both included.
@@ -237,7 +203,12 @@ fn is_odd_number(attr: &EventAttr) -> bool
 pub(crate) fn any_odd_number(attrs: &[EventAttr]) -> bool
     ensures { result ≡ list_any is_odd_number attrs.now }
 {
-    attrs.iter().any(|attr| is_odd_number(attr))
+    for attr in attrs {
+        if is_odd_number(attr) {
+            return true;
+        }
+    }
+    false
 }
 
 /// Whether the number of events of an engine is not from 1 to 1,024.
@@ -254,7 +225,12 @@ fn is_odd_size(attr: &EngineAttr) -> bool
 pub(crate) fn any_odd_size(attrs: &[EngineAttr]) -> bool
     ensures { result ≡ list_any is_odd_size attrs.now }
 {
-    attrs.iter().any(|attr| is_odd_size(attr))
+    for attr in attrs {
+        if is_odd_size(attr) {
+            return true;
+        }
+    }
+    false
 }
 
 /// The nanoseconds of a unit.
@@ -293,7 +269,12 @@ fn is_odd_window(attr: &EventAttr) -> bool
 pub(crate) fn any_odd_window(attrs: &[EventAttr]) -> bool
     ensures { result ≡ list_any is_odd_window attrs.now }
 {
-    attrs.iter().any(|attr| is_odd_window(attr))
+    for attr in attrs {
+        if is_odd_window(attr) {
+            return true;
+        }
+    }
+    false
 }
 
 /// Whether the time of an engine is not from 1 to 2^60 nanoseconds.
@@ -310,5 +291,10 @@ fn is_odd_time(attr: &EngineAttr) -> bool
 pub(crate) fn any_odd_time(attrs: &[EngineAttr]) -> bool
     ensures { result ≡ list_any is_odd_time attrs.now }
 {
-    attrs.iter().any(|attr| is_odd_time(attr))
+    for attr in attrs {
+        if is_odd_time(attr) {
+            return true;
+        }
+    }
+    false
 }

@@ -134,7 +134,12 @@ fn is_long(name: &TreeText) -> bool
 pub(crate) fn any_long(names: &[TreeText]) -> bool
     ensures { result ≡ list_any is_long names.now }
 {
-    names.iter().any(|name| is_long(name))
+    for name in names {
+        if is_long(name) {
+            return true;
+        }
+    }
+    false
 }
 
 /// Whether the operand is a name that is too long, or in neither of the sets of iterators.
@@ -167,16 +172,24 @@ fn any_free(down: &IndexSet<String>, across: &IndexSet<String>, operands: &[Oper
     ensures { result ≡ list_any (is_free (contains_text down.now) (contains_text across.now))
         operands.now }
 {
-    operands
-        .iter()
-        .any(|operand| is_free(down, across, operand))
+    for operand in operands {
+        if is_free(down, across, operand) {
+            return true;
+        }
+    }
+    false
 }
 
 /// Whether one of the parts has such a name.
 fn any_mixed(down: &IndexSet<String>, parts: &[Part]) -> bool
     ensures { result ≡ list_any (is_mixed (contains_text down.now)) parts.now }
 {
-    parts.iter().any(|part| is_mixed(down, part))
+    for part in parts {
+        if is_mixed(down, part) {
+            return true;
+        }
+    }
+    false
 }
 
 /// Whether some name of the pattern is too long, no iterator, or an iterator of both kinds, where

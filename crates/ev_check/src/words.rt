@@ -29,7 +29,12 @@ fn is_payload(operand: &Operand) -> bool
 fn any_payload(operands: &[Operand]) -> bool
     ensures { result ≡ list_any is_payload operands.now }
 {
-    operands.iter().any(|operand| is_payload(operand))
+    for operand in operands {
+        if is_payload(operand) {
+            return true;
+        }
+    }
+    false
 }
 
 /// Whether the condition of the pattern asks the payload where it may not: on the left, or of no
@@ -129,18 +134,25 @@ fn is_odd_part(part: &Part) -> bool
 fn has_odd_part(pattern: &SidePattern) -> bool
     ensures { result ≡ has_odd_part pattern.now }
 {
-    pattern
-        .parts
-        .as_slice()
-        .iter()
-        .any(|part| is_odd_part(part))
+    let parts = pattern.parts.as_slice();
+    for part in parts {
+        if is_odd_part(part) {
+            return true;
+        }
+    }
+    false
 }
 
 /// Whether one of the patterns has.
 fn any_odd_part(side: &[SidePattern]) -> bool
     ensures { result ≡ list_any has_odd_part side.now }
 {
-    side.iter().any(|pattern| has_odd_part(pattern))
+    for pattern in side {
+        if has_odd_part(pattern) {
+            return true;
+        }
+    }
+    false
 }
 
 /// Whether a number of the statement is out of range.
