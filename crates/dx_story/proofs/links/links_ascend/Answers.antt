@@ -1,0 +1,10 @@
+use Rattle.std.proofs.Common.{rules}
+use Rattle.std.proofs.lemmas.List.Sorted.{answers_always}
+use Rattle.ev_graph.specs.Cutting.{is_before_link}
+use Rattle.ev_graph.proofs.Ascending.{ascends_is}
+use Rattle.dx_story.proofs.links.links_ascend.Goals as goal
+
+pub returns : goal.returns
+returns c =
+    ascends_is is_before_link c.args.less.now c.is_sorted_by.result
+    (c.is_sorted_by.ensures.cases is_before_link (answers_always _ _ _ (λ f a r q k. search rules)))
