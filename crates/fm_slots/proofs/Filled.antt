@@ -11,7 +11,7 @@ use Rattle.fm_slots.specs.Filling.{AllShut, IsOldOrClosed, IsShutOrFilled}
 use Rattle.fm_slots.specs.Format.{SlotOf, slot_body, IsSlotWithin, IsShut, IsOpenSlot}
 use Rattle.fm_slots.specs.InForce.{InForceBeside, IsReplaced}
 use Rattle.fm_slots.proofs.Forces.{kept_beside, later_beside}
-use Rattle.fm_slots.proofs.Gates.{mapped_from, told_is, torn_shut, torn_open, opened, written_shut}
+use Rattle.fm_slots.proofs.Gates.{mapped_from, torn_shut, torn_open, opened, written_shut}
 
 -- a clause of what was done, from two others
 pub on_two : {T E : Type 0} (r : Result T E) (P Q R : Type 0) → (P → Q → R) → OnOk r P → OnOk r Q

@@ -1,6 +1,6 @@
 -- Bytes are one slot at most, so of a pair one slot at most is in force; and a slot that is
 -- replaced.
-use Rattle.std.proofs.Common.{◌≡◌, ◌≢◌, ◌⊎◌, inl, inr, ℕ, ◌+◌, ◌<◌, ◌≤◌, ◌^◌, List, [], ◌∷◌, ◌++◌}
+use Rattle.std.proofs.Common.{◌≡◌, inl, inr, ℕ, ◌+◌, ◌<◌, List, [], ◌∷◌, ◌++◌}
 use Rattle.std.proofs.Common.{length, drop, Bool, true, false, Option, Some, None, refl, sym, ◌∙◌}
 use Rattle.std.proofs.Common.{ap}
 use Rattle.std.proofs.Common.{subst, arith, length-append, append_assoc}
@@ -11,11 +11,10 @@ use Rattle.std.proofs.lemmas.List.{drop_at}
 use Rattle.byteorder.specs.Endian.{big_bytes}
 use Rattle.fm_outer.proofs.Numbers.{length-big_bytes, same_number}
 use Rattle.fm_outer.proofs.Ranges.{same_parts}
-use Rattle.fm_outer.specs.declared.disk.Disk.{Ghosts}
-use Rattle.fm_slots.specs.Format.{SlotOf, slot_body, IsSlotWithin, IsOpenSlot, IsShut}
+use Rattle.fm_slots.specs.Format.{SlotOf, slot_body, IsSlotWithin, IsOpenSlot}
 use Rattle.fm_slots.specs.Format.{IsClosedSlot, IsDamagedSlot}
 use Rattle.fm_slots.specs.Format.{IsSlot}
-use Rattle.fm_slots.specs.InForce.{in_force, InForce, InForceBeside, KeepsInForce, IsReplaced}
+use Rattle.fm_slots.specs.InForce.{in_force, InForce, InForceBeside, KeepsInForce}
 use Rattle.fm_slots.specs.InForce.{sequence_of}
 
 pub length-slot_body : (sequence : ℕ) (payload : List ℕ)

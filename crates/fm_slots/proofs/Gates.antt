@@ -1,13 +1,13 @@
 -- What a torn gate leaves, and a body behind a closed gate.
-use Rattle.std.proofs.Common.{◌≡◌, ◌≢◌, ◌⊎◌, inl, inr, ℕ, ◌+◌, ◌<◌, ◌≤◌, List, [], ◌∷◌, ◌++◌}
+use Rattle.std.proofs.Common.{◌≡◌, ◌≢◌, ◌⊎◌, inl, inr, ℕ, ◌+◌, ◌<◌, List, [], ◌∷◌, ◌++◌}
 use Rattle.std.proofs.Common.{length}
-use Rattle.std.proofs.Common.{take, drop, max, Option, Some, None, refl, sym, ◌∙◌, ap, subst, arith}
+use Rattle.std.proofs.Common.{take, drop, Option, Some, None, refl, sym, ◌∙◌, ap, subst, arith}
 use Rattle.std.specs.Option.{option_map}
 use Rattle.std.proofs.lemmas.Bool.{cases_eq}
 use Rattle.std.proofs.lemmas.Bool.Decides.{nat_tests}
 use Rattle.fm_outer.specs.Bytes.{range, written}
 use Rattle.fm_outer.specs.Crash.{Torn}
-use Rattle.fm_slots.specs.Format.{slot_body, IsSlotWithin, IsOpenSlot, IsShut, IsClosedSlot}
+use Rattle.fm_slots.specs.Format.{slot_body, IsSlotWithin, IsOpenSlot, IsShut}
 use Rattle.fm_slots.specs.Format.{cleared_slot}
 use Rattle.fm_slots.specs.Filling.{IsOldOrClosed}
 

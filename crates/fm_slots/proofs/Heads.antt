@@ -8,7 +8,7 @@ use Rattle.byteorder.specs.Endian.{big_bytes}
 use Rattle.fm_outer.specs.Bytes.{range}
 use Rattle.fm_outer.proofs.Numbers.{length-big_bytes, same_number}
 use Rattle.fm_outer.proofs.Ranges.{split_range, same_parts, range-take}
-use Rattle.fm_slots.specs.Format.{slot_body, IsOpenSlot, IsClosedSlot, IsDamagedSlot}
+use Rattle.fm_slots.specs.Format.{slot_body, IsClosedSlot, IsDamagedSlot}
 use Rattle.fm_slots.specs.Standing.{TellsSlot}
 use Rattle.fm_slots.specs.declared.standing.Standing.TheVariants.{Open}
 use Rattle.fm_slots.proofs.Forces.{body_parts, length-slot_body}

@@ -1,5 +1,5 @@
 -- What the bytes of one slot's disk tell.
-use Rattle.std.specs.Prelude.{◌≡◌, ℕ, ◌+◌, ◌≤◌, List, length}
+use Rattle.std.specs.Prelude.{ℕ, ◌+◌, ◌≤◌, List, length}
 use Rattle.fm_outer.specs.Bytes.{range}
 use Rattle.fm_slots.specs.Format.{IsOpenSlot, IsClosedSlot, IsDamagedSlot}
 use Rattle.fm_slots.specs.declared.standing.Standing.{Standing}

@@ -1,5 +1,5 @@
 -- What was picked of what the two looks tell is the slot in force.
-use Rattle.std.proofs.Common.{◌≡◌, true, ℕ, List, Option, Some, refl, sym, ◌∙◌, ap}
+use Rattle.std.proofs.Common.{true, Option, refl, sym, ◌∙◌, ap}
 use Rattle.std.proofs.lemmas.Result.{err_from_is_err_and}
 use Rattle.fm_slots.specs.Pair.{pick_at, later_pick, which}
 use Rattle.fm_slots.specs.declared.pair.Pick.{Pick}

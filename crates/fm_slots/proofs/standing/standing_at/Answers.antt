@@ -35,6 +35,7 @@ returns-then-size-count c = λ bytes long gate numbered counted.
 pub returns : goal.returns
 returns c = λ bytes long gate numbered counted.
     stands_open bytes c.args.sequence c.args.count gate numbered counted
-    (omega (arith, c.if-sequence-eq0.false)) (omega (arith, c.if-sequence-ge-END_OF_SEQUENCES.false))
+    (omega (arith, c.if-sequence-eq0.false))
+    (omega (arith, c.if-sequence-ge-END_OF_SEQUENCES.false))
     (omega (arith, c.if-count-gt-MAX_LENGTH.false))
     (omega (arith, long, c.requires, c.if-size-count.false))
