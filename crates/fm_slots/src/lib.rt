@@ -26,6 +26,7 @@ mod clearing;
 mod fault;
 mod filling;
 mod frame;
+mod laws;
 mod pair;
 mod standing;
 
@@ -33,6 +34,7 @@ pub use clearing::clear;
 pub use fault::SlotFault;
 pub use filling::{fill, replace};
 pub use frame::SlotFrame;
+pub use laws::slots_are_one;
 pub use pair::{Found, newest};
 
 #[cfg(test)]
