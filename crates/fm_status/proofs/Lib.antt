@@ -1,0 +1,4 @@
+pub mod CaseOrder
+pub mod RowMap
+pub mod RowLaws
+pub mod WantedPaths
