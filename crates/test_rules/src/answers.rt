@@ -4,9 +4,8 @@ use ev_check::{CheckFault, CheckKind, Checked, check};
 use ev_lex::{LexFault, lex};
 use ev_parse::{ParseFault, parse};
 use ev_tree::{Declared, Tree};
-use std::alloc::Global;
+use std::alloc::{AllocError, Global};
 use std::process::Abort;
-use std::test::Fail;
 
 /// The tree of a text that has one.
 pub fn tree_of(rt: &impl Abort, alloc: Global, text: &str) -> Tree {
@@ -41,7 +40,7 @@ fn word_of(kind: &CheckKind) -> &'static str {
 }
 
 /// Puts a blank and `CLASS@NAMES`.
-fn put_declared(declared: &Declared, line: &mut String) -> Result<(), Fail> {
+fn put_declared(declared: &Declared, line: &mut String) -> Result<(), AllocError> {
     line.push(' ')?;
     line.push_str(declared.class.text())?;
     let mut mark = '@';
@@ -54,7 +53,7 @@ fn put_declared(declared: &Declared, line: &mut String) -> Result<(), Fail> {
 }
 
 /// The line of a fault.
-fn line_of(alloc: Global, place: u32, kind: &CheckKind) -> Result<String, Fail> {
+fn line_of(alloc: Global, place: u32, kind: &CheckKind) -> Result<String, AllocError> {
     let word = word_of(kind);
     let mut line = format!(in alloc; "{place} {word}")?;
     if let CheckKind::Cycle(members) = kind {
@@ -66,7 +65,7 @@ fn line_of(alloc: Global, place: u32, kind: &CheckKind) -> Result<String, Fail> 
 }
 
 /// What the checks say of a text.
-pub fn answer(rt: &impl Abort, alloc: Global, text: &str) -> Result<String, Fail> {
+pub fn answer(rt: &impl Abort, alloc: Global, text: &str) -> Result<String, AllocError> {
     let tree = tree_of(rt, alloc, text);
     match check(alloc, &tree) {
         Ok(_) => Ok(String::from_str(alloc, "ok")?),
@@ -86,21 +85,42 @@ pub fn checked(rt: &impl Abort, alloc: Global, text: &str) -> Checked {
 }
 
 /// Asserts what the checks say of a text.
-pub fn says(rt: &impl Abort, alloc: Global, text: &str, want: &str) -> Result<(), Fail> {
-    let line = answer(rt, alloc, text)?;
+pub fn says(rt: &impl Abort, alloc: Global, text: &str, want: &str) {
+    let Ok(line) = answer(rt, alloc, text) else {
+        panic!(rt; "memory ran out")
+    };
     assert_eq!(rt; line.as_str(), want, "of {text}");
-    Ok(())
+}
+
+/// Asserts what the checks say of the statements behind the opening.
+pub fn says_behind(rt: &impl Abort, alloc: Global, opening: &str, statements: &str, want: &str) {
+    let Ok(text) = format!(in alloc; "{opening}{statements}") else {
+        panic!(rt; "memory ran out")
+    };
+    says(rt, alloc, text.as_str(), want);
 }
 
 /// Asserts that these statements behind two events `fault.x@c` and `ereport.y@c` have no fault.
-pub fn takes(rt: &impl Abort, alloc: Global, statements: &str) -> Result<(), Fail> {
-    let text = format!(in alloc; "event fault.x@c; event ereport.y@c; {statements}")?;
-    says(rt, alloc, text.as_str(), "ok")
+pub fn takes(rt: &impl Abort, alloc: Global, statements: &str) {
+    says_behind(
+        rt,
+        alloc,
+        "event fault.x@c; event ereport.y@c; ",
+        statements,
+        "ok",
+    );
 }
 
 /// Asserts that the statement behind two events `fault.x@c` and `ereport.y@c` has this fault.
-pub fn refuses(rt: &impl Abort, alloc: Global, statement: &str, word: &str) -> Result<(), Fail> {
-    let text = format!(in alloc; "event fault.x@c; event ereport.y@c; {statement}")?;
-    let want = format!(in alloc; "36 {word}")?;
-    says(rt, alloc, text.as_str(), want.as_str())
+pub fn refuses(rt: &impl Abort, alloc: Global, statement: &str, word: &str) {
+    let Ok(want) = format!(in alloc; "36 {word}") else {
+        panic!(rt; "memory ran out")
+    };
+    says_behind(
+        rt,
+        alloc,
+        "event fault.x@c; event ereport.y@c; ",
+        statement,
+        want.as_str(),
+    );
 }

@@ -1,8 +1,7 @@
 //! Rule files as they are written, and what checked files have.
-use crate::answers::{checked, says};
+use crate::answers::{checked, says, says_behind};
 use ev_check::{Checked, DeclKind};
 use ev_tree::Count;
-use std::test::Fail;
 
 /// Two faults of a processor and their reports.
 const CPU: &str = "event fault.cpu.cache@chassis/cpu, FITrate=200;
@@ -54,32 +53,45 @@ prop fault.mem.dimm@chassis/dimm (0)-> ereport.mem.ue@chassis/dimm, ereport.mem.
 ";
 
 #[test]
-fn rule_files_have_no_fault(rt: HostRuntime) -> Result<(), Fail> {
+fn rule_files_have_no_fault(rt: HostRuntime) {
     let alloc = rt.alloc();
-    says(&rt, alloc, CPU, "ok")?;
-    says(&rt, alloc, CPU_ALL, "ok")?;
-    says(&rt, alloc, FAN, "ok")?;
-    says(&rt, alloc, CORRECTED, "ok")?;
-    says(&rt, alloc, MEMORY, "ok")?;
-    let slow = format!(in alloc; "{FAN}prop fault.fan.dead@chassis -> error.fan.slow@chassis;")?;
-    says(&rt, alloc, slow.as_str(), "ok")?;
-    let warm = format!(in alloc;
-        "{FAN}prop error.fan.hot@chassis (0)-> ereport.fan.warm@chassis;"
-    )?;
-    says(&rt, alloc, warm.as_str(), "ok")
+    says(&rt, alloc, CPU, "ok");
+    says(&rt, alloc, CPU_ALL, "ok");
+    says(&rt, alloc, FAN, "ok");
+    says(&rt, alloc, CORRECTED, "ok");
+    says(&rt, alloc, MEMORY, "ok");
+    let slow = "prop fault.fan.dead@chassis -> error.fan.slow@chassis;";
+    says_behind(&rt, alloc, FAN, slow, "ok");
+    let warm = "prop error.fan.hot@chassis (0)-> ereport.fan.warm@chassis;";
+    says_behind(&rt, alloc, FAN, warm, "ok");
 }
 
 #[test]
-fn rule_files_with_iterators_have_no_fault(rt: HostRuntime) -> Result<(), Fail> {
+fn rule_files_with_iterators_have_no_fault(rt: HostRuntime) {
     let alloc = rt.alloc();
     let events = "event fault.chassis.hot@chassis; event ereport.cpu.temp@chassis/cpu; \
         prop fault.chassis.hot@chassis ";
-    let down = format!(in alloc; "{events}(1)-> ereport.cpu.temp@chassis/cpu[c];")?;
-    says(&rt, alloc, down.as_str(), "ok")?;
-    let across = format!(in alloc; "{events}(1)-> ereport.cpu.temp@chassis/cpu<c>;")?;
-    says(&rt, alloc, across.as_str(), "ok")?;
-    let four = format!(in alloc; "{events}(4)-> ereport.cpu.temp@chassis/cpu<c>;")?;
-    says(&rt, alloc, four.as_str(), "ok")
+    says_behind(
+        &rt,
+        alloc,
+        events,
+        "(1)-> ereport.cpu.temp@chassis/cpu[c];",
+        "ok",
+    );
+    says_behind(
+        &rt,
+        alloc,
+        events,
+        "(1)-> ereport.cpu.temp@chassis/cpu<c>;",
+        "ok",
+    );
+    says_behind(
+        &rt,
+        alloc,
+        events,
+        "(4)-> ereport.cpu.temp@chassis/cpu<c>;",
+        "ok",
+    );
 }
 
 /// What the event of that number is.
@@ -100,11 +112,13 @@ fn counts_at(file: &Checked, number: usize) -> Option<(Count, Count)> {
 }
 
 #[test]
-fn a_checked_file_has_its_defaults(rt: HostRuntime) -> Result<(), Fail> {
+fn a_checked_file_has_its_defaults(rt: HostRuntime) {
     let alloc = rt.alloc();
     let text = "event fault.a@c; event defect.b@c, retire=0, FITrate=7; event error.d@c; \
         event ereport.e@c; event upset.f@c; prop fault.a@c -> ereport.e@c;";
-    let file = checked(&rt, alloc, text).copy(alloc)?;
+    let Ok(file) = checked(&rt, alloc, text).copy(alloc) else {
+        panic!(rt; "memory ran out")
+    };
     let fault = DeclKind::Fault {
         fit: 1,
         retire: true,
@@ -124,11 +138,10 @@ fn a_checked_file_has_its_defaults(rt: HostRuntime) -> Result<(), Fail> {
     assert_eq!(rt; kind_at(&file, 4), Some(upset));
     assert_eq!(rt; kind_at(&file, 5), None);
     assert_eq!(rt; counts_at(&file, 0), Some((Count::All, Count::Number(1))));
-    Ok(())
 }
 
 #[test]
-fn a_checked_file_has_its_numbers(rt: HostRuntime) -> Result<(), Fail> {
+fn a_checked_file_has_its_numbers(rt: HostRuntime) {
     let alloc = rt.alloc();
     let file = checked(&rt, alloc, MEMORY);
     let upset = DeclKind::Upset { engine: Some(0) };
@@ -148,5 +161,4 @@ fn a_checked_file_has_its_numbers(rt: HostRuntime) -> Result<(), Fail> {
         counts_at(&file, 1),
         Some((Count::Number(0), Count::Number(1)))
     );
-    Ok(())
 }
