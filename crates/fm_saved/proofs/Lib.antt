@@ -1,0 +1,3 @@
+pub mod SavedReader
+pub mod ConfReader
+pub mod CheckpointReader

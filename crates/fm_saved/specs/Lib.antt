@@ -1,0 +1,3 @@
+pub mod Checkpoints
+pub mod Confs
+pub mod Saved
