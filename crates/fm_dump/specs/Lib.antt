@@ -1,0 +1,4 @@
+pub mod Command
+pub mod Errors
+pub mod Kept
+pub mod Options
