@@ -15,8 +15,8 @@ use Rattle.ev_expr.specs.declared.settings.Environment.{Environment}
 use Rattle.ev_expr.specs.declared.settings.Worth.{Worth}
 use Rattle.ev_expr.specs.declared.settings.Worth.TheVariants as worths
 
--- where a condition is asked: the names that are bound, the topology and a path of it, and the pairs
--- of a payload
+-- where a condition is asked: the names that are bound, the topology and a path of it, and the
+-- pairs of a payload
 pub record Setting : Type 0 where
   pub names : List Bound
   pub topology : Topology
