@@ -11,6 +11,7 @@ use Rattle.fm_entry.specs.declared.entry.Entry.TheVariants.{Report, Tick, Repair
 use Rattle.fm_entry.specs.declared.entry.Entry.TheVariants.{Acquit, Reload}
 use Rattle.fm_line.specs.Printed.{payload_text}
 use Rattle.fm_dump.specs.Kept.{is_between}
+use Rattle.fm_dump.specs.Lines.{event_text}
 use Rattle.fm_dump.specs.declared.options.DumpOptions.{DumpOptions}
 
 -- of a pattern, the reports whose class it matches, and no other entry
@@ -26,7 +27,7 @@ keeps_entry options entry =
 
 -- what stands behind the moment
 abbrev pub entry_words : Entry → List ℕ
-entry_words (Report class path moment payload) = class ++ (codes " " ++ path)
+entry_words (Report class path moment payload) = event_text class path
 entry_words (Tick moment) = codes "tick"
 entry_words (Repaired path moment) = codes "repaired " ++ path
 entry_words (Replaced path moment) = codes "replaced " ++ path

@@ -7,7 +7,7 @@ ghost use Rattle.fm_dump.specs.Errors.{entry_lines, errors_text, kept_entry};
 ghost use Rattle.fm_dump.specs.Kept.{Extends};
 
 use crate::kept::is_between;
-use crate::lines::{put_case, put_number, put_text};
+use crate::lines::{put_case, put_event, put_number, put_text};
 use crate::options::DumpOptions;
 use fm_bytes::NoMemory;
 use fm_entry::Entry;
@@ -39,11 +39,7 @@ fn put_entry_words(entry: &Entry, out: &mut Vec<u8>) -> Result<(), NoMemory>
     ensures { OnOk result (out.new.items ≡ out.old.items ++ entry_words entry.now) }
 {
     match entry {
-        Entry::Report { class, path, .. } => {
-            put_text(class.text(), out)?;
-            put_text(" ", out)?;
-            put_text(path.text(), out)
-        }
+        Entry::Report { class, path, .. } => put_event(class, path, out),
         Entry::Tick { .. } => put_text("tick", out),
         Entry::Repaired { path, .. } => {
             put_text("repaired ", out)?;
