@@ -1,0 +1,10 @@
+pub mod Placings
+pub mod Ordering
+pub mod Columns
+pub mod Seeking
+pub mod Agreeing
+pub mod Rounds
+pub mod Turns
+pub mod Steps
+pub mod Sorted
+pub mod Collecting

@@ -1,0 +1,4 @@
+pub mod Order
+pub mod Tables
+pub mod Candidates
+pub mod Search
