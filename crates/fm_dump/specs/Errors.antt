@@ -11,7 +11,7 @@ use Rattle.fm_entry.specs.declared.entry.Entry.TheVariants.{Report, Tick, Repair
 use Rattle.fm_entry.specs.declared.entry.Entry.TheVariants.{Acquit, Reload}
 use Rattle.fm_line.specs.Printed.{payload_text}
 use Rattle.fm_dump.specs.Kept.{is_between}
-use Rattle.fm_dump.specs.Lines.{event_text}
+use Rattle.fm_status.specs.Lines.{event_text}
 use Rattle.fm_dump.specs.declared.options.DumpOptions.{DumpOptions}
 
 -- of a pattern, the reports whose class it matches, and no other entry

@@ -12,9 +12,9 @@ use Rattle.fm_entry.specs.declared.list_event.ListEvent.{ListEvent}
 use Rattle.fm_entry.specs.declared.list_event.ListKind.{ListKind}
 use Rattle.fm_entry.specs.declared.list_event.ListKind.TheVariants as kind
 use Rattle.fm_entry.specs.declared.spoken.Spoken.{Spoken}
+use Rattle.fm_status.specs.Lines.{event_text, suspect_line}
 use Rattle.fm_status.specs.Names.{case_uuid}
 use Rattle.fm_dump.specs.Kept.{is_between}
-use Rattle.fm_dump.specs.Lines.{event_text, suspect_line}
 use Rattle.fm_dump.specs.declared.options.DumpOptions.{DumpOptions}
 
 -- the class of a word, by its kind

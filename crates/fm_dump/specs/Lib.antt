@@ -2,5 +2,4 @@ pub mod Command
 pub mod Errors
 pub mod Faults
 pub mod Kept
-pub mod Lines
 pub mod Options

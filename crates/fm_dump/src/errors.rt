@@ -7,12 +7,12 @@ ghost use Rattle.fm_dump.specs.Errors.{entry_lines, errors_text, kept_entry};
 ghost use Rattle.fm_dump.specs.Kept.{Extends};
 
 use crate::kept::is_between;
-use crate::lines::{put_case, put_event, put_number, put_text};
 use crate::options::DumpOptions;
 use fm_bytes::NoMemory;
 use fm_entry::Entry;
 use fm_line::print_payload;
 use fm_name::Pattern;
+use fm_status::{put_case, put_event, put_number, put_text};
 use fm_text::write_time;
 use std::alloc::Global;
 

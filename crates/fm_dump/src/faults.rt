@@ -5,15 +5,13 @@ ghost use Rattle.fm_dump.specs.Faults.{kind_class, matches_kind, is_about, keeps
 ghost use Rattle.fm_dump.specs.Faults.{observed_line, word_parts, word_lines, kept_lines};
 ghost use Rattle.fm_dump.specs.Faults.{spoken_text, faults_text, uuid_part, case_part};
 ghost use Rattle.fm_dump.specs.Kept.{Extends};
-ghost use Rattle.fm_dump.specs.Lines.{suspect_line};
 
 use crate::kept::is_between;
-use crate::lines::{put_case, put_event, put_suspect, put_text};
 use crate::options::DumpOptions;
 use fm_bytes::NoMemory;
-use fm_entry::{CaseName, ListEvent, ListKind, Spoken, Suspect};
+use fm_entry::{CaseName, ListEvent, ListKind, Spoken};
 use fm_name::{EventName, Pattern, read_class};
-use fm_status::uuid_of;
+use fm_status::{put_case, put_event, put_suspects, put_text, uuid_of};
 use fm_text::write_time;
 use std::alloc::Global;
 use uuid::Uuid;
@@ -117,7 +115,7 @@ fn put_word_parts(word: &ListEvent, out: &mut Vec<u8>) -> Result<(), NoMemory>
     ensures { OnOk result (out.new.items ≡ out.old.items ++ word_parts word.now) }
 {
     put_each_observed(word.observed.as_slice(), out)?;
-    put_each_suspect(word.suspects.as_slice(), out)
+    put_suspects(word.suspects.as_slice(), out)
 }
 
 /// Appends the lines of observed events.
@@ -130,16 +128,6 @@ fn put_each_observed(events: &[EventName], out: &mut Vec<u8>) -> Result<(), NoMe
     Ok(())
 }
 
-/// Appends the lines of suspects.
-fn put_each_suspect(suspects: &[Suspect], out: &mut Vec<u8>) -> Result<(), NoMemory>
-    ensures { OnOk result (out.new.items ≡ out.old.items ++ flat_map suspect_line suspects.now) }
-{
-    'suspects: for suspect in suspects {
-        put_suspect(suspect, out)?;
-    }
-    Ok(())
-}
-
 /// Appends what is written of a word.
 fn put_word(
     full: bool,
@@ -147,7 +135,8 @@ fn put_word(
     word: &ListEvent,
     out: &mut Vec<u8>,
 ) -> Result<(), NoMemory>
-    ensures { OnOk result (out.new.items ≡ out.old.items ++ word_lines full namespace.now word.now) }
+    ensures { OnOk result
+        (out.new.items ≡ out.old.items ++ word_lines full namespace.now word.now) }
 {
     put_word_line(namespace, word, out)?;
     if full {

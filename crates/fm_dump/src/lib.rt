@@ -13,11 +13,9 @@ mod command;
 mod errors;
 mod faults;
 mod kept;
-mod lines;
 mod options;
 
 pub use errors::write_errors;
 pub use faults::write_faults;
 pub use fm_bytes::NoMemory;
-pub use lines::put_suspect;
 pub use options::{DumpFault, DumpOptions, read_options};

@@ -1,3 +1,4 @@
 pub mod Rows
 pub mod Wanted
 pub mod Names
+pub mod Lines

@@ -11,14 +11,19 @@
 //! wanted resources as the list of their paths, strictly ascending (`specs/Wanted`). `apply` says
 //! both what the rows become, word by word, and what they are: of any words, the last of each case.
 //!
+//! The line of a suspect, and the pieces of lines that it is made of, stand here for all texts that
+//! are printed (`specs/Lines`).
+//!
 //! Rows stand in a map by case, so n words take n log n steps whatever the order of their cases.
 #![tactic(auto)]
 
+mod lines;
 mod names;
 mod status;
 mod wanted;
 
 pub use fm_bytes::NoMemory;
+pub use lines::{put_case, put_event, put_number, put_suspects, put_text};
 pub use names::uuid_of;
 pub use status::Status;
 pub use wanted::{Wanted, is_solved};

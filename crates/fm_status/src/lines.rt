@@ -1,9 +1,10 @@
-//! Pieces of lines.
+//! Pieces of lines that printed texts share.
 
-ghost use Rattle.std.specs.Prelude.{◌≡◌, ◌-◌, ◌++◌, OnOk, decimal, length, replicate};
+ghost use Rattle.std.specs.Prelude.{◌≡◌, ◌-◌, ◌++◌, OnOk, decimal, flat_map, length};
+ghost use Rattle.std.specs.Prelude.{replicate};
 ghost use Rattle.fm_entry.specs.CaseText.{case_text};
-ghost use Rattle.fm_dump.specs.Lines.{event_text, in_three_places, mark_text, retire_text};
-ghost use Rattle.fm_dump.specs.Lines.{certainty_part, mark_part, suspect_line};
+ghost use Rattle.fm_status.specs.Lines.{event_text, in_three_places, mark_text, retire_text};
+ghost use Rattle.fm_status.specs.Lines.{certainty_part, mark_part, suspect_line};
 
 use fm_bytes::NoMemory;
 use fm_entry::{CaseName, Mark, Suspect};
@@ -106,10 +107,21 @@ fn put_mark_part(mark: Mark, retire: bool, out: &mut Vec<u8>) -> Result<(), NoMe
 
 /// Appends the line of a suspect.
 #[tactic(auto, unfolding(crate::specs::Lines::suspect_line))]
-pub fn put_suspect(suspect: &Suspect, out: &mut Vec<u8>) -> Result<(), NoMemory>
+fn put_suspect(suspect: &Suspect, out: &mut Vec<u8>) -> Result<(), NoMemory>
     ensures { OnOk result (out.new.items ≡ out.old.items ++ suspect_line suspect.now) }
 {
     put_certainty_part(suspect.certainty, out)?;
     put_event(&suspect.class, &suspect.path, out)?;
     put_mark_part(suspect.mark, suspect.retire, out)
+}
+
+/// Appends the lines of suspects. After `NoMemory` the buffer holds what it held, and perhaps some
+/// of the text.
+pub fn put_suspects(suspects: &[Suspect], out: &mut Vec<u8>) -> Result<(), NoMemory>
+    ensures { OnOk result (out.new.items ≡ out.old.items ++ flat_map suspect_line suspects.now) }
+{
+    'suspects: for suspect in suspects {
+        put_suspect(suspect, out)?;
+    }
+    Ok(())
 }

@@ -1,4 +1,4 @@
--- Pieces of lines that entries and words about cases share.
+-- Pieces of lines that printed texts share: events, and suspects.
 use Rattle.std.specs.Prelude.{ℕ, ◌-◌, Bool, true, false, List, [], ◌++◌, length, replicate, codes}
 use Rattle.std.specs.Prelude.{decimal}
 use Rattle.fm_entry.specs.declared.suspect.Suspect.{Suspect}
