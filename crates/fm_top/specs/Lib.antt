@@ -6,8 +6,6 @@ pub mod Draining
 pub mod Ended
 pub mod Ending
 pub mod Halting
-pub mod Held
-pub mod HeldLaws
 pub mod Lending
 pub mod Opening
 pub mod Order

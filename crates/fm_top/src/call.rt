@@ -5,13 +5,13 @@ ghost use Rattle.fm_top.specs.Outside.{Outside, source_at, sink_at, disks_at, ac
 ghost use Rattle.fm_top.specs.Words.{command_of};
 
 use crate::accept::accept;
-use crate::acts::Actuator;
 use crate::last::end;
 use crate::replaying::replay;
 use crate::six_disks::Disks;
 use crate::status::ToolStatus;
 use crate::stops::Stop;
 use crate::words::{Command, command_of};
+use fm_act::Actuator;
 use fm_outer::{Disk, Sink, Source};
 use fm_text::ArgText;
 use std::alloc::Global;

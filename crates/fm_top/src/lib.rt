@@ -34,7 +34,6 @@
 #![tactic(auto)]
 
 mod accept;
-mod acts;
 mod answering;
 mod call;
 mod counts;
@@ -51,8 +50,8 @@ mod takers;
 mod tally;
 mod words;
 
-pub use acts::{ActFault, Actuator};
 pub use call::tool;
+pub use fm_act::{ActFault, Actuator};
 pub use six_disks::Disks;
 pub use status::ToolStatus;
 pub use stops::Stop;

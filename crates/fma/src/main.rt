@@ -23,6 +23,7 @@ use crate::ending::exit_of;
 use crate::input::Input;
 use crate::opened::{open_disks, open_rules, open_topology};
 use crate::retired::Retired;
+use fm_bytes::Text;
 use fm_outer::WriteSink;
 use fm_text::ArgText;
 use fm_top::{Actuator, ToolStatus, tool};
@@ -63,6 +64,7 @@ fn run(rt: &HostRuntime) -> Result<ToolStatus, AllocError> {
     let mut out = WriteSink::new(rt.stdout());
     let mut acts: Vec<Box<dyn Actuator + Send>> = Vec::new(rt.alloc());
     for kind in KINDS {
+        let kind = Text::new(rt.alloc(), kind).map_err(|_| AllocError)?;
         acts.push(Box::new(rt.alloc(), Retired::new(rt.clone()?, kind))?)?;
     }
     Ok(tool(

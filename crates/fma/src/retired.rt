@@ -1,30 +1,39 @@
-// Actuators that keep their lists in files.
-ghost use Rattle.std.specs.Prelude.{◌≡◌, ◌≤◌, ℕ, List, None, Some, IfErr};
-ghost use Rattle.std.specs.declared.option.Option.{Option};
-ghost use Rattle.fm_top.specs.Held.{ActCause};
-ghost use Rattle.fm_top.specs.HeldLaws.{untold_ascends};
+//! Actuators that keep their lists in files.
 
+ghost use Rattle.std.specs.Prelude.{◌≡◌, ℕ, List, None, Some};
+ghost use Rattle.std.specs.declared.option.Option.{Option};
+ghost use Rattle.fm_act.specs.HeldPaths.{ActCallCause};
+ghost use Rattle.fm_act.specs.ToldLaws.{nothing_told_ascends};
+
+use fm_act::{ActFault, Actuator};
+use fm_bytes::Text;
 use fm_name::{Fmri, read_fmri};
-use fm_top::{ActFault, Actuator};
 use std::alloc::{AllocError, Global};
 use std::io::{ErrorKind, Write};
 use std::{fs, io};
 
-/// The actuator of one kind: the file `retired.KIND` has one path a line, in path order. A missing
-/// file is an empty set. The file is replaced whole whenever the set changes.
+/// The actuator of one kind. Its list is the file `retired.KIND`: one path a line, in path order
+/// and each once, each with a newline behind it. A missing file is an empty list, and every other
+/// text is a fault. The file is replaced whole whenever the list changes: it is written beside,
+/// synced and renamed, and then the folder is synced.
+///
+/// The file is read at the first call, and kept in memory up to a call that is refused: then it is
+/// read again.
 #[derive(Drop)]
 pub struct Retired {
     rt: HostRuntime,
-    kind: &'static str,
+    kind: Text,
+    paths: Option<Vec<Fmri>>,
     failures: u64,
 }
 
 impl Retired {
     /// The actuator of the kind.
-    pub fn new(rt: HostRuntime, kind: &'static str) -> Retired {
+    pub fn new(rt: HostRuntime, kind: Text) -> Retired {
         Retired {
             rt,
             kind,
+            paths: None,
             failures: 0,
         }
     }
@@ -32,7 +41,7 @@ impl Retired {
 
 /// Counts a failure.
 fn counted<T>(failures: &mut u64, answer: Result<T, ActFault>) -> Result<T, ActFault>
-    ensures { ActCause failures.old failures.new result }
+    ensures { ActCallCause failures.old failures.new result }
 {
     match answer {
         Ok(value) => Ok(value),
@@ -52,22 +61,46 @@ fn fault_of(fault: io::Error) -> ActFault {
     }
 }
 
+/// Adds the path of a line, which stands behind the paths of the lines before it.
+fn push_path(alloc: Global, paths: &mut Vec<Fmri>, line: &str) -> Result<(), ActFault> {
+    let Some(path) = read_fmri(alloc, line)? else {
+        return Err(ActFault::Failed);
+    };
+    if paths.last().is_some_and(|last| *last >= path) {
+        return Err(ActFault::Failed);
+    }
+    paths.push(path)?;
+    Ok(())
+}
+
 /// The paths in the text of a list.
 fn paths_in(alloc: Global, text: &str) -> Result<Vec<Fmri>, ActFault> {
     let mut paths = Vec::new(alloc);
-    for line in text.lines() {
-        match read_fmri(alloc, line) {
-            Ok(Some(path)) => paths.push(path).map_err(|_| ActFault::NoMemory)?,
-            Ok(None) => return Err(ActFault::Failed),
-            Err(_) => return Err(ActFault::NoMemory),
-        }
+    if text.is_empty() {
+        return Ok(paths);
+    }
+    let Some(lines) = text.strip_suffix("\n") else {
+        return Err(ActFault::Failed);
+    };
+    for line in lines.split('\n') {
+        push_path(alloc, &mut paths, line)?;
     }
     Ok(paths)
 }
 
+/// The text of a list.
+fn text_of(alloc: Global, paths: &[Fmri]) -> Result<String, AllocError> {
+    let mut text = String::new(alloc);
+    for path in paths {
+        text.push_str(path.text())?;
+        text.push_str("\n")?;
+    }
+    Ok(text)
+}
+
 /// The paths in the list of a kind.
 fn read_list(rt: &HostRuntime, kind: &str) -> Result<Vec<Fmri>, ActFault> {
-    let name = format!(in rt.alloc(); "retired.{kind}").map_err(|_| ActFault::NoMemory)?;
+    let name = format!(in rt.alloc(); "retired.{kind}")?;
     match fs::read_to_string(rt, name.as_str()) {
         Ok(text) => paths_in(rt.alloc(), text.as_str()),
         Err(fault) => match fault.kind() {
@@ -84,77 +117,79 @@ fn write_file(rt: &HostRuntime, name: &str, text: &str) -> io::Result<()> {
     file.sync_all()
 }
 
-/// Puts the text in the place of the list of a kind: it is written beside, synced and renamed.
-fn replace_list(rt: &HostRuntime, kind: &str, text: &str) -> Result<(), ActFault> {
-    let name = format!(in rt.alloc(); "retired.{kind}").map_err(|_| ActFault::NoMemory)?;
-    let beside = format!(in rt.alloc(); "retired.{kind}.new").map_err(|_| ActFault::NoMemory)?;
-    write_file(rt, beside.as_str(), text).map_err(fault_of)?;
-    fs::rename(rt, beside.as_str(), name.as_str()).map_err(fault_of)
+/// Syncs the folder.
+fn sync_folder(rt: &HostRuntime) -> io::Result<()> {
+    fs::open(rt, ".")?.sync_all()
 }
 
-/// Adds a line.
-fn push_line(text: &mut String, path: &Fmri) -> Result<(), AllocError> {
-    text.push_str(path.text())?;
-    text.push_str("\n")
+/// Puts the paths in the place of the list of a kind.
+fn replace_list(rt: &HostRuntime, kind: &str, paths: &[Fmri]) -> Result<(), ActFault> {
+    let name = format!(in rt.alloc(); "retired.{kind}")?;
+    let beside = format!(in rt.alloc(); "retired.{kind}.new")?;
+    let text = text_of(rt.alloc(), paths)?;
+    write_file(rt, beside.as_str(), text.as_str()).map_err(fault_of)?;
+    fs::rename(rt, beside.as_str(), name.as_str()).map_err(fault_of)?;
+    sync_folder(rt).map_err(fault_of)
 }
 
-/// The text of the list with the path in its place.
-fn text_with(alloc: Global, paths: &[Fmri], path: &Fmri) -> Result<String, AllocError> {
-    let mut text = String::new(alloc);
-    let mut is_there = false;
-    for held in paths {
-        if !is_there && path <= held {
-            push_line(&mut text, path)?;
-            is_there = true;
-        }
-        if held != path {
-            push_line(&mut text, held)?;
-        }
+/// Takes the list of a kind from where it is kept, or else from its file.
+fn take_list(
+    rt: &HostRuntime,
+    kind: &str,
+    kept: &mut Option<Vec<Fmri>>,
+) -> Result<Vec<Fmri>, ActFault> {
+    match kept.take() {
+        Some(paths) => Ok(paths),
+        None => read_list(rt, kind),
     }
-    if !is_there {
-        push_line(&mut text, path)?;
-    }
-    Ok(text)
-}
-
-/// The text of the list without the path.
-fn text_without(alloc: Global, paths: &[Fmri], path: &Fmri) -> Result<String, AllocError> {
-    let mut text = String::new(alloc);
-    for held in paths {
-        if held != path {
-            push_line(&mut text, held)?;
-        }
-    }
-    Ok(text)
 }
 
 /// The path at a place of the list of a kind.
-fn path_at(rt: &HostRuntime, kind: &str, at: u32) -> Result<Option<Fmri>, ActFault> {
-    let paths = read_list(rt, kind)?;
-    if at >= 65_536 {
-        return Ok(None);
-    }
-    match paths.get(at as usize) {
-        Some(path) => match path.copy() {
-            Ok(copied) => Ok(Some(copied)),
-            Err(_) => Err(ActFault::NoMemory),
-        },
-        None => Ok(None),
-    }
+fn path_at(
+    rt: &HostRuntime,
+    kind: &str,
+    kept: &mut Option<Vec<Fmri>>,
+    at: u32,
+) -> Result<Option<Fmri>, ActFault> {
+    let paths = take_list(rt, kind, kept)?;
+    let found = match paths.get(at as usize) {
+        Some(path) if at < 65_536 => Some(path.copy()?),
+        _ => None,
+    };
+    *kept = Some(paths);
+    Ok(found)
 }
 
 /// Adds the path to the list of a kind.
-fn add(rt: &HostRuntime, kind: &str, path: &Fmri) -> Result<(), ActFault> {
-    let paths = read_list(rt, kind)?;
-    let text = text_with(rt.alloc(), &paths, path).map_err(|_| ActFault::NoMemory)?;
-    replace_list(rt, kind, text.as_str())
+fn add(
+    rt: &HostRuntime,
+    kind: &str,
+    kept: &mut Option<Vec<Fmri>>,
+    path: &Fmri,
+) -> Result<(), ActFault> {
+    let mut paths = take_list(rt, kind, kept)?;
+    if let Err(at) = paths.binary_search(path) {
+        paths.insert(at, path.copy()?)?;
+        replace_list(rt, kind, &paths)?;
+    }
+    *kept = Some(paths);
+    Ok(())
 }
 
 /// Takes the path from the list of a kind.
-fn take(rt: &HostRuntime, kind: &str, path: &Fmri) -> Result<(), ActFault> {
-    let paths = read_list(rt, kind)?;
-    let text = text_without(rt.alloc(), &paths, path).map_err(|_| ActFault::NoMemory)?;
-    replace_list(rt, kind, text.as_str())
+fn take(
+    rt: &HostRuntime,
+    kind: &str,
+    kept: &mut Option<Vec<Fmri>>,
+    path: &Fmri,
+) -> Result<(), ActFault> {
+    let mut paths = take_list(rt, kind, kept)?;
+    if let Ok(at) = paths.binary_search(path) {
+        paths.remove(at);
+        replace_list(rt, kind, &paths)?;
+    }
+    *kept = Some(paths);
+    Ok(())
 }
 
 impl Actuator for Retired {
@@ -162,26 +197,26 @@ impl Actuator for Retired {
 
     ghost act_failures = { λ a. a.failures };
 
-    ghost kind_text = { λ a. a.kind.now };
+    ghost kind_text = { λ a. a.kind };
 
-    ghost ascends = { λ _ paths told. untold_ascends paths told };
+    ghost ascends = { λ _ paths told. nothing_told_ascends paths told };
 
     fn kind(&self) -> &str {
-        self.kind
+        self.kind.get()
     }
 
     fn listed(&mut self, at: u32) -> Result<Option<Fmri>, ActFault> {
-        let answer = path_at(&self.rt, self.kind, at);
+        let answer = path_at(&self.rt, self.kind.get(), &mut self.paths, at);
         counted(&mut self.failures, answer)
     }
 
     fn retire(&mut self, path: &Fmri) -> Result<(), ActFault> {
-        let answer = add(&self.rt, self.kind, path);
+        let answer = add(&self.rt, self.kind.get(), &mut self.paths, path);
         counted(&mut self.failures, answer)
     }
 
     fn unretire(&mut self, path: &Fmri) -> Result<(), ActFault> {
-        let answer = take(&self.rt, self.kind, path);
+        let answer = take(&self.rt, self.kind.get(), &mut self.paths, path);
         counted(&mut self.failures, answer)
     }
 }

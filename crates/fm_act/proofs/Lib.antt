@@ -1,0 +1,5 @@
+pub mod Growing
+pub mod Listing
+pub mod HeldWanted
+pub mod Walked
+pub mod InMemory

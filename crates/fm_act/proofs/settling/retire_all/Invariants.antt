@@ -1,0 +1,10 @@
+use Rattle.std.proofs.Common.{◌≡◌, map, take}
+use Rattle.fm_act.specs.Changes.{AddsPaths}
+use Rattle.fm_act.proofs.settling.retire_all.Given as goal
+
+abbrev pub invariant-paths : goal.invariant-paths
+invariant-paths g l =
+    AddsPaths (take l.path-index (map (λ p. p.now) l.paths))
+    (g.A.ActCalls.held l.initial.act) (g.A.ActCalls.held l.act)
+    × (g.A.ActCalls.kind_text l.act ≡ g.A.ActCalls.kind_text l.initial.act)
+    × (g.A.ActCalls.act_failures l.act ≡ g.A.ActCalls.act_failures l.initial.act)

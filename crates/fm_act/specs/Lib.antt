@@ -1,0 +1,5 @@
+pub mod HeldPaths
+pub mod Changes
+pub mod Reconciled
+pub mod MemActuator
+pub mod ToldLaws
