@@ -1,0 +1,2 @@
+pub mod FileReader
+pub mod Refusals
