@@ -86,3 +86,6 @@ fn main(rt: HostRuntime) -> ExitCode {
         Err(_) => exit_of(ToolStatus::NoMemory),
     }
 }
+
+#[cfg(test)]
+mod tests;
