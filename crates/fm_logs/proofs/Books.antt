@@ -1,5 +1,5 @@
 -- What logs keep reads as a book, now and at each moment of a call.
-use Rattle.std.proofs.Common.{◌≡◌, ◌⊎◌, inl, inr, ℕ, ◌+◌, ◌-◌, ◌≤◌, List, [], ◌∷◌, ◌++◌, length, drop}
+use Rattle.std.proofs.Common.{◌≡◌, ◌⊎◌, inl, inr, ℕ, ◌+◌, ◌-◌, List, [], ◌∷◌, ◌++◌, length, drop}
 use Rattle.std.proofs.Common.{Bool, true, false, Option, refl, sym, ◌∙◌, ap, subst, arith}
 use Rattle.std.proofs.Common.{append_assoc, length-append}
 use Rattle.std.specs.Prelude.{slice_set}
@@ -44,7 +44,7 @@ pub beside : (fresh : List ModuleState) (c : Contents) (second : Bool) (k : Stor
     → IsLawfulStore k → first + length older ≡ k.book.base
     → IsLog SpellsEntry active first (older ++ k.book.entries)
     → IsLog SpellsSpoken flt flt_first k.book.records → ReadsBeside fresh c second k active flt
-beside fresh c true k first flt_first older active flt says lawful begins entries records = record {
+beside fresh c true k first flt_first older active flt says lawful begins log records = record {
   second = true;
   says = record {
     conf_first = says.conf_first;
@@ -60,7 +60,7 @@ beside fresh c true k first flt_first older active flt says lawful begins entrie
   };
   first = first;
   entries = older ++ k.book.entries;
-  active = entries;
+  active = log;
   begins = omega (arith, begins);
   reaches = omega (arith, begins, length-append older k.book.entries);
   entries_are = behind first older k.book.entries k.book.base begins;
@@ -69,7 +69,7 @@ beside fresh c true k first flt_first older active flt says lawful begins entrie
   at_floors = refl;
   lawful = floors_lawful k lawful;
 }
-beside fresh c false k first flt_first older active flt says lawful begins entries records = record {
+beside fresh c false k first flt_first older active flt says lawful begins log records = record {
   second = false;
   says = record {
     conf_first = says.conf_first;
@@ -85,7 +85,7 @@ beside fresh c false k first flt_first older active flt says lawful begins entri
   };
   first = first;
   entries = older ++ k.book.entries;
-  active = entries;
+  active = log;
   begins = omega (arith, begins);
   reaches = omega (arith, begins, length-append older k.book.entries);
   entries_are = behind first older k.book.entries k.book.base begins;
@@ -231,7 +231,8 @@ module _ {D : Type 0} (g : Ghosts D) where
       → IsStepOf k.book i n frame → Commits g old new i n frame
       → LogsStandFor g new fresh c (store_worked k i)
   worked_stands old new fresh c k i n frame st step commits =
-      subst (λ (b : Book). LogsStandFor g new fresh c (with_book k b)) (sym step.worked_is) (record {
+      subst (λ (b : Book). LogsStandFor g new fresh c (with_book k b)) (sym step.worked_is)
+      (record {
         older = st.older;
         keep = commits.keeps st.older k.book.records step.said step.spells st.keep;
         base_is = ap (λ (l : LogsOf D). l.base) commits.logs_are ∙ st.base_is;

@@ -1,5 +1,5 @@
 -- Logs with one entry or one record more, and what a crash leaves of them.
-use Rattle.std.proofs.Common.{◌≡◌, ◌≢◌, ◌⊎◌, inl, inr, ℕ, ◌+◌, ◌<◌, ◌≤◌, ◌^◌, List, [], ◌∷◌, ◌++◌, length}
+use Rattle.std.proofs.Common.{◌≡◌, ◌≢◌, inl, inr, ℕ, ◌+◌, ◌≤◌, ◌^◌, List, [], ◌∷◌, ◌++◌, length}
 use Rattle.std.proofs.Common.{Result, Ok, Err, slice_get, slice_set}
 use Rattle.std.proofs.Common.{Option, Some, None, refl, sym, ◌∙◌, ap, subst, append_assoc, arith}
 use Rattle.std.proofs.Common.{length-append}
@@ -18,8 +18,8 @@ use Rattle.fm_journal.specs.JournalOf.{appended}
 use Rattle.fm_journal.specs.declared.fault.JournalFault.{JournalFault}
 use Rattle.fm_journal.proofs.Added.{has_room}
 use Rattle.fm_logs.specs.LogsLimits.{AreLogs}
-use Rattle.fm_logs.specs.LogsOf.{LogsOf, LogsKeep, IsLogWith, Frames, TakesEntry, Commits, with_frame}
-use Rattle.fm_logs.specs.LogsOf.{CanTakeFrame}
+use Rattle.fm_logs.specs.LogsOf.{LogsOf, LogsKeep, IsLogWith, Frames, TakesEntry, Commits}
+use Rattle.fm_logs.specs.LogsOf.{CanTakeFrame, with_frame}
 use Rattle.fm_logs.specs.ReadsAsBook.{EachSpells, IsLog, SpellsEntry, SpellsSpoken}
 
 -- one payload more spells one value more
@@ -100,22 +100,23 @@ module _ {D : Type 0} (g : Ghosts D) where
       → Keeps g active (payloads ++ payload ∷ []))
       → (older : List Entry) (records : List Spoken) → LogsKeep g old older records
       → LogsKeep g (record old { active = active; entries = entries }) older records
-  keeps_entry old active entries e payload spelled is longer first more older records keep = record {
-    is_open = keep.is_open;
-    begins = ap (λ (n : ℕ). n + length older) first ∙ keep.begins;
-    entry_payloads = keep.entry_payloads ++ payload ∷ [];
-    entries_keep = more keep.entry_payloads keep.entries_keep;
-    entries_spelled =
-        subst (λ (es : List Entry).
-        EachSpells SpellsEntry (keep.entry_payloads ++ payload ∷ []) es)
-        (append_assoc older old.entries (e ∷ [])
-        ∙ ap (λ (es : List Entry). older ++ es) (sym longer))
-        (each_push SpellsEntry keep.entry_payloads (older ++ old.entries) payload e
-        keep.entries_spelled (spelled, is));
-    record_payloads = keep.record_payloads;
-    records_keep = keep.records_keep;
-    records_spelled = keep.records_spelled;
-  }
+  keeps_entry old active entries e payload spelled is more_entries first more older records keep =
+      record {
+        is_open = keep.is_open;
+        begins = ap (λ (n : ℕ). n + length older) first ∙ keep.begins;
+        entry_payloads = keep.entry_payloads ++ payload ∷ [];
+        entries_keep = more keep.entry_payloads keep.entries_keep;
+        entries_spelled =
+            subst (λ (es : List Entry).
+            EachSpells SpellsEntry (keep.entry_payloads ++ payload ∷ []) es)
+            (append_assoc older old.entries (e ∷ [])
+            ∙ ap (λ (es : List Entry). older ++ es) (sym more_entries))
+            (each_push SpellsEntry keep.entry_payloads (older ++ old.entries) payload e
+            keep.entries_spelled (spelled, is));
+        record_payloads = keep.record_payloads;
+        records_keep = keep.records_keep;
+        records_spelled = keep.records_spelled;
+      }
 
   -- an append of what was said leaves the records of before, or with it too
   pub words_leave : (old : LogsOf D) (new : D) (frame : Option (List ℕ)) (payload : List ℕ)

@@ -20,8 +20,8 @@ logs_of active flt second base entries cursors closed =
       closed = closed;
     }
 
--- The active journal's next number is that of the next entry, also once it is closed, and is at most
--- 2^46. While the logs are open both journals are.
+-- The active journal's next number is that of the next entry, also once it is closed, and is at
+-- most 2^46. While the logs are open both journals are.
 pub record AreLogs {D : Type 0} (logs : LogsOf D) : Type 0 where
   pub numbered : logs.active.first + logs.active.count ≡ logs.base + length logs.entries
   pub few : logs.base + length logs.entries ≤ 2 ^ 46

@@ -8,10 +8,10 @@
 //! active journal, and the records are those of the fault log.
 //!
 //! **Model.** The book is the core's, with the list of configurations and the number in force at
-//! its base (`StoreBook`). What six contents read as is `ReadsAsBook`: no two books, and each module
-//! at its floor. `Logs` is what accept and commit touch, and nothing of modules, so that a lock may
-//! hold it; contracts see the two journals, the entries from the base, the cursors, and the disk
-//! that failed (`LogsOf`). What logs keep is `LogsKeep`, and the book that they stand for beside the
+//! its base (`StoreBook`). What six contents read as is `ReadsAsBook`, with each module at its
+//! floor. `Logs` is what accept and commit touch, and nothing of modules, so that a lock may hold
+//! it; contracts see the two journals, the entries from the base, the cursors, and the disk that
+//! failed (`LogsOf`). What logs keep is `LogsKeep`, and the book that they stand for beside the
 //! four other disks is `LogsStandFor`.
 //!
 //! **Promises.** `accept` and `commit` have one clause each, a definition by cases on the answer

@@ -1,7 +1,7 @@
 //! The logs of a store, without its modules.
 
 ghost use Rattle.std.specs.Prelude.{◌≡◌, ◌<◌, ◌^◌, ◌++◌, List, length, slice_get, None, Some, IfOk};
-ghost use Rattle.std.specs.Prelude.{◌+◌, ◌≤◌, ◌==◌};
+ghost use Rattle.std.specs.Prelude.{◌+◌, ◌-◌, ◌≤◌, ◌==◌, IfSome};
 ghost use Rattle.std.specs.List.{list_all};
 ghost use Rattle.std.specs.Prelude.{IfErr, OnOk, IsOk};
 ghost use Rattle.std.specs.Option.{option_map};
@@ -161,6 +161,16 @@ impl<D: Disk> Logs<D> {
         &self.entries
     }
 
+    /// The entry with a number that isn't below the base, if there is one.
+    pub fn entry(&self, number: u64) -> Option<&Entry>
+        requires from_base { self.now.base ≤ number }
+        ensures entry { option_map (λ e. e.now) result
+            ≡ slice_get self.now.entries (number - self.now.base) }
+        ensures few { IfSome result (λ _. number < 2 ^ 46) }
+    {
+        self.entries.get((number - self.base) as usize)
+    }
+
     /// The number of entries before the base.
     pub fn base(&self) -> u64
         ensures { result ≡ self.now.base }
@@ -240,7 +250,8 @@ impl<D: Disk> Logs<D> {
         requires few { number < 2 ^ 46 }
         ensures does { CommitDoes D.Disk self.old self.new own number
             (option_map (λ f. f.now) frame.entry) result }
-        ensures any_moment { CommitLeaves D.Disk self.old self.new (option_map (λ f. f.now) frame.entry) }
+        ensures any_moment { CommitLeaves D.Disk self.old self.new
+            (option_map (λ f. f.now) frame.entry) }
         ensures same_disks { AreSameLogs D.Disk self.old self.new }
     {
         if let Some((disk, faults)) = self.closed {
@@ -261,13 +272,16 @@ impl<D: Disk> Logs<D> {
         ensures done { OnOk result (self.new ≡ record self.old {
           flt = with_frame self.new.flt.disk (option_map (λ f. f.now) frame.entry) self.old.flt;
         }) }
-        ensures room { OnOk result (CanTakeFrame self.old.flt (option_map (λ f. f.now) frame.entry)) }
+        ensures room { OnOk result
+            (CanTakeFrame self.old.flt (option_map (λ f. f.now) frame.entry)) }
         ensures keeps { IsOk result → (older : List Entry) (records said : List Spoken)
-            → Frames (option_map (λ f. f.now) frame.entry) said → LogsKeep D.Disk self.old older records
+            → Frames (option_map (λ f. f.now) frame.entry) said
+            → LogsKeep D.Disk self.old older records
             → LogsKeep D.Disk self.new older (records ++ said) }
         ensures refused { IfErr result
             (WordsRefused D.Disk self.old self.new (option_map (λ f. f.now) frame.entry)) }
-        ensures any_moment { CommitLeaves D.Disk self.old self.new (option_map (λ f. f.now) frame.entry) }
+        ensures any_moment { CommitLeaves D.Disk self.old self.new
+            (option_map (λ f. f.now) frame.entry) }
         ensures no_failure { OnOk result
             (D.failures self.new.flt.disk ≡ D.failures self.old.flt.disk) }
         ensures same_disks { AreSameLogs D.Disk self.old self.new }
