@@ -6,3 +6,4 @@ pub mod Filling
 pub mod Paying
 pub mod Beginning
 pub mod Looking
+pub mod Linking

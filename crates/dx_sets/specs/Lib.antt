@@ -1,3 +1,4 @@
 pub mod Fit
 pub mod Sets
 pub mod Engine
+pub mod Links

@@ -30,7 +30,7 @@ fn leave_if_last(sets: &mut Sets, node: u32, root: u32)
 }
 
 /// One instance gives a node no more: the node leaves if it was the last one.
-fn lose_giver(sets: &mut Sets, node: u32, root: u32)
+pub(crate) fn lose_giver(sets: &mut Sets, node: u32, root: u32)
     requires { 0 < slice_index sets.old.support node }
     ensures { sets.new ≡ giver_lost sets.old node root }
 {

@@ -13,18 +13,21 @@
 //! which nodes leave, the end is the same.
 //!
 //! **Promises.** [`fill`] puts all nodes in and counts; [`begin`] brings a set whose counters are
-//! right to the greatest fit set in it; [`settle`] does so after members of a steady set have left.
+//! right to the greatest fit set in it; [`settle`] does so after members of a steady set have left,
+//! and after [`lose_link`] took a link from it.
 //! A step is one look at a node or a link. What is still to come at most is counted by `cost`, and
 //! each step is paid from it.
 #![tactic(auto)]
 
 mod engine;
+mod links;
 mod sets;
 mod start;
 mod steps;
 
 pub use engine::settle;
 pub use ev_graph::NoMemory;
+pub use links::lose_link;
 pub use sets::Sets;
 pub use start::{begin, fill};
 pub use steps::Steps;

@@ -85,6 +85,25 @@ impl Sets {
         })
     }
 
+    /// Equal sets.
+    pub fn copy(&self, alloc: Global) -> Result<Sets, NoMemory>
+        ensures { IfOk result (λ sets. sets ≡ self.now) }
+    {
+        let marks = Vec::from_slice(alloc, self.marks.as_slice())?;
+        let pending = Vec::from_slice(alloc, self.pending.as_slice())?;
+        let causes_left = Vec::from_slice(alloc, self.causes_left.as_slice())?;
+        let effects_left = Vec::from_slice(alloc, self.effects_left.as_slice())?;
+        let support = Vec::from_slice(alloc, self.support.as_slice())?;
+        Ok(Sets {
+            marks,
+            pending,
+            waiting: self.waiting,
+            causes_left,
+            effects_left,
+            support,
+        })
+    }
+
     /// How many nodes there are.
     pub fn nodes(&self) -> usize
         ensures { result ≡ length self.now.marks }
