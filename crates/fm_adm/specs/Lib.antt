@@ -1,0 +1,3 @@
+pub mod Faulty
+pub mod Config
+pub mod Summary
