@@ -2,10 +2,12 @@
 
 ghost use Rattle.std.specs.Prelude.{◌≡◌};
 ghost use Rattle.fm_logs.specs.declared.fault.StoreFault.TheVariants.{NoMemory as WantsMemory};
+ghost use Rattle.fm_logs.specs.declared.fault.StoreFault.TheVariants.{Disk as DiskFailed};
 
 use crate::disks::DiskName;
 use fm_bytes::NoMemory;
 use fm_journal::FullKind;
+use fm_outer::Failed;
 use std::alloc::{AllocError, AllocFailed};
 
 /// Why a call of a store did not do what was asked.
@@ -46,5 +48,13 @@ impl From<NoMemory> for StoreFault {
 
     fn from(_fault: NoMemory) -> StoreFault {
         StoreFault::NoMemory
+    }
+}
+
+impl From<Failed> for StoreFault {
+    ghost from_gives = { λ _ e. e ≡ DiskFailed };
+
+    fn from(_fault: Failed) -> StoreFault {
+        StoreFault::Disk
     }
 }
