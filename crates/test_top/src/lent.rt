@@ -1,0 +1,56 @@
+// How often a disk is called that is lent.
+use crate::asserts::accepts;
+use crate::world::{REPORT, disk_of, disks_of};
+use fm_journal::{Frame, Journal};
+use fm_outer::{Disk, MemDisk};
+use std::alloc::Global;
+use std::process::Abort;
+use std::test::Fail;
+
+/// The disk after a journal of one payload was made on it.
+fn with_one<D: Disk + Drop>(alloc: Global, disk: D) -> Result<D, Fail> {
+    let frame = Frame::new(alloc, b"x")?;
+    let mut journal = Journal::create(disk, 0).ok().ok_or("not made")?;
+    journal.append(&frame).ok().ok_or("not appended")?;
+    Ok(journal.into_disk())
+}
+
+/// The disk after its journal was opened.
+fn opened<D: Disk + Drop>(disk: D) -> Result<D, Fail> {
+    let journal = Journal::open(disk).ok().ok_or("not opened")?;
+    Ok(journal.into_disk())
+}
+
+/// How often a disk is called while a journal is made on it, one payload is appended, and it is
+/// opened again.
+fn own_calls(alloc: Global) -> Result<u64, Fail> {
+    let disk: MemDisk = with_one(alloc, disk_of(alloc, b"")?)?;
+    let disk: MemDisk = opened(disk)?;
+    Ok(disk.calls())
+}
+
+#[test]
+fn a_lent_disk_is_called_no_more_often(rt: HostRuntime) -> Result<(), Fail> {
+    let alloc = rt.alloc();
+    let mut disk = disk_of(alloc, b"")?;
+    with_one(alloc, &mut disk)?;
+    opened(&mut disk)?;
+    assert_eq!(rt; disk.calls(), own_calls(alloc)?);
+    Ok(())
+}
+
+/// How often the disk of a run over one report is called, and of a second over no line.
+fn run_calls(rt: &impl Abort, alloc: Global) -> Result<u64, Fail> {
+    let mut disks = disks_of(alloc, b"")?;
+    accepts(rt, alloc, &mut disks, REPORT.as_bytes(), "ok 0\n")?;
+    accepts(rt, alloc, &mut disks, b"", "")?;
+    Ok(disks.err_a.calls())
+}
+
+#[test]
+fn a_run_calls_its_disk_as_its_journal_does(rt: HostRuntime) -> Result<(), Fail> {
+    let calls = own_calls(rt.alloc())?;
+    // and the length once in each run
+    assert_eq!(rt; run_calls(&rt, rt.alloc())?, calls.saturating_add(2));
+    Ok(())
+}
