@@ -1,5 +1,5 @@
-//! Tests of the top call over objects in memory: what no clause says of it. They stand in a crate of
-//! their own, so that the libraries below are not proved again with each of them.
+//! Tests of the top call over objects in memory: what no clause says of it. They stand in a crate
+//! of their own, so that the libraries below are not proved again with each of them.
 //!
 //! `world` has the objects that a call is handed, `noting` a source that notes what it is asked,
 //! and `asserts` the call with what it must put. The tests are by subject: `texts` for what is put,
