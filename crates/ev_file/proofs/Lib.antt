@@ -1,2 +1,4 @@
+pub mod Refused
+pub mod KindReader
 pub mod FileReader
-pub mod Refusals
+pub mod SpelledFiles

@@ -1,3 +1,2 @@
-pub mod FileBytes
-pub mod Compiled
+pub mod Files
 pub mod FileReading

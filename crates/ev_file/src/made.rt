@@ -1,9 +1,8 @@
-//! What rules come to.
+//! What a rule file comes to.
 
 use ev_graph::Graph;
 
-/// What rules come to over a topology: the graph, and how many instances were skipped since too
-/// few events stood on a side.
+/// The graph of a rule file over a topology, and how many candidates gave no instance.
 #[derive(Drop)]
 pub struct Made {
     pub graph: Graph,

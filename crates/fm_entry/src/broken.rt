@@ -6,8 +6,8 @@ ghost use Rattle.fm_entry.specs.Words.{is_link_before, links_ascend};
 ghost use Rattle.fm_entry.specs.WordBytes.{link_bytes, broken_bytes};
 ghost use Rattle.fm_entry.specs.WordReading.{link_from, links_from, broken_from};
 
-use crate::item::{Item, put_items, take_items};
 use fm_bytes::{Copies, Input, Items, NoMemory, ReadFault, put_u32};
+use fm_items::{Codec, put_counted, take_counted};
 use std::alloc::Global;
 
 /// A link between an instance and one of its effects, both by their numbers in the graph of a
@@ -29,14 +29,19 @@ impl Copies for Broken {
     }
 }
 
-impl Item for Broken {
+/// The spelling of broken links.
+pub(crate) struct LinkCodec;
+
+impl Codec<Broken> for LinkCodec {
+    ghost fits = { λ _. Unit {0} };
+
     ghost spelling = { link_bytes };
 
     ghost reading = { link_from };
 
-    fn put(&self, out: &mut Vec<u8>) -> Result<(), NoMemory> {
-        put_u32(self.instance, out)?;
-        put_u32(self.effect, out)?;
+    fn put(link: &Broken, out: &mut Vec<u8>) -> Result<(), NoMemory> {
+        put_u32(link.instance, out)?;
+        put_u32(link.effect, out)?;
         Ok(())
     }
 
@@ -54,7 +59,7 @@ pub(crate) fn put_broken(links: &BrokenLinks, out: &mut Vec<u8>) -> Result<(), N
     ensures ok { OnOk result (out.new.items ≡ out.old.items ++ broken_bytes links.now) }
 {
     if links.len() > 0 {
-        put_items(links, out)
+        put_counted::<Broken, LinkCodec>(links.as_slice(), out)
     } else {
         Ok(())
     }
@@ -83,7 +88,7 @@ fn take_links(input: &mut Input, alloc: Global) -> Result<BrokenLinks, ReadFault
     ensures ok { IfOk result (λ l. links_from input.old ≡ Some (l, input.new)) }
     ensures err { IfErr result (λ f. IsMisspelled f → links_from input.old ≡ None) }
 {
-    let links: BrokenLinks = take_items(input, alloc)?;
+    let links = BrokenLinks::new(take_counted::<Broken, LinkCodec>(input, alloc)?);
     if links.len() > 0 && links_ascend(links.as_slice()) {
         Ok(links)
     } else {

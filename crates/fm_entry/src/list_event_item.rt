@@ -13,10 +13,14 @@ ghost use Rattle.fm_entry.specs.WordReading.{words_from};
 
 use crate::broken::{put_broken, take_broken};
 use crate::case_name::CaseName;
-use crate::item::{put_items, take_items};
+use crate::event_item::EventCodec;
 use crate::list_event::{ListEvent, ListEvents, ListKind};
 use crate::parts::{case, moment};
-use fm_bytes::{Input, NoMemory, ReadFault, put_u8, put_u32, put_u64};
+use crate::suspect::Suspect;
+use crate::suspect_item::SuspectCodec;
+use fm_bytes::{Input, Items, NoMemory, ReadFault, put_u8, put_u32, put_u64};
+use fm_items::{put_counted, take_counted};
+use fm_name::EventName;
 use std::alloc::Global;
 
 /// Appends the bytes that spell the word. After want of memory a part of them may stand there.
@@ -44,8 +48,8 @@ fn put_lists(word: &ListEvent, out: &mut Vec<u8>) -> Result<(), NoMemory>
         ++ (counted_bytes 4 event_bytes word.now.observed
         ++ (counted_bytes 4 suspect_bytes word.now.suspects ++ broken_bytes word.now.broken))) }
 {
-    put_items(&word.observed, out)?;
-    put_items(&word.suspects, out)?;
+    put_counted::<EventName, EventCodec>(word.observed.as_slice(), out)?;
+    put_counted::<Suspect, SuspectCodec>(word.suspects.as_slice(), out)?;
     put_broken(&word.broken, out)
 }
 
@@ -101,16 +105,16 @@ pub fn take_list_event(input: &mut Input, alloc: Global, own: u32) -> Result<Lis
     let case = case(input)?;
     let moment = moment(input)?;
     let conf = input.take_u32()?;
-    let observed = take_items(input, alloc)?;
-    let suspects = take_items(input, alloc)?;
+    let observed = take_counted::<EventName, EventCodec>(input, alloc)?;
+    let suspects = take_counted::<Suspect, SuspectCodec>(input, alloc)?;
     let broken = take_broken(input, alloc, marked)?;
     Ok(ListEvent {
         kind,
         case: CaseName { module, case },
         moment,
         conf,
-        observed,
-        suspects,
+        observed: Items::new(observed),
+        suspects: Items::new(suspects),
         broken,
     })
 }

@@ -5,23 +5,28 @@ ghost use Rattle.fm_bytes.specs.Reading.{IsMisspelled, flag_from};
 ghost use Rattle.fm_entry.specs.WordBytes.{mark_byte, suspect_bytes};
 ghost use Rattle.fm_entry.specs.WordReading.{certainty_from, mark_from, suspect_from};
 
-use crate::item::Item;
 use crate::parts::{class, path};
 use crate::suspect::{Mark, Suspect};
 use fm_bytes::{Input, NoMemory, ReadFault, put_short_text, put_u8};
+use fm_items::Codec;
 use std::alloc::Global;
 
-impl Item for Suspect {
+/// The spelling of suspects.
+pub(crate) struct SuspectCodec;
+
+impl Codec<Suspect> for SuspectCodec {
+    ghost fits = { λ _. Unit {0} };
+
     ghost spelling = { suspect_bytes };
 
     ghost reading = { suspect_from };
 
-    fn put(&self, out: &mut Vec<u8>) -> Result<(), NoMemory> {
-        put_short_text(self.class.text(), out)?;
-        put_short_text(self.path.text(), out)?;
-        put_u8(self.certainty, out)?;
-        put_u8(u8::from(self.retire), out)?;
-        put_u8(mark_byte(self.mark), out)?;
+    fn put(suspect: &Suspect, out: &mut Vec<u8>) -> Result<(), NoMemory> {
+        put_short_text(suspect.class.text(), out)?;
+        put_short_text(suspect.path.text(), out)?;
+        put_u8(suspect.certainty, out)?;
+        put_u8(u8::from(suspect.retire), out)?;
+        put_u8(mark_byte(suspect.mark), out)?;
         Ok(())
     }
 

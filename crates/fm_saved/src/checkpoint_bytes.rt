@@ -13,9 +13,10 @@ ghost use Rattle.fm_saved.specs.Checkpoints.{checkpoint_bytes, active_from, conf
 ghost use Rattle.fm_saved.specs.Checkpoints.{checkpoint_from};
 ghost use Rattle.fm_saved.specs.declared.checkpoint.Checkpoint.{Checkpoint};
 
-use crate::checkpoint::{Checkpoint, SavedStates};
-use crate::saved_bytes::{put_each, take_each};
-use fm_bytes::{Input, NoMemory, ReadFault, put_u8, put_u32, put_u64};
+use crate::checkpoint::Checkpoint;
+use crate::saved_bytes::{SavedBytes, SavedCodec};
+use fm_bytes::{Input, Items, NoMemory, ReadFault, put_u8, put_u32, put_u64};
+use fm_items::{put_counted, take_counted};
 use std::alloc::Global;
 
 /// Appends the bytes that spell the checkpoint.
@@ -40,8 +41,7 @@ fn put_checkpoint(checkpoint: &Checkpoint, out: &mut Vec<u8>) -> Result<(), NoMe
     put_u64(checkpoint.base, out)?;
     put_u64(checkpoint.moment, out)?;
     put_u32(checkpoint.conf, out)?;
-    put_u32(checkpoint.states.len() as u32, out)?;
-    put_each(&checkpoint.states, out)
+    put_counted::<SavedBytes, SavedCodec>(checkpoint.states.as_slice(), out)
 }
 
 /// The checkpoint that the bytes spell, in either way, which is one at most. `None` exactly where
@@ -83,13 +83,13 @@ fn take_checkpoint(input: &mut Input, alloc: Global) -> Result<Checkpoint, ReadF
     let base = input.take_u64()?;
     let moment = take_moment(input)?;
     let conf = take_conf_number(input, numbered)?;
-    let states = take_states(input, alloc)?;
+    let states = take_counted::<SavedBytes, SavedCodec>(input, alloc)?;
     Ok(Checkpoint {
         second,
         base,
         moment,
         conf,
-        states,
+        states: Items::new(states),
     })
 }
 
@@ -128,14 +128,4 @@ fn take_conf_number(input: &mut Input, numbered: bool) -> Result<u32, ReadFault>
     ensures err { IfErr result (λ f. IsMisspelled f → conf_number_from numbered input.old ≡ None) }
 {
     if numbered { input.take_u32() } else { Ok(0) }
-}
-
-/// States, behind their number in four bytes.
-#[tactic(auto, unfolding(fm_bytes::specs::Reading::counted_from))]
-fn take_states(input: &mut Input, alloc: Global) -> Result<SavedStates, ReadFault>
-    ensures ok { IfOk result (λ l. counted_from 4 saved_from input.old ≡ Some (l, input.new)) }
-    ensures err { IfErr result (λ f. IsMisspelled f → counted_from 4 saved_from input.old ≡ None) }
-{
-    let count = input.take_u32()?;
-    take_each(input, alloc, count)
 }

@@ -10,8 +10,9 @@ ghost use Rattle.fm_saved.specs.Confs.{IsSpelledConf, conf_bytes, rules_from, co
 ghost use Rattle.fm_saved.specs.declared.conf.Conf.{Conf};
 
 use crate::conf::{Conf, RuleFiles};
-use crate::saved_bytes::{put_each, put_saved, take_each, take_saved};
-use fm_bytes::{Input, NoMemory, ReadFault, put_u8};
+use crate::saved_bytes::{SavedBytes, SavedCodec};
+use fm_bytes::{Input, Items, NoMemory, ReadFault, put_u8};
+use fm_items::{Codec, put_items, take_items};
 use std::alloc::Global;
 
 /// Appends the bytes that spell the configuration.
@@ -33,8 +34,8 @@ fn put_conf(conf: &Conf, out: &mut Vec<u8>) -> Result<(), NoMemory>
 {
     out.extend_from_slice(&conf.namespace)?;
     put_u8(conf.rules.len() as u8, out)?;
-    put_each(&conf.rules, out)?;
-    put_saved(&conf.topo, out)
+    put_items::<SavedBytes, SavedCodec>(conf.rules.as_slice(), out)?;
+    SavedCodec::put(&conf.topo, out)
 }
 
 /// The configuration that the bytes spell, which is one at most. `None` exactly where they spell
@@ -74,7 +75,7 @@ fn take_conf(input: &mut Input, alloc: Global) -> Result<Conf, ReadFault>
 {
     let namespace = take_namespace(input)?;
     let rules = take_rules(input, alloc)?;
-    let topo = take_saved(input, alloc)?;
+    let topo = SavedCodec::take(input, alloc)?;
     Ok(Conf {
         namespace,
         rules,
@@ -100,9 +101,9 @@ fn take_rules(input: &mut Input, alloc: Global) -> Result<RuleFiles, ReadFault>
     ensures err { IfErr result (λ f. IsMisspelled f → rules_from input.old ≡ None) }
 {
     let count = input.take_u8()?;
-    let files = take_each(input, alloc, u32::from(count))?;
+    let files = take_items::<SavedBytes, SavedCodec>(input, alloc, u32::from(count))?;
     if files.len() <= 8 {
-        Ok(files)
+        Ok(Items::new(files))
     } else {
         Err(ReadFault::NoSpelling)
     }
