@@ -1,11 +1,11 @@
 -- A text that is put together of the parts of a summary is one.
-use Rattle.std.proofs.Common.{◌≡◌, ◌++◌, ℕ, List, [], length, subst, sym, ap, ◌∙◌}
+use Rattle.std.proofs.Common.{◌≡◌, ◌++◌, ℕ, List, length, subst, ap, ◌∙◌}
 use Rattle.std.specs.Prelude.{flat_map}
 use Rattle.std.specs.List.Sorted.{IsPermutation}
 use Rattle.std.proofs.lemmas.List.{append_assoc}
 use Rattle.fm_entry.specs.declared.list_event.ListEvent.{ListEvent}
 use Rattle.fm_status.specs.Wanted.{IsWantedOf}
-use Rattle.fm_adm.specs.declared.summary.OpenCase.{OpenCase}
+use Rattle.fm_adm.specs.declared.summary.OpenReports.{OpenReports}
 use Rattle.fm_adm.specs.declared.summary.CaseLine.{CaseLine}
 use Rattle.fm_adm.specs.Summary.{standing_lines, counts_text, case_line, retire_line, ByCase}
 use Rattle.fm_adm.specs.Summary.{IsSummary}
@@ -16,7 +16,7 @@ in_turn : (a b c one two text : List ℕ) → one ≡ a → two ≡ one ++ b →
 in_turn a b c one two text e f g =
     g ∙ (ap (λ t. t ++ c) (f ∙ ap (λ t. t ++ b) e) ∙ append_assoc a b c)
 
-pub summed : (entries : ℕ) (cases : List OpenCase) (given rows : List ListEvent)
+pub summed : (entries : ℕ) (cases : List OpenReports) (given rows : List ListEvent)
     (lines : List CaseLine) (wanted : List (List ℕ)) (old new one two text : List ℕ)
     → given ≡ rows → IsPermutation (standing_lines cases given) lines → ByCase lines
     → IsWantedOf rows wanted

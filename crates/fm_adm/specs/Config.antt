@@ -4,23 +4,23 @@ use Rattle.uuid.specs.Text.{hyphenated_text, lower}
 use Rattle.fm_adm.specs.declared.config.ModuleSizes.{ModuleSizes}
 
 -- a name and a count behind it
-unfoldable pub counted : List ℕ → ℕ → List ℕ
-counted name count = name ++ decimal count
+unfoldable pub named_count : List ℕ → ℕ → List ℕ
+named_count name count = name ++ decimal count
 
 -- how many events a graph has, and how many of them are roots and reports
 abbrev pub events_part : ModuleSizes → List ℕ
-events_part sizes = counted (codes " events ") sizes.events
-    ++ (counted (codes " roots ") sizes.roots ++ counted (codes " reports ") sizes.reports)
+events_part sizes = named_count (codes " events ") sizes.events
+    ++ (named_count (codes " roots ") sizes.roots ++ named_count (codes " reports ") sizes.reports)
 
 -- how many instances were made, and how many were passed over
 abbrev pub instances_part : ModuleSizes → List ℕ
-instances_part sizes = counted (codes " instances ") sizes.instances
-    ++ (counted (codes " skipped ") sizes.skipped ++ codes "\n")
+instances_part sizes = named_count (codes " instances ") sizes.instances
+    ++ (named_count (codes " skipped ") sizes.skipped ++ codes "\n")
 
 -- the line of a module: its number, and the sizes of its graph
 unfoldable pub listing_line : ℕ → ModuleSizes → List ℕ
 listing_line number sizes =
-    counted (codes "dx") number ++ (events_part sizes ++ instances_part sizes)
+    named_count (codes "dx") number ++ (events_part sizes ++ instances_part sizes)
 
 -- a line for each module, whose numbers rise from this one
 abbrev pub listing_lines : ℕ → List ModuleSizes → List ℕ

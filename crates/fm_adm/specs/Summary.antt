@@ -11,14 +11,14 @@ use Rattle.fm_entry.specs.declared.list_event.ListKind.{ListKind}
 use Rattle.fm_entry.specs.declared.list_event.ListKind.TheVariants as kind
 use Rattle.fm_status.specs.Rows.{case_cmp}
 use Rattle.fm_status.specs.Wanted.{is_solved, IsWantedOf}
-use Rattle.fm_adm.specs.Config.{counted}
-use Rattle.fm_adm.specs.declared.summary.OpenCase.{OpenCase}
+use Rattle.fm_adm.specs.Config.{named_count}
+use Rattle.fm_adm.specs.declared.summary.OpenReports.{OpenReports}
 use Rattle.fm_adm.specs.declared.summary.CaseLine.{CaseLine}
-use Rattle.fm_adm.specs.declared.summary.Standing.{Standing}
-use Rattle.fm_adm.specs.declared.summary.Standing.TheVariants as stands
+use Rattle.fm_adm.specs.declared.summary.RowStanding.{RowStanding}
+use Rattle.fm_adm.specs.declared.summary.RowStanding.TheVariants as stands
 
 -- whether a word of this kind leaves its case so
-abbrev pub has_standing : Standing → ListKind → Bool
+abbrev pub has_standing : RowStanding → ListKind → Bool
 has_standing stands.Solved kind = is_solved kind
 has_standing stands.Upset kind.Upset = true
 has_standing stands.Undiagnosable kind.Undiagnosable = true
@@ -26,26 +26,26 @@ has_standing stands.Repaired kind.Repaired = true
 has_standing _ _ = false
 
 -- how many rows stand so
-abbrev pub rows_so : Standing → List ListEvent → ℕ
+abbrev pub rows_so : RowStanding → List ListEvent → ℕ
 rows_so standing rows = length (filter (λ row. has_standing standing row.kind) rows)
 
 -- how many entries there were
 abbrev pub entries_line : ℕ → List ℕ
-entries_line entries = counted (codes "entries ") entries ++ codes "\n"
+entries_line entries = named_count (codes "entries ") entries ++ codes "\n"
 
 -- how many cases are open and solved
 abbrev pub standing_part : ℕ → List ListEvent → List ℕ
-standing_part count rows = counted (codes "cases open ") count
-    ++ counted (codes " solved ") (rows_so stands.Solved rows)
+standing_part count rows = named_count (codes "cases open ") count
+    ++ named_count (codes " solved ") (rows_so stands.Solved rows)
 
 -- how many cases no fault explains
 abbrev pub unsolved_part : List ListEvent → List ℕ
-unsolved_part rows = counted (codes " upset ") (rows_so stands.Upset rows)
-    ++ counted (codes " undiagnosable ") (rows_so stands.Undiagnosable rows)
+unsolved_part rows = named_count (codes " upset ") (rows_so stands.Upset rows)
+    ++ named_count (codes " undiagnosable ") (rows_so stands.Undiagnosable rows)
 
 -- how many cases were repaired
 abbrev pub repaired_part : List ListEvent → List ℕ
-repaired_part rows = counted (codes " repaired ") (rows_so stands.Repaired rows) ++ codes "\n"
+repaired_part rows = named_count (codes " repaired ") (rows_so stands.Repaired rows) ++ codes "\n"
 
 -- how many cases were ended in another way
 abbrev pub ended_part : List ListEvent → List ℕ
@@ -61,7 +61,7 @@ abbrev pub line_case : CaseLine → CaseName
 line_case line = record { «module» = line.module; case = line.case }
 
 -- an open case, with the number of its reports
-abbrev pub open_line : OpenCase → CaseLine
+abbrev pub open_line : OpenReports → CaseLine
 open_line one = record {
   «module» = one.case.module;
   case = one.case.case;
@@ -79,7 +79,7 @@ solved_line row = record {
 }
 
 -- the lines of the open and of the solved cases
-abbrev pub standing_lines : List OpenCase → List ListEvent → List CaseLine
+abbrev pub standing_lines : List OpenReports → List ListEvent → List CaseLine
 standing_lines cases rows =
     map open_line cases ++ map solved_line (filter (λ row. is_solved row.kind) rows)
 
@@ -104,7 +104,7 @@ ByCase lines = IsSortedBy (λ x y. is_lt (case_cmp (line_case x) (line_case y)))
 
 -- The numbers, a line for each open or solved case in case order, and a line for each path that is
 -- wanted out of use, in path order.
-pub record IsSummary (entries : ℕ) (cases : List OpenCase) (rows : List ListEvent)
+pub record IsSummary (entries : ℕ) (cases : List OpenReports) (rows : List ListEvent)
     (text : List ℕ) : Type 0 where
   pub lines : List CaseLine
   pub wanted : List (List ℕ)

@@ -1,7 +1,7 @@
 //! The text of a configuration.
 
 ghost use Rattle.std.specs.Prelude.{◌≡◌, ◌++◌, OnOk, OnErr};
-ghost use Rattle.fm_adm.specs.Config.{counted, events_part, instances_part, listing_line};
+ghost use Rattle.fm_adm.specs.Config.{named_count, events_part, instances_part, listing_line};
 ghost use Rattle.uuid.specs.Text.{hyphenated_text, lower};
 ghost use Rattle.fm_adm.specs.Config.{listing_lines, namespace_line, config_text};
 
@@ -26,9 +26,9 @@ pub struct ModuleSizes {
 }
 
 /// Appends a name and a count behind it.
-#[tactic(auto, unfolding(crate::specs::Config::counted))]
-pub(crate) fn put_counted(name: &str, count: u64, out: &mut Vec<u8>) -> Result<(), NoMemory>
-    ensures { OnOk result (out.new.items ≡ out.old.items ++ counted name.now count) }
+#[tactic(auto, unfolding(crate::specs::Config::named_count))]
+pub(crate) fn put_named_count(name: &str, count: u64, out: &mut Vec<u8>) -> Result<(), NoMemory>
+    ensures { OnOk result (out.new.items ≡ out.old.items ++ named_count name.now count) }
 {
     put_text(name, out)?;
     put_number(count, out)
@@ -38,17 +38,17 @@ pub(crate) fn put_counted(name: &str, count: u64, out: &mut Vec<u8>) -> Result<(
 fn put_events_part(sizes: &ModuleSizes, out: &mut Vec<u8>) -> Result<(), NoMemory>
     ensures { OnOk result (out.new.items ≡ out.old.items ++ events_part sizes.now) }
 {
-    put_counted(" events ", sizes.events, out)?;
-    put_counted(" roots ", sizes.roots, out)?;
-    put_counted(" reports ", sizes.reports, out)
+    put_named_count(" events ", sizes.events, out)?;
+    put_named_count(" roots ", sizes.roots, out)?;
+    put_named_count(" reports ", sizes.reports, out)
 }
 
 /// Appends the counts of instances, which end the line.
 fn put_instances_part(sizes: &ModuleSizes, out: &mut Vec<u8>) -> Result<(), NoMemory>
     ensures { OnOk result (out.new.items ≡ out.old.items ++ instances_part sizes.now) }
 {
-    put_counted(" instances ", sizes.instances, out)?;
-    put_counted(" skipped ", sizes.skipped, out)?;
+    put_named_count(" instances ", sizes.instances, out)?;
+    put_named_count(" skipped ", sizes.skipped, out)?;
     put_text("\n", out)
 }
 
@@ -59,7 +59,7 @@ fn put_instances_part(sizes: &ModuleSizes, out: &mut Vec<u8>) -> Result<(), NoMe
 pub fn put_listing(number: u64, sizes: &ModuleSizes, out: &mut Vec<u8>) -> Result<(), NoMemory>
     ensures { OnOk result (out.new.items ≡ out.old.items ++ listing_line number sizes.now) }
 {
-    put_counted("dx", number, out)?;
+    put_named_count("dx", number, out)?;
     put_events_part(sizes, out)?;
     put_instances_part(sizes, out)
 }

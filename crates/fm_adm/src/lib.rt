@@ -17,7 +17,7 @@ mod summary;
 pub use config::{ModuleSizes, put_listing, write_config};
 pub use faulty::write_faulty;
 pub use fm_bytes::NoMemory;
-pub use summary::{OpenCase, write_summary};
+pub use summary::{OpenReports, write_summary};
 
 #[cfg(test)]
 mod tests;

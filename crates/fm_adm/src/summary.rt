@@ -10,7 +10,7 @@ ghost use Rattle.fm_adm.specs.Summary.{ended_part, counts_text, standing_lines, 
 ghost use Rattle.fm_adm.specs.Summary.{solved_line, case_line, retire_line, standing_text};
 ghost use Rattle.fm_adm.specs.Summary.{ByCase, IsSummary};
 
-use crate::config::put_counted;
+use crate::config::put_named_count;
 use fm_bytes::NoMemory;
 use fm_entry::{CaseName, ListEvent, ListKind};
 use fm_name::Fmri;
@@ -19,7 +19,7 @@ use std::alloc::Global;
 
 /// A case that is open, and the number of its reports.
 #[derive(Clone, Copy, Debug)]
-pub struct OpenCase {
+pub struct OpenReports {
     pub case: CaseName,
     pub reports: u64,
 }
@@ -35,7 +35,7 @@ struct CaseLine {
 
 /// How a case stands that was spoken of.
 #[derive(Clone, Copy, Debug)]
-enum Standing {
+enum RowStanding {
     /// It is solved, and not yet repaired.
     Solved,
     /// Only upsets explain it.
@@ -47,20 +47,20 @@ enum Standing {
 }
 
 /// Whether a word of this kind leaves its case so.
-fn has_standing(standing: Standing, kind: &ListKind) -> bool
+fn has_standing(standing: RowStanding, kind: &ListKind) -> bool
     ensures { result ≡ has_standing standing kind.now }
 {
     match (standing, kind) {
-        (Standing::Solved, kind) => is_solved(kind),
-        (Standing::Upset, ListKind::Upset) => true,
-        (Standing::Undiagnosable, ListKind::Undiagnosable) => true,
-        (Standing::Repaired, ListKind::Repaired) => true,
+        (RowStanding::Solved, kind) => is_solved(kind),
+        (RowStanding::Upset, ListKind::Upset) => true,
+        (RowStanding::Undiagnosable, ListKind::Undiagnosable) => true,
+        (RowStanding::Repaired, ListKind::Repaired) => true,
         _ => false,
     }
 }
 
 /// How many rows stand so.
-fn rows_so(standing: Standing, rows: &[&ListEvent]) -> usize
+fn rows_so(standing: RowStanding, rows: &[&ListEvent]) -> usize
     ensures { result ≡ rows_so standing (map (λ row. row.now) rows.now) }
 {
     let mut count = 0;
@@ -76,7 +76,7 @@ fn rows_so(standing: Standing, rows: &[&ListEvent]) -> usize
 fn put_entries_line(entries: u64, out: &mut Vec<u8>) -> Result<(), NoMemory>
     ensures { OnOk result (out.new.items ≡ out.old.items ++ entries_line entries) }
 {
-    put_counted("entries ", entries, out)?;
+    put_named_count("entries ", entries, out)?;
     put_text("\n", out)
 }
 
@@ -85,8 +85,8 @@ fn put_standing_part(count: usize, rows: &[&ListEvent], out: &mut Vec<u8>) -> Re
     ensures { OnOk result (out.new.items
         ≡ out.old.items ++ standing_part count (map (λ row. row.now) rows.now)) }
 {
-    put_counted("cases open ", count as u64, out)?;
-    put_counted(" solved ", rows_so(Standing::Solved, rows) as u64, out)
+    put_named_count("cases open ", count as u64, out)?;
+    put_named_count(" solved ", rows_so(RowStanding::Solved, rows) as u64, out)
 }
 
 /// Appends the numbers of cases that no fault explains.
@@ -94,9 +94,9 @@ fn put_unsolved_part(rows: &[&ListEvent], out: &mut Vec<u8>) -> Result<(), NoMem
     ensures { OnOk result (out.new.items
         ≡ out.old.items ++ unsolved_part (map (λ row. row.now) rows.now)) }
 {
-    let undiagnosable = rows_so(Standing::Undiagnosable, rows);
-    put_counted(" upset ", rows_so(Standing::Upset, rows) as u64, out)?;
-    put_counted(" undiagnosable ", undiagnosable as u64, out)
+    let undiagnosable = rows_so(RowStanding::Undiagnosable, rows);
+    put_named_count(" upset ", rows_so(RowStanding::Upset, rows) as u64, out)?;
+    put_named_count(" undiagnosable ", undiagnosable as u64, out)
 }
 
 /// Appends the number of repaired cases, which ends the line.
@@ -104,7 +104,11 @@ fn put_repaired_part(rows: &[&ListEvent], out: &mut Vec<u8>) -> Result<(), NoMem
     ensures { OnOk result (out.new.items
         ≡ out.old.items ++ repaired_part (map (λ row. row.now) rows.now)) }
 {
-    put_counted(" repaired ", rows_so(Standing::Repaired, rows) as u64, out)?;
+    put_named_count(
+        " repaired ",
+        rows_so(RowStanding::Repaired, rows) as u64,
+        out,
+    )?;
     put_text("\n", out)
 }
 
@@ -133,7 +137,7 @@ fn put_counts(
 }
 
 /// Appends a line for each open case.
-fn push_open(open_cases: &[OpenCase], lines: &mut Vec<CaseLine>) -> Result<(), NoMemory>
+fn push_open(open_cases: &[OpenReports], lines: &mut Vec<CaseLine>) -> Result<(), NoMemory>
     ensures { OnOk result (lines.new.items ≡ lines.old.items ++ map open_line open_cases.now) }
 {
     'cases: for one in open_cases {
@@ -168,7 +172,7 @@ fn push_solved(rows: &[&ListEvent], lines: &mut Vec<CaseLine>) -> Result<(), NoM
 /// The lines of the open and of the solved cases, in case order.
 fn lines_of_cases(
     alloc: Global,
-    open_cases: &[OpenCase],
+    open_cases: &[OpenReports],
     rows: &[&ListEvent],
 ) -> Result<Vec<CaseLine>, NoMemory>
     ensures all { IfOk result (λ lines.
@@ -242,7 +246,7 @@ fn put_retire_lines(paths: &[Fmri], out: &mut Vec<u8>) -> Result<(), NoMemory>
 pub fn write_summary(
     alloc: Global,
     entries: u64,
-    open_cases: &[OpenCase],
+    open_cases: &[OpenReports],
     status: &Status,
     out: &mut Vec<u8>,
 ) -> Result<(), NoMemory>

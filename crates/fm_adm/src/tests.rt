@@ -1,6 +1,6 @@
 //! What an operator is shown of some cases.
 
-use crate::{ModuleSizes, OpenCase, write_config, write_faulty, write_summary};
+use crate::{ModuleSizes, OpenReports, write_config, write_faulty, write_summary};
 use fm_entry::{
     BrokenLinks, CaseName, EventNames, ListEvent, ListEvents, ListKind, Mark, Spoken, Suspect,
     Suspects,
@@ -108,7 +108,7 @@ fn is_summary(
     rt: &impl Abort,
     alloc: Global,
     entries: u64,
-    open: &[OpenCase],
+    open: &[OpenReports],
     status: &Status,
     wanted: &str,
 ) {
@@ -191,12 +191,12 @@ fn sums_up_nothing(rt: HostRuntime) {
     );
 }
 
-const OPEN: [OpenCase; 2] = [
-    OpenCase {
+const OPEN: [OpenReports; 2] = [
+    OpenReports {
         case: CaseName { module: 0, case: 9 },
         reports: 12,
     },
-    OpenCase {
+    OpenReports {
         case: CaseName { module: 1, case: 0 },
         reports: 1,
     },
