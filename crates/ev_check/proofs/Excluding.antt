@@ -7,7 +7,7 @@ use Rattle.ev_ways.specs.Ways.{Leads, Reaches, Way}
 use Rattle.ev_ways.specs.Cycle.{IsRing}
 use Rattle.ev_ways.proofs.Walks.{way_more}
 use Rattle.ev_tree.specs.declared.tree.Statement.{Statement}
-use Rattle.ev_check.specs.declared.kinds.CheckKind.{CheckKind}
+use Rattle.ev_words.specs.declared.kinds.CheckKind.{CheckKind}
 use Rattle.ev_check.specs.declared.kinds.CheckFault.{CheckFault}
 use Rattle.ev_check.specs.declared.kinds.CheckFault.TheVariants.{At, NoMemory}
 use Rattle.ev_check.specs.Drawn.{causes_in, effects_in}

@@ -10,8 +10,8 @@ use Rattle.std.proofs.lemmas.List.Elements.{filter_map-append}
 use Rattle.ev_tree.specs.declared.tree.Statement.{Statement}
 use Rattle.ev_tree.specs.Rule.{place_of}
 use Rattle.ev_tree.specs.declared.tree.Declared.{Declared}
-use Rattle.ev_check.specs.declared.kinds.CheckKind.{CheckKind}
-use Rattle.ev_check.specs.declared.kinds.CheckKind.TheVariants.{Twice, Undeclared}
+use Rattle.ev_words.specs.declared.kinds.CheckKind.{CheckKind}
+use Rattle.ev_words.specs.declared.kinds.CheckKind.TheVariants.{Twice, Undeclared}
 use Rattle.ev_check.specs.Declarations.{events_in, engines_in, is_again, names_undeclared}
 use Rattle.ev_check.specs.Declarations.{twice_after, undeclared_among}
 use Rattle.ev_check.specs.Faults.{Phase, IsClean, IsFirst, Passes}

@@ -18,10 +18,10 @@ use Rattle.ev_tree.specs.declared.tree.SidePattern.{SidePattern}
 use Rattle.ev_tree.specs.declared.tree.Statement.{Statement}
 use Rattle.ev_tree.specs.declared.tree.Statement.TheVariants as statements
 use Rattle.ev_ways.specs.Ways.{Reaches}
-use Rattle.ev_check.specs.declared.kinds.CheckKind.TheVariants.{BadKind, Twice, Missing, BadCount}
-use Rattle.ev_check.specs.declared.kinds.CheckKind.TheVariants.{BadTime, FreeIterator}
-use Rattle.ev_check.specs.Attributes.{is_from}
-use Rattle.ev_check.specs.Categories.{is_side, is_report}
+use Rattle.ev_words.specs.declared.kinds.CheckKind.TheVariants.{BadKind, Twice, Missing, BadCount}
+use Rattle.ev_words.specs.declared.kinds.CheckKind.TheVariants.{BadTime, FreeIterator}
+use Rattle.ev_words.specs.Attributes.{is_from}
+use Rattle.ev_words.specs.Categories.{is_side, is_report}
 use Rattle.ev_check.specs.CheckedFile.{CheckedFile, Linking, IsFileOf, event_spec, linking}
 use Rattle.ev_check.specs.CheckedFile.{view_prop}
 use Rattle.ev_check.specs.Declarations.{declared_number, event_in, events_in, engines_in}
@@ -29,18 +29,18 @@ use Rattle.ev_check.specs.Declarations.{is_declared, is_undeclared, names_undecl
 use Rattle.ev_check.specs.Declarations.{undeclared_among}
 use Rattle.ev_check.specs.Drawn.{causes_in, causes_of, effects_in, effects_of, side_numbers}
 use Rattle.ev_check.specs.Faults.{IsChecked, Passes, in_itself, finds_undeclared}
-use Rattle.ev_check.specs.Iterators.{goes_down, has_odd_name, is_down, is_free, is_horizontal}
-use Rattle.ev_check.specs.Iterators.{is_long, is_mixed, is_mixed_at, is_vertical}
+use Rattle.ev_words.specs.Iterators.{goes_down, has_odd_name, is_down, is_free, is_horizontal}
+use Rattle.ev_words.specs.Iterators.{is_long, is_mixed, is_mixed_at, is_vertical}
 use Rattle.ev_check.specs.Lawful.{IsLawfulAt, IsLawfulFile, IsLawfulLinking, IsLawfulPart}
 use Rattle.ev_check.specs.Lawful.{IsLawfulPattern, linking_causes, file_events, linking_effects}
 use Rattle.ev_check.specs.Lawful.{spec_event, is_vertical_in, is_vertical_of, pattern_numbers}
 use Rattle.ev_check.specs.Lawful.{pattern_subject}
-use Rattle.ev_check.specs.Operands.{operands_at}
+use Rattle.ev_words.specs.Operands.{operands_at}
 use Rattle.ev_check.specs.Sound.{IsSound}
-use Rattle.ev_check.specs.Words.{asks_oddly, has_bad_count, has_bad_kind, has_bad_time, has_twice}
-use Rattle.ev_check.specs.Words.{has_free_iterator, is_missing}
-use Rattle.ev_check.specs.Words.{has_odd_part, is_odd_at, is_odd_part, is_odd_side, word_of}
-use Rattle.ev_check.specs.Words.{is_odd_count}
+use Rattle.ev_words.specs.Words.{asks_oddly, has_bad_count, has_bad_kind, has_bad_time, has_twice}
+use Rattle.ev_words.specs.Words.{has_free_iterator, is_missing}
+use Rattle.ev_words.specs.Words.{has_odd_part, is_odd_at, is_odd_part, is_odd_side, word_of}
+use Rattle.ev_words.specs.Words.{is_odd_count}
 
 -- ---- tests that fail
 

@@ -1,10 +1,8 @@
 pub mod Finding
 pub mod Building
 pub mod Drawings
-pub mod Gathering
 pub mod Tripping
 pub mod Answering
-pub mod Naming
 pub mod Pairing
 pub mod Bounds
 pub mod Excluding

@@ -7,7 +7,7 @@ use Rattle.fm_name.specs.Category.{category_of}
 use Rattle.ev_ways.specs.Lists.{IsIn}
 use Rattle.ev_ways.proofs.Membership.{in_either, in_last, in_old}
 use Rattle.ev_tree.specs.declared.tree.Declared.{Declared}
-use Rattle.ev_check.specs.Categories.{is_upset}
+use Rattle.ev_words.specs.Categories.{is_upset}
 use Rattle.ev_check.proofs.Drawings.{below_push}
 use Rattle.std.proofs.lemmas.Option.{same_Some, slice_get_read, slice_get_within}
 use Rattle.ev_ways.specs.Search.{AreDistances, far}

@@ -16,7 +16,7 @@ use Rattle.ev_check.specs.declared.checked.DeclKind.TheVariants as kinds
 use Rattle.ev_check.specs.declared.checked.EventSpec.{EventSpec}
 use Rattle.ev_check.specs.declared.checked.SerdSpec.{SerdSpec}
 use Rattle.ev_check.specs.declared.checked.PropSpec.{PropSpec}
-use Rattle.ev_check.specs.Attributes.{engine_value}
+use Rattle.ev_words.specs.Attributes.{engine_value}
 use Rattle.ev_check.specs.Declarations.{events_in, engines_in}
 use Rattle.ev_check.specs.Defaults.{first_by, fit_of, retire_of, within_of, n_of, t_of}
 use Rattle.ev_check.specs.Drawn.{number_at, trip_among}

@@ -3,7 +3,7 @@ use Rattle.std.specs.Prelude.{ℕ, Bool, false, not, ◌&&◌, ◌||◌, List, �
 use Rattle.std.specs.Prelude.{if◌then◌else◌, position, filter_map}
 use Rattle.std.specs.List.{list_any}
 use Rattle.std.specs.Cmp.Lexicographic.{pointwise}
-use Rattle.ev_check.specs.Iterators.{same_name}
+use Rattle.ev_words.specs.Iterators.{same_name}
 use Rattle.ev_tree.specs.declared.tree.Declared.{Declared}
 use Rattle.ev_tree.specs.declared.tree.EventAttr.{EventAttr}
 use Rattle.ev_tree.specs.declared.tree.EventAttr.TheVariants as event_attrs
@@ -13,8 +13,8 @@ use Rattle.ev_tree.specs.declared.tree.Part.{Part}
 use Rattle.ev_tree.specs.declared.tree.SidePattern.{SidePattern}
 use Rattle.ev_tree.specs.declared.tree.Statement.{Statement}
 use Rattle.ev_tree.specs.declared.tree.Statement.TheVariants as statements
-use Rattle.ev_check.specs.declared.kinds.CheckKind.{CheckKind}
-use Rattle.ev_check.specs.declared.kinds.CheckKind.TheVariants.{Twice, Undeclared}
+use Rattle.ev_words.specs.declared.kinds.CheckKind.{CheckKind}
+use Rattle.ev_words.specs.declared.kinds.CheckKind.TheVariants.{Twice, Undeclared}
 
 -- the event that a statement declares, and the engine
 abbrev pub event_in : Statement → Option Declared

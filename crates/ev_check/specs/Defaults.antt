@@ -3,7 +3,7 @@ use Rattle.std.specs.Prelude.{ℕ, Bool, ◌==◌, min, List, [], ◌∷◌, Opt
 use Rattle.std.specs.Option.{unwrap_or}
 use Rattle.ev_tree.specs.declared.tree.EventAttr.{EventAttr}
 use Rattle.ev_tree.specs.declared.tree.EngineAttr.{EngineAttr}
-use Rattle.ev_check.specs.Attributes.{fit_value, retire_value, within_value, n_value, t_value}
+use Rattle.ev_words.specs.Attributes.{fit_value, retire_value, within_value, n_value, t_value}
 
 -- the one, or else the other
 abbrev pub or_else : {B : Type 0} → Option B → Option B → Option B

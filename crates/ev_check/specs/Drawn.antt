@@ -1,11 +1,12 @@
 -- The arrows between the declared events: one for each propagation statement, in order.
-use Rattle.std.specs.Prelude.{ℕ, List, Option, Some, None, filter_map}
+use Rattle.std.specs.Prelude.{◌≡◌, ℕ, List, Option, Some, None, length, filter_map}
 use Rattle.ev_tree.specs.declared.tree.Declared.{Declared}
 use Rattle.ev_tree.specs.declared.tree.SidePattern.{SidePattern}
 use Rattle.ev_tree.specs.declared.tree.Statement.{Statement}
 use Rattle.ev_tree.specs.declared.tree.Statement.TheVariants as statements
 use Rattle.ev_check.specs.Declarations.{events_in, declared_number, subject_of}
-use Rattle.ev_check.specs.Attributes.{trip_value}
+use Rattle.ev_ways.specs.Drawing.{Drawing}
+use Rattle.ev_words.specs.Attributes.{trip_value}
 use Rattle.ev_check.specs.Defaults.{first_by}
 
 -- the number of the event that a pattern is of, where it is declared
@@ -31,6 +32,13 @@ causes_in ss = filter_map (causes_of (events_in ss)) ss
 
 abbrev pub effects_in : List Statement → List (List ℕ)
 effects_in ss = filter_map (effects_of (events_in ss)) ss
+
+-- these are the events of the file, and this is the drawing of its arrows between them
+pub record AreArrowsOf (ss : List Statement) (ds : List Declared) (d : Drawing) : Type 0 where
+  pub events : ds ≡ events_in ss
+  pub nodes : d.nodes ≡ length ds
+  pub causes : d.causes ≡ causes_in ss
+  pub effects : d.effects ≡ effects_in ss
 
 -- the number of the event of this class, where there is one, at these names
 abbrev pub number_at : List Declared → List (List ℕ) → Option (List ℕ) → Option ℕ

@@ -10,14 +10,14 @@ use Rattle.ev_ways.specs.Lists.{AllBelow, IsIn}
 use Rattle.ev_ways.specs.Ways.{Way, Reaches}
 use Rattle.ev_ways.specs.Search.{far}
 use Rattle.ev_ways.specs.Cycle.{IsFirstCycle}
-use Rattle.ev_check.specs.declared.kinds.CheckKind.{CheckKind}
-use Rattle.ev_check.specs.declared.kinds.CheckKind.TheVariants.{UpsetTrips, Cycle}
+use Rattle.ev_words.specs.declared.kinds.CheckKind.{CheckKind}
+use Rattle.ev_words.specs.declared.kinds.CheckKind.TheVariants.{UpsetTrips, Cycle}
 use Rattle.ev_check.specs.declared.kinds.CheckFault.{CheckFault}
 use Rattle.ev_check.specs.declared.kinds.CheckFault.TheVariants.{At, NoMemory}
-use Rattle.ev_check.specs.Categories.{is_upset}
+use Rattle.ev_words.specs.Categories.{is_upset}
 use Rattle.ev_check.specs.Declarations.{events_in, engines_in, twice_after, undeclared_among}
 use Rattle.ev_check.specs.Drawn.{causes_in, effects_in, trip_in}
-use Rattle.ev_check.specs.Words.{word_of}
+use Rattle.ev_words.specs.Words.{word_of}
 
 -- A phase tells what it finds at a statement, after the ones before it.
 abbrev pub Phase : Type 0

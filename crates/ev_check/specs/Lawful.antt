@@ -10,12 +10,12 @@ use Rattle.ev_tree.specs.declared.tree.Declared.{Declared}
 use Rattle.ev_tree.specs.declared.tree.Part.{Part}
 use Rattle.ev_ways.specs.Ways.{Reaches}
 use Rattle.ev_check.specs.declared.checked.EventSpec.{EventSpec}
-use Rattle.ev_check.specs.Categories.{is_report, is_side}
+use Rattle.ev_words.specs.Categories.{is_report, is_side}
 use Rattle.ev_check.specs.CheckedFile.{CheckedFile, Linking, view_prop}
 use Rattle.ev_check.specs.Declarations.{declared_number, is_declared, name_of}
-use Rattle.ev_check.specs.Iterators.{goes_down}
-use Rattle.ev_check.specs.Operands.{operands_if}
-use Rattle.ev_check.specs.Words.{is_payload}
+use Rattle.ev_words.specs.Iterators.{goes_down}
+use Rattle.ev_words.specs.Operands.{operands_if}
+use Rattle.ev_words.specs.Words.{is_payload}
 
 -- what the pattern is of: its class at the names of its parts
 abbrev pub pattern_subject : Pattern → Declared

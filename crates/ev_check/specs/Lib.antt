@@ -1,8 +1,8 @@
-pub mod Operands
-pub mod Categories
-pub mod Attributes
-pub mod Iterators
-pub mod Words
+pub use Rattle.ev_words.specs.Operands
+pub use Rattle.ev_words.specs.Categories
+pub use Rattle.ev_words.specs.Attributes
+pub use Rattle.ev_words.specs.Iterators
+pub use Rattle.ev_words.specs.Words
 pub mod Declarations
 pub mod Defaults
 pub mod Drawn

@@ -2,7 +2,7 @@
 ghost use Rattle.std.specs.Prelude.{◌≡◌, ◌++◌, map, IfOk, OnOk, option_to_list, filter_map};
 ghost use Rattle.std.specs.Option.{unwrap_or};
 ghost use Rattle.fm_name.specs.Category.{category_of};
-ghost use Rattle.ev_check.specs.Attributes.{engine_value};
+ghost use Rattle.ev_words.specs.Attributes.{engine_value};
 ghost use Rattle.ev_check.specs.CheckedFile.{IsFileOf, event_spec, kind_of, linking, serd_spec};
 ghost use Rattle.ev_check.specs.CheckedFile.{view_prop};
 ghost use Rattle.ev_tree.specs.Pattern.{view_pattern};

@@ -3,14 +3,15 @@ ghost use Rattle.std.specs.Prelude.{◌≡◌, ◌<◌, ◌++◌, length, slice_
 ghost use Rattle.std.specs.Prelude.{IfOk, OnOk, IfErr, filter_map};
 ghost use Rattle.ev_ways.specs.Cycle.{IsFirstCycle};
 ghost use Rattle.ev_check.specs.Declarations.{events_in};
-ghost use Rattle.ev_check.specs.Drawn.{causes_in, effects_in};
+ghost use Rattle.ev_check.specs.Drawn.{AreArrowsOf, causes_in, effects_in};
 ghost use Rattle.ev_check.specs.Faults.{IsAcyclic, IsAnswer, IsCycleAnswer, event_place};
 
 use crate::declared_set::DeclaredSet;
-use crate::kinds::{CheckFault, CheckKind, Members};
+use crate::kinds::CheckFault;
 use crate::known::Known;
 use ev_tree::{Declared, Statement};
 use ev_ways::Arrows;
+use ev_words::{CheckKind, Members};
 use fm_bytes::{Copies, NoMemory};
 use std::alloc::Global;
 
@@ -97,10 +98,7 @@ pub(crate) fn check_cycle(
     events: &DeclaredSet,
     arrows: &Arrows,
 ) -> Result<(), CheckFault>
-    requires events { events.now ≡ events_in statements.now }
-    requires nodes { arrows.now.nodes ≡ length events.now }
-    requires causes { arrows.now.causes ≡ causes_in statements.now }
-    requires effects { arrows.now.effects ≡ effects_in statements.now }
+    requires { AreArrowsOf statements.now events.now arrows.now }
     ensures ok { OnOk result (IsAcyclic statements.now) }
     ensures err { IfErr result (IsAnswer (IsCycleAnswer statements.now)) }
 {

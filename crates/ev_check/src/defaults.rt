@@ -1,12 +1,12 @@
 //! What the attributes of an event or an engine say, with their defaults.
 ghost use Rattle.std.specs.Prelude.{◌≡◌, ◌==◌, min, option_copied};
 ghost use Rattle.std.specs.Option.{unwrap_or};
-ghost use Rattle.ev_check.specs.Attributes.{fit_value, retire_value, engine_value, within_value};
-ghost use Rattle.ev_check.specs.Attributes.{n_value, t_value, trip_value};
+ghost use Rattle.ev_words.specs.Attributes.{fit_value, retire_value, engine_value, within_value};
+ghost use Rattle.ev_words.specs.Attributes.{n_value, t_value, trip_value};
 ghost use Rattle.ev_check.specs.Defaults.{first_by, fit_of, retire_of, within_of, n_of, t_of};
 
-use crate::attributes::nanoseconds;
 use ev_tree::{EngineAttr, EventAttr};
+use ev_words::nanoseconds;
 use fm_name::Class;
 
 /// The value of the attribute, where it is `FITrate`.

@@ -6,12 +6,11 @@ ghost use Rattle.std.specs.Cmp.Lexicographic.{bytes_decides};
 ghost use Rattle.std.specs.Hash as fed;
 ghost use Rattle.std.specs.Hash.{and-Alike, on_Alike, items_Alike, same_Alike};
 ghost use Rattle.std.specs.List.{flat_map, list_all};
-ghost use Rattle.ev_check.specs.Iterators.{same_name};
+ghost use Rattle.ev_words.specs.Iterators.{same_name};
 ghost use Rattle.ev_check.specs.Declarations.{is_alike, class_names};
 
-use crate::attributes::both;
-use crate::iterators::is_same;
 use ev_tree::{Declared, TreeText};
+use ev_words::{both, is_same};
 use std::hash::{Hash, Hasher};
 use std::marker::Model;
 

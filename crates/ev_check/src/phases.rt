@@ -5,10 +5,10 @@ ghost use Rattle.ev_check.specs.Declarations.{is_again, twice_after};
 ghost use Rattle.ev_check.specs.Faults.{IsAnswer, IsFirst, Passes, in_itself, finds_undeclared};
 
 use crate::declared_set::DeclaredSet;
-use crate::kinds::{CheckFault, CheckKind};
+use crate::kinds::CheckFault;
 use crate::undeclared::{is_again, known, names_undeclared};
-use crate::words::word_of;
 use ev_tree::Statement;
+use ev_words::{CheckKind, word_of};
 use fm_bytes::NoMemory;
 use std::alloc::Global;
 

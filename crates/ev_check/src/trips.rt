@@ -2,22 +2,22 @@
 ghost use Rattle.std.specs.Prelude.{◌≡◌, ◌<◌, ◌^◌, ◌++◌, ◌∷◌, [], if◌then◌else◌, length, ℕ, Some};
 ghost use Rattle.std.specs.Prelude.{IsTrue, false, IfOk, OnOk, IfErr};
 ghost use Rattle.fm_name.specs.Category.{category_of};
-ghost use Rattle.ev_check.specs.Categories.{is_upset};
+ghost use Rattle.ev_words.specs.Categories.{is_upset};
 ghost use Rattle.ev_ways.specs.Lists.{AllBelow};
 ghost use Rattle.ev_ways.specs.Search.{AreDistances, far};
 ghost use Rattle.ev_check.specs.Declarations.{events_in};
-ghost use Rattle.ev_check.specs.Drawn.{causes_in, effects_in, trip_among};
+ghost use Rattle.ev_check.specs.Drawn.{AreArrowsOf, causes_in, effects_in, trip_among};
 ghost use Rattle.ev_check.specs.Faults.{AreUpsets, IsAnswer, IsTripAnswer, IsTripFree, has_far};
 ghost use Rattle.ev_check.specs.Faults.{IsTripped};
 
-use crate::categories::is_upset;
 use crate::declared_set::DeclaredSet;
 use crate::defaults::first_trip;
-use crate::kinds::{CheckFault, CheckKind};
+use crate::kinds::CheckFault;
 use crate::known::Known;
 use crate::undeclared::declared_at;
 use ev_tree::Statement;
 use ev_ways::Arrows;
+use ev_words::{CheckKind, is_upset};
 use fm_bytes::NoMemory;
 use std::alloc::Global;
 
@@ -120,10 +120,7 @@ pub(crate) fn check_trips(
     events: &DeclaredSet,
     arrows: &Arrows,
 ) -> Result<(), CheckFault>
-    requires events { events.now ≡ events_in statements.now }
-    requires nodes { arrows.now.nodes ≡ length events.now }
-    requires causes { arrows.now.causes ≡ causes_in statements.now }
-    requires effects { arrows.now.effects ≡ effects_in statements.now }
+    requires { AreArrowsOf statements.now events.now arrows.now }
     ensures ok { OnOk result (IsTripFree statements.now) }
     ensures err { IfErr result (IsAnswer (IsTripAnswer statements.now)) }
 {

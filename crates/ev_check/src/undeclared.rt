@@ -5,10 +5,10 @@ ghost use Rattle.ev_check.specs.Declarations.{is_again, is_declared, is_undeclar
 ghost use Rattle.ev_check.specs.Declarations.{is_undeclared_engine, is_undeclared_trip};
 ghost use Rattle.ev_check.specs.Declarations.{names_undeclared, subject_of};
 
-use crate::attributes::either;
 use crate::declared_set::DeclaredSet;
 use crate::known::Known;
 use ev_tree::{Declared, EngineAttr, EventAttr, Names, Part, SidePattern, Statement};
+use ev_words::either;
 use fm_bytes::{Copies, NoMemory};
 use fm_name::Class;
 use std::alloc::Global;

@@ -2,6 +2,22 @@ use Rattle.std.proofs.lemmas.Result.{err_from_is_err_and}
 use Rattle.ev_check.proofs.Answering.{by_cycle, by_trips}
 use Rattle.ev_check.proofs.checking.check_arrows.Goals as goal
 
+pub check_trips-requires : goal.check_trips-requires
+check_trips-requires c = record {
+  events = c.requires;
+  nodes = c.in_ok-arrows.ensures.nodes;
+  causes = c.in_ok-arrows.ensures.causes;
+  effects = c.in_ok-arrows.ensures.effects;
+}
+
+pub check_cycle-requires : goal.check_cycle-requires
+check_cycle-requires c = record {
+  events = c.requires;
+  nodes = c.in_ok-arrows.ensures.nodes;
+  causes = c.in_ok-arrows.ensures.causes;
+  effects = c.in_ok-arrows.ensures.effects;
+}
+
 pub returns-in_err-check_trips-clause-err : goal.returns-in_err-check_trips-clause-err
 returns-in_err-check_trips-clause-err c =
     let p = err_from_is_err_and c.from_residual-in_err-check_trips.result

@@ -1,5 +1,5 @@
 use Rattle.std.proofs.Common.{◌≡◌, drop}
-use Rattle.ev_check.specs.Attributes.{n_value}
+use Rattle.ev_words.specs.Attributes.{n_value}
 use Rattle.ev_check.specs.Defaults.{first_by}
 use Rattle.ev_check.proofs.defaults.first_n.Given as goal
 

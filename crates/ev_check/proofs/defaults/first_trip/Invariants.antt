@@ -1,5 +1,5 @@
 use Rattle.std.proofs.Common.{◌≡◌, drop}
-use Rattle.ev_check.specs.Attributes.{trip_value}
+use Rattle.ev_words.specs.Attributes.{trip_value}
 use Rattle.ev_check.specs.Defaults.{first_by}
 use Rattle.ev_check.proofs.defaults.first_trip.Given as goal
 

@@ -1,9 +1,0 @@
-use Rattle.std.proofs.Common.{◌≡◌, take, false}
-use Rattle.std.specs.List.{list_any}
-use Rattle.indexmap.specs.IndexSet.{contains_text}
-use Rattle.ev_check.specs.Iterators.{is_mixed}
-use Rattle.ev_check.proofs.iterators.any_mixed.Given as goal
-
-abbrev pub invariant-loop-part : goal.invariant-loop-part
-invariant-loop-part l =
-    list_any (is_mixed (contains_text l.down)) (take l.part-index l.parts) ≡ false

@@ -1,0 +1,5 @@
+pub mod Operands
+pub mod Categories
+pub mod Attributes
+pub mod Iterators
+pub mod Words
