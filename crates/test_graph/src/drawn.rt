@@ -19,6 +19,7 @@ pub struct Draws {
 }
 
 impl Draws {
+    /// The numbers that follow from this one.
     pub fn new(seed: u64) -> Draws {
         Draws { state: seed }
     }
