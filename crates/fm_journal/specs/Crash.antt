@@ -1,9 +1,10 @@
 -- What a crash may leave of a journal that is written.
 use Rattle.std.specs.Prelude.{◌≡◌, ◌⊎◌, ℕ, List, [], ◌∷◌, ◌++◌, length, take, Result, Ok, Err}
-use Rattle.fm_outer.specs.Moments.{LeavesOnly}
+use Rattle.fm_outer.specs.Moments.{IsSettled, LeavesOnly}
 use Rattle.fm_outer.specs.declared.disk.Disk.{Ghosts}
 use Rattle.fm_journal.specs.Format.{IsJournal}
 use Rattle.fm_journal.specs.JournalOf.{JournalOf}
+use Rattle.fm_journal.specs.declared.fault.JournalFault.TheVariants.{Damaged}
 use Rattle.fm_journal.specs.declared.fault.Refused.{Refused}
 
 -- the bytes are a journal of these payloads, or of these with one more
@@ -47,3 +48,9 @@ HasTwoPhases g old (Err refused) = StartsOrStops g old refused.disk
 abbrev pub disk_back : {D : Type 0} → Result (JournalOf D) (Refused D) → D
 disk_back (Ok journal) = journal.disk
 disk_back (Err refused) = refused.disk
+
+-- all of the disk that comes back is synced, of a journal and of bytes that are none
+abbrev pub IsBackSettled : {D : Type 0} → Ghosts D → Result (JournalOf D) (Refused D) → Type 0
+IsBackSettled g (Ok journal) = IsSettled g journal.disk
+IsBackSettled g (Err refused) =
+    (place : ℕ) → refused.fault ≡ Damaged place → IsSettled g refused.disk

@@ -6,7 +6,7 @@ ghost use Rattle.std.specs.Option.{option_map};
 ghost use Rattle.fm_outer.specs.Bytes.{written};
 ghost use Rattle.fm_outer.specs.Moments.{LeavesOnly, OnlyRead};
 ghost use Rattle.fm_journal.specs.Causes.{refusal, AppendCause, CreateCause, OpenCause, PlaceCause};
-ghost use Rattle.fm_journal.specs.Crash.{IsOldOrNew, HasTwoPhases, disk_back};
+ghost use Rattle.fm_journal.specs.Crash.{IsOldOrNew, HasTwoPhases, IsBackSettled, disk_back};
 ghost use Rattle.fm_journal.specs.Format.{header, framed, end_of, IsJournal};
 ghost use Rattle.fm_journal.specs.JournalOf.{blank_journal, appended};
 ghost use Rattle.fm_journal.specs.Keeps.{Keeps};
@@ -85,6 +85,7 @@ impl<D: Disk> Journal<D> {
         ensures found { IfOk result (λ journal. (bytes : List ℕ) → D.seen disk ≡ Some bytes
             → (payloads : List (List ℕ)) × Keeps D.Disk journal payloads) }
         ensures is_open { IfOk result (λ journal. journal.closed ≡ None) }
+        ensures settled { IsBackSettled D.Disk result }
         ensures still { OnlyRead D.Disk disk (disk_back result) }
         ensures cause { IfErr result (λ refused.
             OpenCause (D.seen disk) (D.failures disk) (D.failures refused.disk) refused.fault) }
@@ -216,8 +217,19 @@ impl<D: Disk> Journal<D> {
     pub fn count(&self) -> u64
         ensures value { result ≡ self.now.count }
         ensures small { result < 2 ^ 32 }
+        ensures numbered { self.now.first + result ≤ 2 ^ 46 }
     {
         self.count
+    }
+
+    /// The place behind the last record, where the closed gate stands.
+    pub fn end(&self) -> u64
+        ensures value { result ≡ self.now.end }
+        ensures behind_all { (payloads : List (List ℕ)) → Keeps D.Disk self.now payloads
+            → result ≡ end_of payloads }
+        ensures small { result < 2 ^ 40 }
+    {
+        self.end
     }
 
     /// The disk's count of failures when an append failed, after which the journal takes no more;

@@ -6,6 +6,7 @@ ghost use Rattle.fm_outer.specs.Moments.{IsSettled, OnlyRead};
 ghost use Rattle.fm_journal.specs.Causes.{OpenCause};
 ghost use Rattle.fm_journal.specs.Format.{header};
 ghost use Rattle.fm_journal.specs.Look.{IsFound, IsBounded, IsPiece};
+ghost use Rattle.fm_journal.specs.declared.fault.JournalFault.TheVariants.{Damaged};
 
 use crate::JournalFault;
 use crate::header::first_of;
@@ -78,6 +79,8 @@ pub(crate) fn scan<D: Disk>(disk: &mut D) -> Result<Scanned, JournalFault>
     ensures bounded { IfOk result
         (λ scanned. IsBounded scanned.first scanned.count scanned.end) }
     ensures settled { OnOk result (IsSettled D.Disk disk.new) }
+    ensures settled_damaged { IfErr result (λ fault. (place : ℕ) → fault ≡ Damaged place
+        → IsSettled D.Disk disk.new) }
     ensures cause { IfErr result
         (OpenCause (D.seen disk.old) (D.failures disk.old) (D.failures disk.new)) }
     ensures count_kept { OnOk result (D.failures disk.new ≡ D.failures disk.old) }
