@@ -1,0 +1,19 @@
+//! Laws of the tests of cases.
+
+ghost use Rattle.dx_words.specs.Laws.{ExplainsIs, PendingIs, WaitsIs};
+
+/// A root explains what was seen exactly where some story of it has just that as its reports.
+pub fn explains_is()
+    ensures { ExplainsIs }
+{}
+
+/// A report is pending exactly where some story, of some root, that has all that was observed and
+/// no report but those allowed has it too.
+pub fn pending_is()
+    ensures { PendingIs }
+{}
+
+/// A case waits exactly where some report is pending.
+pub fn waits_is()
+    ensures { WaitsIs }
+{}
