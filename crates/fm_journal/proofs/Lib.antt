@@ -10,3 +10,5 @@ pub mod Started
 pub mod Looking
 pub mod Places
 pub mod Walks
+pub mod Copying
+pub mod Reading

@@ -1,16 +1,24 @@
 -- What the bytes at a gate tell of it.
 use Rattle.std.proofs.Common.{◌≡◌, ◌≢◌, ℕ, ◌+◌, ◌-◌, ◌<◌, ◌≤◌, ◌^◌, List, [], ◌∷◌, ◌++◌, length}
 use Rattle.std.proofs.Common.{take, drop, get_or, refl, sym, ◌∙◌, ap, arith, length-append}
-use Rattle.std.proofs.Common.{length-drop, append_assoc}
-use Rattle.std.proofs.lemmas.List.{drop_more, length-take-le}
+use Rattle.std.proofs.Common.{length-drop, append_assoc, subst}
+use Rattle.std.proofs.lemmas.List.{drop_more, length-take-le, take_all}
 use Rattle.byteorder.specs.Endian.{big_bytes}
 use Rattle.fm_outer.specs.Bytes.{range}
 use Rattle.fm_journal.specs.Format.{spelled}
 use Rattle.fm_journal.specs.Look.{IsRecordAt, Shows}
+use Rattle.fm_journal.specs.declared.look.Look.{Look}
 use Rattle.fm_journal.specs.declared.look.Look.TheVariants.{Shut, Record, Bad}
 use Rattle.fm_outer.proofs.Numbers.{length-big_bytes, same_number}
 use Rattle.fm_outer.proofs.Ranges.{same_parts, split_range, range-range}
 use Rattle.fm_journal.proofs.Records.{length-spelled}
+
+-- what is shown of all bytes, by the name that a case gives it
+pub shown_as : (size : ℕ) (bytes : List ℕ) (at : ℕ) (look other : Look) → size ≡ length bytes
+    → Shows (take size bytes) at look → look ≡ other → Shows bytes at other
+shown_as size bytes at look other long shows is =
+    subst (λ (l : Look). Shows bytes at l) is
+    (subst (λ (xs : List ℕ). Shows xs at look) (take_all size bytes (omega (arith, long))) shows)
 
 pub shows_shut : (bytes : List ℕ) (at gate : ℕ) → range at 1 bytes ≡ gate ∷ [] → gate ≢ 1
     → Shows bytes at Shut

@@ -6,14 +6,14 @@ use Rattle.std.proofs.Common.{length-append, length-drop, append_assoc, take-app
 use Rattle.std.specs.Prelude.{slice_get}
 use Rattle.std.specs.Option.{option_map}
 use Rattle.std.proofs.lemmas.List.{take_at, drop_at, drop-drop, take_all, take_more}
-use Rattle.std.proofs.lemmas.List.{drop_more, length-take-le, take-take}
+use Rattle.std.proofs.lemmas.List.{drop_more, length-take-le}
 use Rattle.std.proofs.lemmas.Option.{slice_get_within, slice_get_cases, get_or_from_slice_get}
 use Rattle.byteorder.specs.Endian.{big_bytes}
 use Rattle.fm_outer.specs.Bytes.{range}
 use Rattle.fm_outer.specs.Moments.{OnlyRead}
 use Rattle.fm_outer.specs.declared.disk.Disk.{Ghosts}
 use Rattle.fm_outer.proofs.Numbers.{length-big_bytes}
-use Rattle.fm_outer.proofs.Ranges.{drop-range, range-take}
+use Rattle.fm_outer.proofs.Ranges.{range-range, range-take}
 use Rattle.fm_journal.specs.Format.{header, spelled, records, end_of, IsJournal}
 use Rattle.fm_journal.specs.JournalOf.{JournalOf}
 use Rattle.fm_journal.specs.Keeps.{Keeps}
@@ -25,31 +25,16 @@ use Rattle.fm_journal.proofs.Looking.{record_long}
 use Rattle.fm_journal.proofs.Uniqueness.{same_record, record_begins}
 use Rattle.fm_journal.proofs.Walking.{gate_first}
 
--- what is left of a piece stands on the disk from its place on
-pub piece_front : (start filled at : ℕ) (bytes held : List ℕ) → filled ≤ length held → start ≤ at
-    → at ≤ start + filled → range start filled bytes ≡ take filled held
-    → range at (length (drop (at - start) (take filled held))) bytes
-    ≡ drop (at - start) (take filled held)
-piece_front start filled at bytes held fits after before is =
+-- what a piece holds from a place on stands on the disk there
+pub piece_range : (start at n : ℕ) (bytes held : List ℕ) → start ≤ at
+    → at + n ≤ start + length held → range start (length held) bytes ≡ held
+    → range at n bytes ≡ take n (drop (at - start) held)
+piece_range start at n bytes held after before is =
     let i = at - start in
-    let long : length (drop i (take filled held)) ≡ filled - i =
-    omega (arith, length-drop i (take filled held), length-take-le filled held fits) in
     let there : start + i ≡ at = omega (arith, after) in
-    ap (λ (n : ℕ). range at n bytes) long
-    ∙ ap (λ (n : ℕ). range n (filled - i) bytes) (sym there)
-    ∙ sym (drop-range start filled i bytes (omega (arith, after, before)))
-    ∙ ap (drop i) is
-
-pub piece_head : (start filled n : ℕ) (bytes held : List ℕ) → start ≤ 0 → n ≤ start + filled
-    → range start filled bytes ≡ take filled held
-    → take n (drop (0 - start) (take filled held)) ≡ take n bytes
-piece_head start filled n bytes held first inside is =
-    let zero : start ≡ 0 = omega (arith, first) in
-    let here : take filled bytes ≡ take filled held =
-    subst (λ (s : ℕ). range s filled bytes ≡ take filled held) zero is in
-    ap (λ (s : ℕ). take n (drop (0 - s) (take filled held))) zero
-    ∙ ap (take n) (sym here)
-    ∙ take-take n filled bytes (omega (arith, inside, zero))
+    ap (λ (m : ℕ). range m n bytes) (sym there)
+    ∙ sym (range-range start (length held) i n bytes (omega (arith, after, before)))
+    ∙ ap (λ (l : List ℕ). take n (drop i l)) is
 
 -- what was read from a place on stands there up to a later place, too
 pub prefix_front : (bytes front : List ℕ) (at n size : ℕ) → range at n bytes ≡ take n front

@@ -5,3 +5,5 @@ pub mod Format
 pub mod JournalOf
 pub mod Keeps
 pub mod Look
+pub mod Pieces
+pub mod Reads

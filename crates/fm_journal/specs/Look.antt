@@ -1,18 +1,10 @@
 -- What is found at a gate of a disk that is read through, and how far the reading has come.
-use Rattle.std.specs.Prelude.{◌≡◌, ◌≢◌, ℕ, ◌+◌, ◌<◌, ◌≤◌, ◌^◌, List, ◌∷◌, ◌++◌, length, take, drop}
+use Rattle.std.specs.Prelude.{◌≡◌, ◌≢◌, ℕ, ◌+◌, ◌<◌, ◌≤◌, ◌^◌, List, ◌∷◌, ◌++◌, length, drop}
 use Rattle.std.specs.Prelude.{Some, None}
 use Rattle.std.specs.declared.option.Option.{Option}
-use Rattle.fm_outer.specs.Bytes.{range}
 use Rattle.fm_journal.specs.Format.{header, spelled, records, end_of, IsWithin, IsJournal}
 use Rattle.fm_journal.specs.declared.look.Look.{Look}
 use Rattle.fm_journal.specs.declared.look.Look.TheVariants.{Shut, Record, Bad}
-use Rattle.fm_journal.specs.declared.piece.Piece.{Piece}
-
--- what was read last of a disk: so many bytes stand there from the place on, where it tells them
-pub record IsPiece (seen : Option (List ℕ)) (piece : Piece) : Type 0 where
-  pub fits : piece.filled ≤ length piece.bytes
-  pub read : (bytes : List ℕ) → seen ≡ Some bytes
-      → range piece.start piece.filled bytes ≡ take piece.filled piece.bytes
 
 -- a record of a payload that is short enough stands at the place, with a gate behind it that is
 -- within the limit

@@ -11,10 +11,13 @@ ghost use Rattle.fm_journal.specs.Format.{header, framed, end_of, IsJournal};
 ghost use Rattle.fm_journal.specs.JournalOf.{blank_journal, appended};
 ghost use Rattle.fm_journal.specs.Keeps.{Keeps};
 ghost use Rattle.fm_journal.specs.Look.{AnyLength};
+ghost use Rattle.fm_journal.specs.Pieces.{IsPiece};
+ghost use Rattle.fm_journal.specs.Reads.{ReadsAt};
 ghost use Rattle.fm_journal.specs.declared.fault.JournalFault.{JournalFault};
 ghost use Rattle.fm_journal.specs.declared.fault.JournalFault.TheVariants.{Closed as IsClosedAt};
 
-use crate::place::next_of;
+use crate::piece::Piece;
+use crate::place::{next_in, next_of};
 use crate::refuse::refused;
 use crate::scan::scan;
 use crate::start::start;
@@ -203,6 +206,46 @@ impl<D: Disk> Journal<D> {
         }
         self.disk.read(place + 5, into)?;
         Ok(next)
+    }
+
+    /// Reads the payload at a place through a piece, and gives how many bytes it has; `None` at the
+    /// end place. The payload stands in front of the buffer if that is long enough, and else the
+    /// buffer has to be longer. Payloads that are read one after another are read from the disk in
+    /// pieces of 64 KiB, or of a payload that is longer.
+    pub fn read_piecewise(
+        &mut self,
+        piece: &mut Piece,
+        place: u64,
+        into: &mut [u8],
+    ) -> Result<Option<u32>, JournalFault>
+        requires piece { IsPiece (D.seen self.old.disk) piece.old }
+        ensures found { IfOk result
+            (ReadsAt D.Disk self.old place (length into.old) into.new) }
+        ensures piece { IsPiece (D.seen self.old.disk) piece.new }
+        ensures same { self.new ≡ record self.old { disk = self.new.disk } }
+        ensures still { OnlyRead D.Disk self.old.disk self.new.disk }
+        ensures closed { (failures : ℕ) → self.old.closed ≡ Some failures
+            → result ≡ Err (IsClosedAt failures) }
+        ensures cause { IfErr result
+            (PlaceCause D.Disk AnyLength place self.old (D.failures self.new.disk)) }
+        ensures count_kept { OnOk result (D.failures self.new.disk ≡ D.failures self.old.disk) }
+    {
+        if let Some(faults) = self.closed {
+            return Err(JournalFault::Closed { faults });
+        }
+        if place == self.end {
+            return Ok(None);
+        }
+        let Some(next) = next_in(&mut self.disk, piece, place, self.end)? else {
+            return Err(JournalFault::Damaged { place });
+        };
+        let size = (next - place - 5) as u32;
+        if size as usize > into.len() {
+            return Ok(Some(size));
+        }
+        let payload = &mut into[..size as usize];
+        piece.copy(&mut self.disk, place + 5, payload, self.end + 1)?;
+        Ok(Some(size))
     }
 
     /// The number of the first payload, whether it is there or not.

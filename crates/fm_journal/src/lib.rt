@@ -19,13 +19,15 @@
 //! what a read gives and what any crash leaves are journals of just these payloads.
 //!
 //! - `append` keeps the list with the payload after `Ok`, and says of each moment of the call,
-//!   whatever it answers, that a crash leaves a journal of the list from before or with the payload.
+//!   whatever it answers, that a crash leaves a journal of the list from before or with the
+//!   payload.
 //! - `create` leaves, up to its first sync, fronts of what was there, then no journal with a
 //!   payload, and after `Ok` the empty journal.
 //! - `open` keeps the list that the bytes spell, and answers `Damaged` only where they are no
 //!   journal, with the place where the reading stopped. It writes nothing, and reads the disk once,
 //!   in pieces of 64 KiB.
 //! - `size` and `read` give the payloads by their places, and say where the next one stands.
+//!   `read_piecewise` gives them one after another through a `Piece` of the disk.
 //!
 //! After a failed write or sync nobody knows what the disk holds, so the journal is closed from
 //! then on and answers `Closed` until its disk is opened again. `Disk` comes only where the disk's
@@ -47,6 +49,7 @@ pub use fault::{FullKind, JournalFault, Refused};
 pub use fm_outer::FrameFault;
 pub use frame::Frame;
 pub use journal::Journal;
+pub use piece::Piece;
 
 #[cfg(test)]
 mod tests;

@@ -1,11 +1,12 @@
 // What is found at a gate.
 ghost use Rattle.std.specs.Prelude.{◌≡◌, ℕ, ◌+◌, ◌-◌, ◌<◌, ◌≤◌, ◌^◌, List, [], ◌∷◌, length, min};
-ghost use Rattle.std.specs.Prelude.{Some, IfOk, OnOk};
+ghost use Rattle.std.specs.Prelude.{take, Some, IfOk};
 ghost use Rattle.byteorder.specs.Endian.{big_bytes};
 ghost use Rattle.fm_outer.specs.Bytes.{range};
 ghost use Rattle.fm_outer.specs.Failures.{HasCause};
 ghost use Rattle.fm_outer.specs.Moments.{OnlyRead};
-ghost use Rattle.fm_journal.specs.Look.{LiesWithin, Shows, IsPiece};
+ghost use Rattle.fm_journal.specs.Look.{LiesWithin, Shows};
+ghost use Rattle.fm_journal.specs.Pieces.{IsPiece};
 
 use crate::frame::MAX_LENGTH;
 use crate::piece::Piece;
@@ -79,7 +80,7 @@ pub(crate) fn look_in(front: &[u8], at: u64, size: u64) -> Look
     record_of(at, size, word_of(&count))
 }
 
-/// What is found at the gate at a place of a disk of `size` bytes.
+/// What is found at the gate at a place of the first `size` bytes of a disk.
 pub(crate) fn look_at<D: Disk>(
     disk: &mut D,
     piece: &mut Piece,
@@ -88,15 +89,16 @@ pub(crate) fn look_at<D: Disk>(
 ) -> Result<Look, Failed>
     requires inside { at < size }
     requires small { at < 2 ^ 40 }
-    requires told { (bytes : List ℕ) → D.seen disk.old ≡ Some bytes → size ≡ length bytes }
+    requires told { (bytes : List ℕ) → D.seen disk.old ≡ Some bytes → size ≤ length bytes }
     requires read { IsPiece (D.seen disk.old) piece.old }
     ensures within { IfOk result (LiesWithin at size) }
     ensures shows { IfOk result (λ look. (bytes : List ℕ) → D.seen disk.old ≡ Some bytes
-        → Shows bytes at look) }
-    ensures read { OnOk result (IsPiece (D.seen disk.old) piece.new) }
+        → Shows (take size bytes) at look) }
+    ensures read { IsPiece (D.seen disk.old) piece.new }
     ensures still { OnlyRead D.Disk disk.old disk.new }
     ensures cause { HasCause (D.failures disk.old) (D.failures disk.new) result }
 {
-    piece.reach(disk, at, FRONT.min(size - at), size)?;
-    Ok(look_in(piece.from(at), at, size))
+    let count = FRONT.min(size - at);
+    piece.reach(disk, at, count, size)?;
+    Ok(look_in(&piece.from(at)[..count as usize], at, size))
 }

@@ -5,7 +5,8 @@ ghost use Rattle.std.specs.Prelude.{OnOk};
 ghost use Rattle.fm_outer.specs.Moments.{IsSettled, OnlyRead};
 ghost use Rattle.fm_journal.specs.Causes.{OpenCause};
 ghost use Rattle.fm_journal.specs.Format.{header};
-ghost use Rattle.fm_journal.specs.Look.{IsFound, IsBounded, IsPiece};
+ghost use Rattle.fm_journal.specs.Look.{IsFound, IsBounded};
+ghost use Rattle.fm_journal.specs.Pieces.{IsPiece};
 ghost use Rattle.fm_journal.specs.declared.fault.JournalFault.TheVariants.{Damaged};
 
 use crate::JournalFault;

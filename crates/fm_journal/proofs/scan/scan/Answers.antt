@@ -1,7 +1,7 @@
 -- Too few bytes, and bytes that are no header.
 use Rattle.std.proofs.Common.{◌≡◌, ℕ, List, length, take, Option, IfSome, refl, sym, ◌∙◌}
 use Rattle.std.proofs.Common.{ap, subst, arith}
-use Rattle.fm_journal.proofs.Places.{piece_head}
+use Rattle.fm_journal.proofs.Places.{piece_range}
 use Rattle.fm_journal.proofs.Walking.{damaged_header}
 use Rattle.fm_journal.proofs.scan.scan.Goals as goal
 
@@ -20,19 +20,18 @@ returns-in_default-clause-cause g c = (
   c.in_ok-reach.ensures.cause ∙ c.in_ok-size.ensures.cause ∙ c.in_ok-sync.ensures.cause,
   λ bytes told.
       let piece = c.reach.new.self in
-      let read = c.in_ok-reach.ensures.read in
-      let head = piece_head piece.start piece.filled 16 bytes piece.bytes
-      c.in_ok-reach.ensures.after
+      let head = piece_range piece.start 0 16 bytes piece.held c.in_ok-reach.ensures.after
       c.in_ok-reach.ensures.before
-      (read.read bytes (c.in_ok-size.ensures.same ∙ c.in_ok-sync.ensures.same ∙ told)) in
+      (c.in_ok-reach.ensures.read bytes (c.in_ok-size.ensures.same ∙ c.in_ok-sync.ensures.same
+      ∙ told)) in
       damaged_header bytes (λ first fits some front. c.in_default.ensures.none refl first fits
-      (ap (take 16) c.from.ensures ∙ head ∙ front)),
+      (ap (take 16) c.from.ensures ∙ sym head ∙ front)),
 )
 
 pub walk-requires-clause-front : goal.walk-requires-clause-front
 walk-requires-clause-front g c = λ bytes told.
     let piece = c.reach.new.self in
-    let read = c.in_ok-reach.ensures.read in
-    let head = piece_head piece.start piece.filled 16 bytes piece.bytes c.in_ok-reach.ensures.after
-    c.in_ok-reach.ensures.before (read.read bytes (sym c.in_ok-reach.ensures.still.same ∙ told)) in
-    sym head ∙ sym (ap (take 16) c.from.ensures) ∙ c.in-Some.ensures.found.1
+    let head = piece_range piece.start 0 16 bytes piece.held c.in_ok-reach.ensures.after
+    c.in_ok-reach.ensures.before
+    (c.in_ok-reach.ensures.read bytes (sym c.in_ok-reach.ensures.still.same ∙ told)) in
+    head ∙ sym (ap (take 16) c.from.ensures) ∙ c.in-Some.ensures.found.1

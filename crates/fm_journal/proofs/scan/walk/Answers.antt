@@ -1,8 +1,10 @@
 -- Each way out of a turn, and the next turn, from what was found at the gate.
 use Rattle.std.proofs.Common.{ℕ, List, Option, refl, ◌∙◌, subst, arith}
 use Rattle.fm_outer.proofs.Moments.{read-none, read-then}
-use Rattle.fm_journal.specs.Look.{IsPiece, Shows, LiesWithin}
+use Rattle.fm_journal.specs.Look.{LiesWithin}
+use Rattle.fm_journal.specs.Pieces.{IsPiece}
 use Rattle.fm_journal.specs.declared.look.Look.{Look}
+use Rattle.fm_journal.proofs.Looking.{shown_as}
 use Rattle.fm_journal.proofs.Walking.{reached_start, reached_more, found_closed, damaged_record}
 use Rattle.fm_journal.proofs.Walking.{damaged_count}
 use Rattle.fm_journal.proofs.scan.walk.Goals as goal
@@ -27,16 +29,16 @@ pub returns-in-Shut-clause-found : goal.returns-in-Shut-clause-found
 returns-in-Shut-clause-found g c = λ bytes told.
     found_closed bytes c.args.first c.records.at c.records.count
     (c.records.invariant.reached bytes told)
-    (subst (λ (l : Look). Shows bytes c.records.at l) c.in-Shut.is
-    (c.in_ok-look_at.ensures.shows bytes (c.records.invariant.still.same ∙ told)))
+    (shown_as c.args.size bytes c.records.at _ _ (c.requires.told bytes told)
+    (c.in_ok-look_at.ensures.shows bytes (c.records.invariant.still.same ∙ told)) c.in-Shut.is)
 
 pub returns-in-Bad-clause-cause : goal.returns-in-Bad-clause-cause
 returns-in-Bad-clause-cause g c = (
   c.in_ok-look_at.ensures.cause ∙ c.records.invariant.count_kept,
   λ bytes told. damaged_record bytes c.args.first c.records.at c.records.count
       (c.records.invariant.reached bytes told)
-      (subst (λ (l : Look). Shows bytes c.records.at l) c.in-Bad.is
-      (c.in_ok-look_at.ensures.shows bytes (c.records.invariant.still.same ∙ told))),
+      (shown_as c.args.size bytes c.records.at _ _ (c.requires.told bytes told)
+      (c.in_ok-look_at.ensures.shows bytes (c.records.invariant.still.same ∙ told)) c.in-Bad.is),
 )
 
 pub returns-then-count-eq-MAX_COUNT-clause-cause :
@@ -45,8 +47,8 @@ returns-then-count-eq-MAX_COUNT-clause-cause g c = (
   c.in_ok-look_at.ensures.cause ∙ c.records.invariant.count_kept,
   λ bytes told. damaged_count bytes c.args.first c.records.at c.records.count
       (c.records.invariant.reached bytes told) c.in-Record.next
-      (subst (λ (l : Look). Shows bytes c.records.at l) c.in-Record.is
-      (c.in_ok-look_at.ensures.shows bytes (c.records.invariant.still.same ∙ told)))
+      (shown_as c.args.size bytes c.records.at _ _ (c.requires.told bytes told)
+      (c.in_ok-look_at.ensures.shows bytes (c.records.invariant.still.same ∙ told)) c.in-Record.is)
       (λ counts numbers. omega arith),
 )
 
@@ -56,8 +58,8 @@ returns-then-first-count-eq-END_OF_NUMBERS-clause-cause g c = (
   c.in_ok-look_at.ensures.cause ∙ c.records.invariant.count_kept,
   λ bytes told. damaged_count bytes c.args.first c.records.at c.records.count
       (c.records.invariant.reached bytes told) c.in-Record.next
-      (subst (λ (l : Look). Shows bytes c.records.at l) c.in-Record.is
-      (c.in_ok-look_at.ensures.shows bytes (c.records.invariant.still.same ∙ told)))
+      (shown_as c.args.size bytes c.records.at _ _ (c.requires.told bytes told)
+      (c.in_ok-look_at.ensures.shows bytes (c.records.invariant.still.same ∙ told)) c.in-Record.is)
       (λ counts numbers. omega arith),
 )
 
@@ -74,8 +76,8 @@ records-preserved g c =
       reached = λ bytes told.
           reached_more bytes c.args.first c.records.at c.records.count
           (c.records.invariant.reached bytes told) c.in-Record.next
-          (subst (λ (l : Look). Shows bytes c.records.at l) c.in-Record.is
-          (c.in_ok-look_at.ensures.shows bytes (c.records.invariant.still.same ∙ told)))
+          (shown_as c.args.size bytes c.records.at _ _ (c.requires.told bytes told)
+          (c.in_ok-look_at.ensures.shows bytes (c.records.invariant.still.same ∙ told)) c.in-Record.is)
           (omega (arith, c.records.invariant.bounded)) (omega (arith, c.records.invariant.bounded));
       inside = within.1;
       bounded = record {
