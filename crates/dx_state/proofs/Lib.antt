@@ -1,0 +1,4 @@
+pub mod StateReader
+pub mod Lists
+pub mod Facts
+pub mod Spelled

@@ -1,0 +1,5 @@
+pub mod StateBytes
+pub mod StateReading
+pub mod Fitting
+pub mod Configured
+pub mod LawfulState

@@ -1,0 +1,16 @@
+pub mod Rows
+pub mod Certain
+pub mod Names
+pub mod Blamed
+pub mod Spoken
+pub mod Parts
+pub mod Sound
+pub mod Noting
+pub mod Deciding
+pub mod Settling
+pub mod Joining
+pub mod Marking
+pub mod Confs
+pub mod Stepping
+pub mod Module
+pub mod Agreeing

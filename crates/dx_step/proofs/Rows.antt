@@ -1,0 +1,15 @@
+-- The small module, computed.
+use Rattle.std.proofs.Common.{refl}
+use Rattle.dx_words.specs.Search.{some_below, every_below, numbers_below, some_set}
+use Rattle.dx_words.specs.Stories.{is_story, explains, comes_from}
+use Rattle.dx_words.specs.Cases.{waits, blamed}
+use Rattle.dx_step.specs.Certainty.{certainties}
+use Rattle.dx_step.specs.Turns.{decide, settle}
+use Rattle.dx_step.specs.Reports.{declares, join, report}
+use Rattle.dx_step.specs.Step.{turn}
+use Rattle.dx_step.specs.Examples.{two_faults, fresh, after_first, Examples}
+
+pub rows : Examples
+unfolding some_below every_below numbers_below some_set is_story explains comes_from waits blamed
+    certainties decide settle declares join report turn two_faults fresh after_first
+rows = record { waits = refl; ends = refl; second = refl }

@@ -1,0 +1,11 @@
+pub mod Certainty
+pub mod Said
+pub mod Turns
+pub mod Reports
+pub mod Repairs
+pub mod Step
+pub mod Examples
+pub mod Exact
+pub mod Lawful
+pub mod DiagnoserWords
+pub mod Longer
