@@ -396,7 +396,7 @@ module _ (v : IncidenceValue) (cut : CutsOf) (root : ℕ) (link : Link) (s : Set
             (way_same v more root t (one_effect_less t j) refl refl))
 
         pub cost_in : (x : SetsValue) (m n : ℕ) → EffectLeaves v j t m x n
-            → n + cost v x ≤ m + cost v s
+            → n + cost v x ≡ m + cost v s
         cost_in x m n (inl (u, eq, l, is, steps)) =
             omega (
               arith,

@@ -1,7 +1,7 @@
 //! How a set comes to the greatest one: what leaves is looked at, and with it may leave what it
 //! gave and what it showed.
 
-ghost use Rattle.std.specs.Prelude.{◌≡◌, ◌+◌, ◌<◌, ◌≤◌, [], length, slice_index};
+ghost use Rattle.std.specs.Prelude.{◌≡◌, ◌+◌, ◌<◌, [], length, slice_index};
 ghost use Rattle.ev_graph.specs.Table.{row_at, IsIncidence};
 ghost use Rattle.dx_sets.specs.Engine.{uncut_gets, AreGiven, IsLooking, cost};
 ghost use Rattle.dx_sets.specs.Engine.{hangs_by_one, left_if_last, giver_lost, IsOwed, IsPaying};
@@ -92,7 +92,7 @@ fn lose_causes<C: CutTest, L: Ledger>(
     ensures looking { IsLooking table.now (C.is_cut cuts.now) root []
         (uncut_gets table.now (C.is_cut cuts.now) node) sets.old sets.new }
     ensures cost { steps.new + cost table.now sets.new
-        ≤ steps.old + cost table.now sets.old + length (row_at table.now.uses node) }
+        ≡ steps.old + cost table.now sets.old + length (row_at table.now.uses node) }
 {
     for place in table.uses(node) {
         steps.tick();
@@ -119,7 +119,7 @@ fn lose_effects<C: CutTest, L: Ledger>(
         (uncut_gets table.now (C.is_cut cuts.now) node) sets.old sets.old }
     ensures looking { IsLooking table.now (C.is_cut cuts.now) root [] [] sets.old sets.new }
     ensures cost { steps.new + cost table.now sets.new
-        ≤ steps.old + cost table.now sets.old + length (row_at table.now.gets node) }
+        ≡ steps.old + cost table.now sets.old + length (row_at table.now.gets node) }
 {
     for place in table.gets(node) {
         steps.tick();
@@ -144,7 +144,7 @@ pub fn settle<C: CutTest, L: Ledger>(
     ensures steady { IsSteady table.now (C.is_cut cuts.now) root sets.new }
     ensures over { sets.new.pending ≡ [] }
     ensures settles { SettlesTo table.now (C.is_cut cuts.now) root sets.old sets.new }
-    ensures cost { steps.new + cost table.now sets.new ≤ steps.old + cost table.now sets.old }
+    ensures cost { steps.new + cost table.now sets.new ≡ steps.old + cost table.now sets.old }
 {
     while let Some(node) = sets.pop() {
         steps.tick();

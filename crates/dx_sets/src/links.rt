@@ -1,6 +1,6 @@
 //! A link that is cut: the instance gives the effect no more, and has an effect less.
 
-ghost use Rattle.std.specs.Prelude.{◌≡◌, ◌+◌, ◌<◌, ◌≤◌, [], slice_index};
+ghost use Rattle.std.specs.Prelude.{◌≡◌, ◌+◌, ◌<◌, [], slice_index};
 ghost use Rattle.ev_graph.specs.Sets.{occurs};
 ghost use Rattle.dx_sets.specs.Engine.{uncut, IsSteady, cost};
 ghost use Rattle.dx_sets.specs.Links.{GiftIsLost, EffectLeaves, LinkIsLost};
@@ -48,7 +48,7 @@ pub fn lose_link<C: CutTest, L: Ledger>(
     requires over { sets.old.pending ≡ [] }
     requires once { occurs link.effect (uncut table.now (C.is_cut cuts.now) link.instance) ≡ 1 }
     ensures lost { LinkIsLost table.now (C.is_cut cuts.now) root link sets.old sets.new }
-    ensures cost { steps.new + cost table.now sets.new ≤ steps.old + cost table.now sets.old + 1 }
+    ensures cost { steps.new + cost table.now sets.new ≡ steps.old + cost table.now sets.old + 1 }
 {
     steps.tick();
     let was_in = sets.has(link.effect);

@@ -1,4 +1,4 @@
-use Rattle.std.proofs.Common.{◌≤◌, ◌+◌, drop}
+use Rattle.std.proofs.Common.{◌≡◌, ◌+◌, drop}
 use Rattle.dx_sets.specs.Engine.{IsLooking, cost, uncut_gets}
 use Rattle.dx_sets.proofs.engine.lose_causes.Given as goal
 
@@ -8,5 +8,5 @@ invariant-loop-place g l = record {
       (drop l.place-index l.place-items) (uncut_gets l.table (g.C.CutTest.is_cut l.cuts) l.node)
       l.initial.sets l.sets;
   cost : l.steps + cost l.table l.sets
-      ≤ l.initial.steps + cost l.table l.initial.sets + l.place-index;
+      ≡ l.initial.steps + cost l.table l.initial.sets + l.place-index;
 }

@@ -1,4 +1,4 @@
-use Rattle.std.proofs.Common.{◌≤◌, ◌+◌, [], not, drop}
+use Rattle.std.proofs.Common.{◌≡◌, ◌+◌, [], not, drop}
 use Rattle.std.specs.List.{filter}
 use Rattle.dx_sets.specs.Engine.{IsLooking, cost}
 use Rattle.dx_sets.proofs.engine.lose_effects.Given as goal
@@ -9,5 +9,5 @@ invariant-loop-place g l = record {
       (filter (λ j. not (g.C.CutTest.is_cut l.cuts j l.node)) (drop l.place-index l.place-items))
       l.initial.sets l.sets;
   cost : l.steps + cost l.table l.sets
-      ≤ l.initial.steps + cost l.table l.initial.sets + l.place-index;
+      ≡ l.initial.steps + cost l.table l.initial.sets + l.place-index;
 }

@@ -1,0 +1,11 @@
+pub mod Regions
+pub mod Ordered
+pub mod Locals
+pub mod Reaching
+pub mod Graphs
+pub mod Best
+pub mod Costs
+pub mod Shrinks
+pub mod Marking
+pub mod CutLinks
+pub mod Opening

@@ -1,0 +1,7 @@
+use Rattle.dx_live.proofs.CutLinks.{no_place}
+use Rattle.dx_live.proofs.live.local_link.Goals as goal
+
+pub returns-in-None-clause-none : goal.returns-in-None-clause-none
+returns-in-None-clause-none c = λ none.
+    no_place c.args.region.now c.args.link
+    (rw c.places.ensures.places at (c.place_among.ensures.none c.in-None.is))

@@ -1,0 +1,53 @@
+use Rattle.std.proofs.Common.{◌∷◌, [], ℕ, List, length, ap, ◌∙◌, arith}
+use Rattle.ev_graph.specs.Sets.{is_member}
+use Rattle.ev_graph.specs.Reached.{MarkedValue}
+use Rattle.ev_graph.proofs.Building.{can_search_forwards}
+use Rattle.dx_live.proofs.Reaching.{region_is, start_below}
+use Rattle.dx_live.proofs.region.Region.new.Goals as goal
+
+pub search-requires : goal.search-requires
+search-requires c =
+    let v = c.args.table.now in
+    rw (c.forwards.ensures.index, c.forwards.ensures.rows) (can_search_forwards v
+    (c.args.root ∷ []) c.in_ok-reached.reached c.in_ok-taken.taken c.forwards.ensures.incidence
+    (rw c.nodes.ensures.count at c.in_ok-reached.ensures)
+    (rw c.count.ensures.count at c.in_ok-taken.ensures)
+    (λ i l. start_below c.args.root (length v.uses) i c.requires l))
+
+pub returns-clause-region : goal.returns-clause-region
+returns-clause-region c =
+    let reach = rw (c.forwards.ensures.index, c.forwards.ensures.rows) at
+    c.in_ok-search.ensures.reach in
+    let table = rw (c.as_slice-3.ensures.value, c.as_slice-4.ensures.value) at
+    c.in_ok-table.ensures in
+    region_is c.args.table.now c.args.root c.search.new.nodes.items c.search.new.places.items
+    c.in_ok-nodes.nodes.items c.in_ok-places.places.items c.in_ok-table.table
+    c.forwards.ensures.incidence reach
+    (record {
+      ascend = c.in_ok-nodes.ensures.ascend;
+      same = λ e. c.in_ok-nodes.ensures.same e
+          ∙ ap (λ (xs : List ℕ). is_member xs e) c.as_slice.ensures.items;
+      few = omega (
+        arith,
+        c.in_ok-nodes.ensures.few,
+        ap length c.as_slice.ensures.items,
+        c.as_slice.ensures.few,
+        c.in_ok-search.ensures.size,
+        ap (λ (m : MarkedValue). m.size) c.in_ok-reached.ensures,
+        c.nodes.ensures.few,
+      );
+    })
+    (record {
+      ascend = c.in_ok-places.ensures.ascend;
+      same = λ e. c.in_ok-places.ensures.same e
+          ∙ ap (λ (xs : List ℕ). is_member xs e) c.as_slice-2.ensures.items;
+      few = omega (
+        arith,
+        c.in_ok-places.ensures.few,
+        ap length c.as_slice-2.ensures.items,
+        c.as_slice-2.ensures.few,
+        c.in_ok-search.ensures.places_size,
+        ap (λ (m : MarkedValue). m.size) c.in_ok-taken.ensures,
+        c.count.ensures.few,
+      );
+    }) table

@@ -1,0 +1,134 @@
+//! Which links of a region are cut: a mark for each effect of each instance.
+
+ghost use Rattle.std.specs.Prelude.{◌≡◌, ◌==◌, ◌&&◌, ◌||◌, ◌+◌, ◌<◌, ◌^◌, ℕ, true, false, None};
+ghost use Rattle.std.specs.Prelude.{length, slice_index, slice_set, IfOk, IfSome};
+ghost use Rattle.ev_graph.specs.Sets.{is_member, has_mark, ascends};
+ghost use Rattle.dx_live.specs.Cuts.{CutsValue, mark_place, cut_at, AreStarts, AreAscending};
+
+use crate::region::place_among;
+use ev_graph::{CutTest, Incidence, NoMemory};
+use std::alloc::Global;
+use std::marker::Model;
+
+/// A mark for each effect of each instance of an incidence. It takes a byte an effect and 4 an
+/// instance.
+#[derive(Drop)]
+pub struct Cuts {
+    /// Where the marks of each instance begin.
+    starts: Vec<u32>,
+    marks: Vec<bool>,
+}
+
+impl Model for Cuts {
+    ghost use Rattle.dx_live.specs.Cuts.{CutsValue};
+
+    ghost Value = { CutsValue };
+
+    ghost view = { λ c. record { starts = c.starts.items; marks = c.marks.items } };
+}
+
+/// Where the marks of an instance begin; 0 past the end.
+fn start_of(starts: &[u32], place: u32) -> u32
+    ensures { result ≡ slice_index starts.now place }
+{
+    starts.get(place as usize).copied().unwrap_or(0)
+}
+
+fn starts_of(alloc: Global, table: &Incidence) -> Result<(Vec<u32>, u32), NoMemory>
+    ensures { IfOk result (λ made. AreStarts (length table.now.effects) table.now.effects
+        made.0.items made.1) }
+{
+    let mut starts = Vec::new(alloc);
+    let mut total = 0;
+    let count = table.count() as u32;
+    for place in 0..count {
+        let more = table.effects(place).len() as u32;
+        if more > u32::MAX - total {
+            return Err(NoMemory);
+        }
+        starts.push(total)?;
+        total += more;
+    }
+    Ok((starts, total))
+}
+
+impl Cuts {
+    /// No link is cut. 2^32 effects or more are want of memory.
+    pub fn new(alloc: Global, table: &Incidence) -> Result<Cuts, NoMemory>
+        ensures starts { IfOk result (λ cuts. AreStarts (length table.now.effects)
+            table.now.effects cuts.starts (length cuts.marks)) }
+        ensures none { IfOk result (λ cuts. (e : ℕ) → has_mark cuts.marks e ≡ false) }
+    {
+        let (starts, total) = starts_of(alloc, table)?;
+        let marks = vec![in alloc; false; total as usize]?;
+        Ok(Cuts { starts, marks })
+    }
+
+    /// Equal marks.
+    pub fn copy(&self, alloc: Global) -> Result<Cuts, NoMemory>
+        ensures { IfOk result (λ cuts. cuts ≡ self.now) }
+    {
+        let starts = Vec::from_slice(alloc, self.starts.as_slice())?;
+        let marks = Vec::from_slice(alloc, self.marks.as_slice())?;
+        Ok(Cuts { starts, marks })
+    }
+
+    /// Where the mark of an effect stands, of the instance with these effects.
+    pub fn place_of(&self, effects: &[u32], place: u32, effect: u32) -> Option<usize>
+        requires ascend { ascends effects.now ≡ true }
+        requires few { length effects.now < 2 ^ 32 }
+        ensures found { IfSome result (λ at. (is_member effects.now effect ≡ true)
+            × (at ≡ mark_place self.now effects.now place effect)) }
+        ensures none { result ≡ None → is_member effects.now effect ≡ false }
+    {
+        match place_among(effects, effect) {
+            Some(at) => Some(start_of(self.starts.as_slice(), place) as usize + at as usize),
+            None => None,
+        }
+    }
+
+    /// Whether there is a mark at a place.
+    pub fn has(&self, at: usize) -> bool
+        ensures { result ≡ has_mark self.now.marks at }
+    {
+        self.marks.get(at).copied().unwrap_or(false)
+    }
+
+    /// Whether the link of an effect is cut, of the instance with these effects.
+    pub fn is_cut(&self, effects: &[u32], place: u32, effect: u32) -> bool
+        requires ascend { ascends effects.now ≡ true }
+        requires few { length effects.now < 2 ^ 32 }
+        ensures { result ≡ (is_member effects.now effect
+            && has_mark self.now.marks (mark_place self.now effects.now place effect)) }
+    {
+        match self.place_of(effects, place, effect) {
+            Some(at) => self.has(at),
+            None => false,
+        }
+    }
+
+    /// Puts a mark at a place.
+    pub fn mark(&mut self, at: usize)
+        requires { at < length self.old.marks }
+        ensures { self.new ≡ record self.old { marks = slice_set self.old.marks at true } }
+    {
+        self.marks[at] = true;
+    }
+}
+
+/// The links of an incidence that are cut.
+#[derive(Drop)]
+pub struct LocalCuts<'a> {
+    pub table: &'a Incidence,
+    pub cuts: &'a Cuts,
+    ghost ascending: { AreAscending table.now.effects },
+}
+
+impl CutTest for LocalCuts<'_> {
+    ghost is_cut = { λ c. cut_at c.table.now.effects c.cuts.now };
+
+    fn has(&self, instance: u32, effect: u32) -> bool {
+        self.cuts
+            .is_cut(self.table.effects(instance), instance, effect)
+    }
+}

@@ -1,0 +1,220 @@
+//! The part of a graph that one root reaches, with numbers of its own.
+
+ghost use Rattle.std.specs.Prelude.{◌≡◌, ◌<◌, ◌≤◌, ◌^◌, ℕ, true, map, length, slice_index, IfOk};
+ghost use Rattle.std.specs.Prelude.{IfSome, None, false};
+ghost use Rattle.ev_graph.specs.Sets.{is_member, ascends};
+ghost use Rattle.ev_graph.specs.Table.{IsIncidence, wiring_of};
+ghost use Rattle.dx_live.specs.Region.{IsLocalRow, AreLocalRows, IsLocalTable, IsRegionOf};
+ghost use Rattle.dx_live.specs.Region.{IsPartOf};
+
+use ev_graph::{Incidence, Marked, NoMemory, Rows, search};
+use std::alloc::Global;
+use std::marker::Model;
+
+/// What a root reaches: its nodes and instances, ascending, and what the instances say of places
+/// among the nodes. It takes 12 bytes a node, 20 an instance and 8 a link, of what is reached.
+#[derive(Drop)]
+pub struct Region {
+    nodes: Vec<u32>,
+    places: Vec<u32>,
+    table: Incidence,
+}
+
+impl Model for Region {
+    ghost use Rattle.dx_live.specs.Region.{RegionValue};
+
+    ghost Value = { RegionValue };
+
+    ghost use Rattle.std.specs.Prelude.{◌≡◌, ◌<◌, ◌^◌, true, length};
+    ghost use Rattle.ev_graph.specs.Sets.{ascends};
+
+    ghost view = { λ p. record {
+      nodes = p.nodes.items;
+      places = p.places.items;
+      table = p.table;
+    } };
+
+    ghost invariant = { λ p.
+        (ascends p.nodes.items ≡ true) × (length p.nodes.items < 2 ^ 32)
+        × (ascends p.places.items ≡ true) × (length p.places.items < 2 ^ 32) };
+}
+
+/// The numbers, ascending, each once.
+fn ascending_of(alloc: Global, numbers: &[u32]) -> Result<Vec<u32>, NoMemory>
+    ensures ascend { IfOk result (λ list. ascends list.items ≡ true) }
+    ensures same { IfOk result
+        (λ list. (e : ℕ) → is_member list.items e ≡ is_member numbers.now e) }
+    ensures few { IfOk result (λ list. length list.items ≤ length numbers.now) }
+{
+    let mut list = Vec::from_slice(alloc, numbers)?;
+    list.sort_unstable();
+    list.dedup();
+    Ok(list)
+}
+
+/// The place of a number in ascending numbers.
+pub(crate) fn place_among(nodes: &[u32], node: u32) -> Option<u32>
+    requires up { ascends nodes.now ≡ true }
+    requires few { length nodes.now < 2 ^ 32 }
+    ensures found { IfSome result (λ at. (at < length nodes.now)
+        × (slice_index nodes.now at ≡ node)) }
+    ensures none { result ≡ None → is_member nodes.now node ≡ false }
+{
+    match nodes.binary_search(&node) {
+        Ok(at) => Some(at as u32),
+        Err(_) => None,
+    }
+}
+
+/// The members that are among the nodes, by their places there.
+fn local_row(alloc: Global, nodes: &[u32], members: &[u32]) -> Result<Vec<u32>, NoMemory>
+    requires up { ascends nodes.now ≡ true }
+    requires few { length nodes.now < 2 ^ 32 }
+    ensures { IfOk result (λ row. IsLocalRow nodes.now members.now row.items) }
+{
+    let mut row = Vec::new(alloc);
+    for member in members {
+        match place_among(nodes, *member) {
+            Some(at) => row.push(at)?,
+            None => {}
+        }
+    }
+    Ok(row)
+}
+
+fn local_causes(
+    alloc: Global,
+    table: &Incidence,
+    nodes: &[u32],
+    places: &[u32],
+) -> Result<Rows, NoMemory>
+    requires up { ascends nodes.now ≡ true }
+    requires few { length nodes.now < 2 ^ 32 }
+    ensures { IfOk result (λ rows.
+        AreLocalRows (length places.now) table.now.causes nodes.now places.now rows) }
+{
+    let mut rows = Rows::new(alloc)?;
+    for place in places {
+        let row = local_row(alloc, nodes, table.causes(*place))?;
+        rows.push(row.as_slice())?;
+    }
+    Ok(rows)
+}
+
+fn local_effects(
+    alloc: Global,
+    table: &Incidence,
+    nodes: &[u32],
+    places: &[u32],
+) -> Result<Rows, NoMemory>
+    requires up { ascends nodes.now ≡ true }
+    requires few { length nodes.now < 2 ^ 32 }
+    ensures { IfOk result (λ rows.
+        AreLocalRows (length places.now) table.now.effects nodes.now places.now rows) }
+{
+    let mut rows = Rows::new(alloc)?;
+    for place in places {
+        let row = local_row(alloc, nodes, table.effects(*place))?;
+        rows.push(row.as_slice())?;
+    }
+    Ok(rows)
+}
+
+fn shown_of(alloc: Global, table: &Incidence, places: &[u32]) -> Result<Vec<u32>, NoMemory>
+    ensures { IfOk result
+        (λ list. list.items ≡ map (λ j. slice_index table.now.n j) places.now) }
+{
+    let numbers = places.iter().map(|place| table.n(*place)).collect(alloc)?;
+    Ok(numbers)
+}
+
+fn needed_of(alloc: Global, table: &Incidence, places: &[u32]) -> Result<Vec<u32>, NoMemory>
+    ensures { IfOk result
+        (λ list. list.items ≡ map (λ j. slice_index table.now.k j) places.now) }
+{
+    let numbers = places.iter().map(|place| table.k(*place)).collect(alloc)?;
+    Ok(numbers)
+}
+
+/// The incidence of these instances among these nodes, by places.
+fn local_table(
+    alloc: Global,
+    table: &Incidence,
+    nodes: &[u32],
+    places: &[u32],
+) -> Result<Incidence, NoMemory>
+    requires up { ascends nodes.now ≡ true }
+    requires few { length nodes.now < 2 ^ 32 }
+    ensures { IfOk result (λ made. IsLocalTable table.now nodes.now places.now made) }
+{
+    let causes = local_causes(alloc, table, nodes, places)?;
+    let effects = local_effects(alloc, table, nodes, places)?;
+    let n = shown_of(alloc, table, places)?;
+    let k = needed_of(alloc, table, places)?;
+    let made = Incidence::new(alloc, nodes.len() as u32, causes, effects, n, k)?;
+    Ok(made)
+}
+
+impl Region {
+    /// The part that a node reaches. It takes the time of what is reached, that of sorting it, and
+    /// a byte for each node and instance of the graph while it runs.
+    pub fn new(alloc: Global, table: &Incidence, root: u32) -> Result<Region, NoMemory>
+        requires { root < length table.now.uses }
+        ensures region { IfOk result (λ part. IsRegionOf (wiring_of table.now) root part) }
+        ensures part { IfOk result (λ part. IsPartOf table.now part) }
+        ensures local { IfOk result
+            (λ part. IsLocalTable table.now part.nodes part.places part.table) }
+    {
+        let mut reached = Marked::new(alloc, table.nodes())?;
+        let mut taken = Marked::new(alloc, table.count())?;
+        let (index, rows) = table.forwards();
+        search(index, rows, &[root], &mut reached, &mut taken)?;
+        let nodes = ascending_of(alloc, reached.as_slice())?;
+        let places = ascending_of(alloc, taken.as_slice())?;
+        let table = local_table(alloc, table, nodes.as_slice(), places.as_slice())?;
+        Ok(Region {
+            nodes,
+            places,
+            table,
+        })
+    }
+
+    /// An equal region.
+    pub fn copy(&self, alloc: Global) -> Result<Region, NoMemory>
+        ensures { IfOk result (λ part. part ≡ self.now) }
+    {
+        let nodes = Vec::from_slice(alloc, self.nodes.as_slice())?;
+        let places = Vec::from_slice(alloc, self.places.as_slice())?;
+        let table = self.table.copy(alloc)?;
+        Ok(Region {
+            nodes,
+            places,
+            table,
+        })
+    }
+
+    /// The nodes, ascending.
+    pub fn nodes(&self) -> &[u32]
+        ensures nodes { result.now ≡ self.now.nodes }
+        ensures ascend { ascends self.now.nodes ≡ true }
+        ensures few { length self.now.nodes < 2 ^ 32 }
+    {
+        self.nodes.as_slice()
+    }
+
+    /// The instances, ascending.
+    pub fn places(&self) -> &[u32]
+        ensures places { result.now ≡ self.now.places }
+        ensures ascend { ascends self.now.places ≡ true }
+        ensures few { length self.now.places < 2 ^ 32 }
+    {
+        self.places.as_slice()
+    }
+
+    /// The incidence of the part, by local numbers.
+    pub fn table(&self) -> &Incidence
+        ensures { result.now ≡ self.now.table }
+    {
+        &self.table
+    }
+}
