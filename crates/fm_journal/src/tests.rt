@@ -55,8 +55,12 @@ fn the_bytes_are_the_format(rt: HostRuntime) -> Result<(), Fail> {
     assert_eq!(rt; disk.calls(), 4);
     assert_eq!(rt; bytes_of(alloc, &mut disk)?.as_slice(), EMPTY.as_slice());
     let mut journal = Journal::open(disk).ok().ok_or("not opened")?;
-    assert_eq!(rt; (journal.first(), journal.count()), (0, 0));
+    assert_eq!(rt;
+        (journal.first(), journal.count(), journal.end()),
+        (0, 0, 16)
+    );
     assert_eq!(rt; journal.append(&Frame::new(alloc, &TICK)?), Ok(0));
+    assert_eq!(rt; journal.end(), 30);
     assert_eq!(rt; journal.closed(), None);
     let mut disk = journal.into_disk();
     assert_eq!(rt; bytes_of(alloc, &mut disk)?.as_slice(), TICKED.as_slice());
@@ -325,8 +329,9 @@ fn many(alloc: Global, count: usize, length: u32) -> Result<Vec<u8>, Fail> {
 #[test]
 fn opening_reads_in_pieces(rt: HostRuntime) -> Result<(), Fail> {
     let alloc = rt.alloc();
-    // Payloads, the bytes of each, and how many calls the opening makes: a sync, the length, and one
-    // read for each piece of 65,536 bytes, or from one gate to the next where a payload is longer.
+    // Payloads, the bytes of each, and how many calls the opening makes: a sync, the length, and
+    // one read for each piece of 65,536 bytes, or from one gate to the next where a payload is
+    // longer.
     let cases: [(usize, u32, u64); 4] = [(0, 0, 3), (3639, 13, 3), (10000, 13, 5), (3, 70000, 6)];
     for (count, length, calls) in cases {
         let bytes = many(alloc, count, length)?;
