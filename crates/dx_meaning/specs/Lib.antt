@@ -1,0 +1,2 @@
+pub mod DiagnoserMeaning
+pub mod Fresh
