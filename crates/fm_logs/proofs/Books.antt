@@ -1,22 +1,21 @@
 -- What logs keep reads as a book, now and at each moment of a call.
-use Rattle.std.proofs.Common.{◌≡◌, ◌⊎◌, inl, inr, ℕ, ◌+◌, ◌-◌, List, [], ◌∷◌, ◌++◌, length, drop}
+use Rattle.std.proofs.Common.{◌≡◌, inl, inr, ℕ, ◌+◌, ◌-◌, List, [], ◌∷◌, ◌++◌, length, drop}
 use Rattle.std.proofs.Common.{Bool, true, false, Option, refl, sym, ◌∙◌, ap, subst, arith}
 use Rattle.std.proofs.Common.{append_assoc, length-append}
 use Rattle.std.specs.Prelude.{slice_set}
 use Rattle.std.proofs.lemmas.List.{drop_at}
-use Rattle.fm_core.specs.Book.{Book, ModuleState, IsLawful, accepted, floored, worked}
+use Rattle.fm_core.specs.Book.{Book, ModuleState, IsLawful}
 use Rattle.fm_core.proofs.Runs.{lawful_floored, lawful_worked}
 use Rattle.fm_entry.specs.declared.entry.Entry.{Entry}
 use Rattle.fm_entry.specs.declared.spoken.Spoken.{Spoken}
-use Rattle.fm_outer.specs.Moments.{LeavesOnly}
 use Rattle.fm_outer.specs.declared.disk.Disk.{Ghosts}
 use Rattle.fm_outer.proofs.Moments.{leaves-weaker}
 use Rattle.fm_logs.specs.Contents.{Contents}
-use Rattle.fm_logs.specs.LogsBook.{LogsStandFor, ReadsBeside, ReadsAsEither, BookIsLeft}
+use Rattle.fm_logs.specs.LogsBook.{LogsStandFor, ReadsBeside, BookIsLeft}
 use Rattle.fm_logs.specs.LogsBook.{AcceptMoments, CommitMoments, IsStepOf, store_worked}
 use Rattle.fm_logs.specs.LogsOf.{LogsOf, LogsKeep, IsLogWith, TakesEntry, AcceptLeaves, Commits}
 use Rattle.fm_logs.specs.LogsOf.{CommitLeaves}
-use Rattle.fm_logs.specs.ReadsAsBook.{IsLog, SpellsEntry, SpellsSpoken, SaysBook, ReadsAsBook}
+use Rattle.fm_logs.specs.ReadsAsBook.{IsLog, SpellsEntry, SpellsSpoken, SaysBook}
 use Rattle.fm_logs.specs.StoreBook.{StoreBook, IsLawfulStore, with_book, store_accepted}
 use Rattle.fm_logs.specs.StoreBook.{store_floored}
 

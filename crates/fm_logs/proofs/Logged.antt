@@ -2,8 +2,8 @@
 use Rattle.std.proofs.Common.{◌≡◌, ◌≢◌, inl, inr, ℕ, ◌+◌, ◌≤◌, ◌^◌, List, [], ◌∷◌, ◌++◌, length}
 use Rattle.std.proofs.Common.{Result, Ok, Err, slice_get, slice_set}
 use Rattle.std.proofs.Common.{Option, Some, None, refl, sym, ◌∙◌, ap, subst, append_assoc, arith}
-use Rattle.std.proofs.Common.{length-append}
-use Rattle.std.proofs.lemmas.List.{append-nil}
+use Rattle.std.proofs.Common.{length-append, All}
+use Rattle.std.proofs.lemmas.List.Elements.{All-append, All-from_recursion}
 use Rattle.fm_entry.specs.Entries.{IsSpelled, entry_bytes}
 use Rattle.fm_entry.specs.declared.entry.Entry.{Entry}
 use Rattle.fm_entry.specs.declared.spoken.Spoken.{Spoken}
@@ -20,7 +20,7 @@ use Rattle.fm_journal.proofs.Added.{has_room}
 use Rattle.fm_logs.specs.LogsLimits.{AreLogs}
 use Rattle.fm_logs.specs.LogsOf.{LogsOf, LogsKeep, IsLogWith, Frames, TakesEntry, Commits}
 use Rattle.fm_logs.specs.LogsOf.{CanTakeFrame, with_frame}
-use Rattle.fm_logs.specs.ReadsAsBook.{EachSpells, IsLog, SpellsEntry, SpellsSpoken}
+use Rattle.fm_logs.specs.ReadsAsBook.{EachSpells, SpellsEntry, SpellsSpoken}
 
 -- one payload more spells one value more
 pub each_push : {A : Type 0} (spells : List ℕ → A → Type 0) (payloads : List (List ℕ)) (xs : List A)
@@ -212,11 +212,11 @@ module _ {D : Type 0} (g : Ghosts D) where
   -- and leaves logs as they are to be
   pub taken_sound : (old : LogsOf D) (active : JournalOf D) (entries : List Entry) (e : Entry)
       (n : ℕ) (payload : List ℕ) (result : Result ℕ JournalFault) → AreLogs old
-      → old.closed ≡ None → entries ≡ old.entries ++ e ∷ [] → result ≡ Ok n
+      → old.closed ≡ None → IsSpelled e → entries ≡ old.entries ++ e ∷ [] → result ≡ Ok n
       → ((fault : JournalFault) → refusal old.active payload ≡ Some fault → result ≡ Err fault)
       → active ≡ appended active.disk payload old.active
       → AreLogs (record old { active = active; entries = entries })
-  taken_sound old active entries e n payload result logs is_open longer ok refused done =
+  taken_sound old active entries e n payload result logs is_open spelled longer ok refused done =
       let free = none_of (refusal old.active payload) n result ok refused in
       let size : length entries ≡ length old.entries + 1 =
       ap length longer ∙ length-append old.entries (e ∷ []) in
@@ -230,6 +230,9 @@ module _ {D : Type 0} (g : Ghosts D) where
           size,
           number_left old.active payload (logs.active_open is_open) free,
         );
+        spelled = subst (All IsSpelled) (sym longer)
+            (All-append IsSpelled old.entries (e ∷ []) logs.spelled
+            (All-from_recursion IsSpelled (e ∷ []) (spelled, tt)));
         active_open = λ still. ap (λ (j : JournalOf D). j.closed) done;
         flt_open = logs.flt_open;
       }

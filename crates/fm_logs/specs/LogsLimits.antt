@@ -1,6 +1,7 @@
 -- What holds of the logs of each store.
-use Rattle.std.specs.Prelude.{◌≡◌, ℕ, ◌+◌, ◌≤◌, ◌^◌, Bool, List, length, None}
+use Rattle.std.specs.Prelude.{◌≡◌, ℕ, ◌+◌, ◌≤◌, ◌^◌, Bool, List, length, None, All}
 use Rattle.std.specs.declared.option.Option.{Option}
+use Rattle.fm_entry.specs.Entries.{IsSpelled}
 use Rattle.fm_entry.specs.declared.entry.Entry.{Entry}
 use Rattle.fm_journal.specs.JournalOf.{JournalOf}
 use Rattle.fm_logs.specs.LogsOf.{LogsOf}
@@ -21,9 +22,10 @@ logs_of active flt second base entries cursors closed =
     }
 
 -- The active journal's next number is that of the next entry, also once it is closed, and is at
--- most 2^46. While the logs are open both journals are.
+-- most 2^46. The entries have spellings. While the logs are open both journals are.
 pub record AreLogs {D : Type 0} (logs : LogsOf D) : Type 0 where
   pub numbered : logs.active.first + logs.active.count ≡ logs.base + length logs.entries
   pub few : logs.base + length logs.entries ≤ 2 ^ 46
+  pub spelled : All IsSpelled logs.entries
   pub active_open : logs.closed ≡ None → logs.active.closed ≡ None
   pub flt_open : logs.closed ≡ None → logs.flt.closed ≡ None

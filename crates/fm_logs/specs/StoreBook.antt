@@ -1,6 +1,6 @@
 -- The book of a store: the core's book with the list of configurations and the number in force at
 -- the base.
-use Rattle.std.specs.Prelude.{◌≡◌, ℕ, ◌+◌, ◌<◌, ◌≤◌, List, [], ◌∷◌, ◌++◌, length, slice_get, Some}
+use Rattle.std.specs.Prelude.{◌≡◌, ℕ, ◌<◌, ◌≤◌, List, [], ◌∷◌, length, slice_get, Some}
 use Rattle.std.specs.Option.{ForSome}
 use Rattle.fm_core.specs.Book.{Book, ModuleState, IsLawful, accepted, floored}
 use Rattle.fm_core.specs.Meaning.{conf_of}

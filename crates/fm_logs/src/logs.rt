@@ -3,7 +3,7 @@
 ghost use Rattle.std.specs.Prelude.{◌≡◌, ◌<◌, ◌^◌, ◌++◌, List, length, slice_get, None, Some, IfOk};
 ghost use Rattle.std.specs.Prelude.{◌+◌, ◌-◌, ◌≤◌, ◌==◌, IfSome};
 ghost use Rattle.std.specs.List.{list_all};
-ghost use Rattle.std.specs.Prelude.{IfErr, OnOk, IsOk};
+ghost use Rattle.std.specs.Prelude.{IfErr, OnOk, IsOk, [], not, All};
 ghost use Rattle.std.specs.Option.{option_map};
 ghost use Rattle.fm_entry.specs.Entries.{IsSpelled, entry_bytes};
 ghost use Rattle.fm_entry.specs.declared.entry.Entry.{Entry};
@@ -20,6 +20,7 @@ use fm_journal::{Frame, FrameFault, FullKind, Journal, JournalFault};
 use fm_outer::Disk;
 use std::alloc::Global;
 use std::marker::Model;
+use std::mem;
 
 /// The name of the active journal's disk.
 fn active_name(second: bool) -> DiskName
@@ -108,14 +109,15 @@ impl<D: Disk> Model for Logs<D> {
 }
 
 impl<D: Disk> Logs<D> {
-    /// Logs of these parts. The journals are open, the active one ends with the last entry, and
-    /// there are at most 2^46 entries.
+    /// Logs of these parts. The journals are open, the active one ends with the last entry, there
+    /// are at most 2^46 entries, and they have spellings.
     pub fn new(parts: LogsParts<D>) -> Logs<D>
         requires active_open { parts.active.closed ≡ None }
         requires flt_open { parts.flt.closed ≡ None }
         requires numbered { parts.active.first + parts.active.count
             ≡ parts.base + length parts.entries.items }
         requires few { parts.base + length parts.entries.items ≤ 2 ^ 46 }
+        requires spelled { All IsSpelled parts.entries.items }
         ensures { result ≡ logs_of parts.active parts.flt parts.second parts.base
             parts.entries.items parts.cursors.items None }
     {
@@ -156,7 +158,8 @@ impl<D: Disk> Logs<D> {
 
     /// The entries from the base on.
     pub fn entries(&self) -> &[Entry]
-        ensures { result.now ≡ self.now.entries }
+        ensures entries { result.now ≡ self.now.entries }
+        ensures spelled { All IsSpelled result.now }
     {
         &self.entries
     }
@@ -167,6 +170,7 @@ impl<D: Disk> Logs<D> {
         ensures entry { option_map (λ e. e.now) result
             ≡ slice_get self.now.entries (number - self.now.base) }
         ensures few { IfSome result (λ _. number < 2 ^ 46) }
+        ensures spelled { IfSome result (λ e. IsSpelled e.now) }
     {
         self.entries.get((number - self.base) as usize)
     }
@@ -176,6 +180,21 @@ impl<D: Disk> Logs<D> {
         ensures { result ≡ self.now.base }
     {
         self.base
+    }
+
+    /// Whether the active error journal is the second.
+    pub fn is_second(&self) -> bool
+        ensures { result ≡ self.now.second }
+    {
+        self.second
+    }
+
+    /// The number of the next entry, which is how many entries there ever were.
+    pub fn next_entry(&self) -> u64
+        ensures value { result ≡ self.now.base + length self.now.entries }
+        ensures few { result ≤ 2 ^ 46 }
+    {
+        self.base + self.entries.len() as u64
     }
 
     /// How far the module has come: the number of the next entry that it takes.
@@ -264,6 +283,41 @@ impl<D: Disk> Logs<D> {
         self.append_words(frame)?;
         self.cursors[own as usize] = number + 1;
         Ok(Committed::Done)
+    }
+
+    /// The base moves to the end of the entries, which are dropped.
+    pub fn rebase(&mut self)
+        ensures { self.new ≡ record self.old {
+          base = self.old.base + length self.old.entries;
+          entries = [];
+        } }
+    {
+        self.base += self.entries.len() as u64;
+        self.entries.clear();
+    }
+
+    /// Another journal, which is open and in which the next entry has the same number, becomes the
+    /// active one, on the other of the two disks. The one before comes back.
+    pub fn change_active(&mut self, active: Journal<D>) -> Journal<D>
+        requires is_open { active.closed ≡ None }
+        requires numbered { active.first + active.count
+            ≡ self.old.base + length self.old.entries }
+        ensures changed { self.new ≡ record self.old {
+          active = active;
+          second = not self.old.second;
+        } }
+        ensures before { result ≡ self.old.active }
+    {
+        self.second = !self.second;
+        mem::replace(&mut self.active, active)
+    }
+
+    /// Closes the logs, as a writing call met a failure of this disk, whose count of failures is
+    /// this now.
+    pub fn close(&mut self, disk: DiskName, faults: u64)
+        ensures { self.new ≡ record self.old { closed = Some (disk, faults) } }
+    {
+        self.closed = Some((disk, faults));
     }
 
     /// The words at the end of the fault log, if there are any.

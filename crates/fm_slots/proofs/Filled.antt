@@ -7,7 +7,7 @@ use Rattle.fm_outer.specs.Crash.{Torn, TornFrom}
 use Rattle.fm_outer.specs.Moments.{IsSettled, LeavesOnly}
 use Rattle.fm_outer.specs.declared.disk.Disk.{Ghosts}
 use Rattle.fm_outer.proofs.Moments.{leaves-weaker, leaves-then}
-use Rattle.fm_slots.specs.Filling.{AllShut, IsOldOrClosed, IsShutOrFilled}
+use Rattle.fm_slots.specs.Filling.{AllShut, IsOldOrClosed, IsShutOrFilled, IsOldOrReplaced}
 use Rattle.fm_slots.specs.Format.{SlotOf, slot_body, IsSlotWithin, IsShut, IsOpenSlot}
 use Rattle.fm_slots.specs.InForce.{InForceBeside, IsReplaced}
 use Rattle.fm_slots.proofs.Forces.{kept_beside, later_beside}
@@ -69,6 +69,25 @@ module _ {D : Type 0} (g : Ghosts D)
         (subst (λ (l : List ℕ). IsOpenSlot (written 0 (1 ∷ []) l) slot.sequence slot.payload) from.2
         (opened slot.sequence slot.payload limits from.0
         (shut from.0 (seen_is_image old from.0 from.1))))
+
+  -- a slot that is only cleared
+  pub cleared_leaves : (old new : D) (slot : SlotOf)
+      → LeavesOnly g old new (IsOldOrClosed (g.images old))
+      → LeavesOnly g old new (IsOldOrReplaced (g.images old) slot)
+  cleared_leaves old new slot leaves =
+      leaves-weaker g old new (IsOldOrClosed (g.images old))
+      (IsOldOrReplaced (g.images old) slot) leaves (λ c either. inl either)
+
+  -- one that is cleared and then filled
+  pub replaced_leaves : (old mid new : D) (slot : SlotOf)
+      → LeavesOnly g old mid (IsOldOrClosed (g.images old))
+      → LeavesOnly g mid new (IsShutOrFilled slot)
+      → LeavesOnly g old new (IsOldOrReplaced (g.images old) slot)
+  replaced_leaves old mid new slot first last =
+      leaves-then g old mid new (IsOldOrReplaced (g.images old) slot)
+      (cleared_leaves old mid slot first)
+      (leaves-weaker g mid new (IsShutOrFilled slot) (IsOldOrReplaced (g.images old) slot) last
+      (λ c either. ⊎_elim (λ shut. inl (inr (inr shut))) (λ there. inr there) either))
 
   -- the one slot in force or the other
   abbrev pub IsEither : Bool → List ℕ → Option (Bool × SlotOf) → SlotOf → List ℕ → Type 0

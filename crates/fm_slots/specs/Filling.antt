@@ -14,3 +14,8 @@ IsOldOrClosed images c = images c ⊎ IsClosedSlot c
 -- a gate that isn't open, or the slot
 abbrev pub IsShutOrFilled : SlotOf → List ℕ → Type 0
 IsShutOrFilled slot c = IsShut c ⊎ IsOpenSlot c slot.sequence slot.payload
+
+-- one of these images, a closed slot, or the slot
+abbrev pub IsOldOrReplaced : (List ℕ → Type 0) → SlotOf → List ℕ → Type 0
+IsOldOrReplaced images slot c =
+    IsOldOrClosed images c ⊎ IsOpenSlot c slot.sequence slot.payload

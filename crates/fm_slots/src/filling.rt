@@ -5,7 +5,7 @@ ghost use Rattle.std.specs.declared.option.Option.{Option};
 ghost use Rattle.fm_outer.specs.Bytes.{written};
 ghost use Rattle.fm_outer.specs.Failures.{HasCause};
 ghost use Rattle.fm_outer.specs.Moments.{IsSettled, LeavesOnly};
-ghost use Rattle.fm_slots.specs.Filling.{AllShut, IsShutOrFilled};
+ghost use Rattle.fm_slots.specs.Filling.{AllShut, IsShutOrFilled, IsOldOrReplaced};
 ghost use Rattle.fm_slots.specs.Format.{SlotOf, slot_body, IsShut, IsOpenSlot};
 ghost use Rattle.fm_slots.specs.InForce.{InForceBeside, KeepsInForce, IsReplaced};
 
@@ -45,10 +45,13 @@ pub fn fill<D: Disk>(disk: &mut D, frame: &SlotFrame) -> Result<(), Failed>
     write_through(disk, 0, &[OPEN])
 }
 
-/// Clears the slot and fills it. While the other slot of the pair stays as it is, and has the slot
-/// in force if there is one, a crash at any moment leaves that one in force or, of a greater
-/// sequence, the new one; after `Ok` the new one is.
+/// Clears the slot and fills it. A crash at any moment leaves what it might have left before, a
+/// closed slot, or the new one whole. So while the other slot of the pair stays as it is, and has
+/// the slot in force if there is one, that one is in force or, of a greater sequence, the new one;
+/// after `Ok` the new one is.
 pub fn replace<D: Disk>(disk: &mut D, frame: &SlotFrame) -> Result<(), Failed>
+    ensures leaves { LeavesOnly D.Disk disk.old disk.new
+        (IsOldOrReplaced (D.images disk.old) frame.now) }
     ensures any_moment { (kept : List ℕ) (second : Bool) (found : Option (Bool × SlotOf))
         → IsReplaced D.Disk disk.old kept second found frame.now
         → LeavesOnly D.Disk disk.old disk.new (λ c. InForceBeside second kept c found

@@ -1,2 +1,10 @@
 pub mod NewStore
 pub mod Stores
+pub mod StoreReads
+pub mod StoreAccepts
+pub mod StoreCommits
+pub mod Based
+pub mod StoreBases
+pub mod StoreMoves
+pub mod StoreCheckpoints
+pub mod Saves

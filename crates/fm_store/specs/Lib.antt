@@ -1,1 +1,6 @@
 pub mod Making
+pub mod Slots
+pub mod StoreCalls
+pub mod StoreLeft
+pub mod StoreLimits
+pub mod StoreOf

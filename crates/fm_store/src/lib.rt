@@ -1,22 +1,36 @@
 //! A store: six disks that stand for one book at every moment.
 //!
 //! What six contents read as, and the two logs that taking an entry and committing a step write,
-//! are of the crate below. Here a store is made.
+//! are of the crate below. Here a store is made, and takes entries, steps and checkpoints.
 //!
 //! **Model.** Contracts see six disks as one record. A store is there where the configurations'
 //! disk is a journal with a payload (`HasStore`). The contents of a new one are `IsNewStore`: the
 //! configuration, two empty logs, and no open slot. They read as the book without entries and
-//! records, with all modules as they are made (`a_new_store_reads_as_its_book`).
+//! records, with all modules as they are made (`a_new_store_reads_as_its_book`). A store that is
+//! there is two parts (`StoreOf`): its logs, which a lock may hold, and what stands beside them, the
+//! modules as they were made among it. It stands for a book (`StoreStandsFor`) where its logs keep
+//! the book's entries and records and its other disks say the rest, in each image.
 //!
 //! **Promises.** `init` reads the configurations' disk, and refuses where a store is there. Then it
 //! closes both slots and makes the two logs, and writes the configuration last. So a crash at any
 //! moment leaves what was there before, no store, or the new one, and where there is none it may be
 //! run again. `Disk` comes only where the count of a disk rose.
+//!
+//! `accept`, `commit` and `checkpoint` have one clause each on what they make of the memory, by
+//! cases on the answer, and one on the book that the store stands for: after `Ok` it stands for the
+//! book after the move, and whatever is answered, each crash at a moment of the call or after it
+//! leaves contents that read as a book which drains to what the book of before does, or with the
+//! entry that was being taken. A checkpoint writes the slot that is not in force. After `Disk` the
+//! store is closed: each later call answers `Closed` with the disk that failed and its count.
 #![tactic(auto)]
 
+mod checkpoints;
 mod laws;
 mod making;
 mod refused;
+mod slots;
+mod store;
+mod store_base;
 
 pub use fm_bytes::NoMemory;
 pub use fm_logs::{Committed, DiskName, Disks, Logs, LogsParts, StoreFault};
@@ -24,3 +38,5 @@ pub use fm_saved::{Conf, ConfText};
 pub use laws::a_new_store_reads_as_its_book;
 pub use making::init;
 pub use refused::StoreRefused;
+pub use store::Store;
+pub use store_base::StoreBase;

@@ -10,7 +10,8 @@ invariant_of-self-in-Ok g c =
     (logs_of c.self.inside.active c.self.inside.flt c.self.inside.second c.self.inside.base
     c.self.inside.entries.items c.self.inside.cursors.items c.self.inside.closed)
     c.append.new.self c.push.new.self.items c.args.entry c.in-Ok.number _ _ c.self.invariant
-    (search rules) (search rules) refl c.in-Ok.ensures.refused c.in-Ok.ensures.done
+    (search rules) c.requires.spelled (search rules) refl c.in-Ok.ensures.refused
+    c.in-Ok.ensures.done
 
 pub returns-in-Ok-clause-does : goal.returns-in-Ok-clause-does
 returns-in-Ok-clause-does g c =
