@@ -1,11 +1,11 @@
 //! Which links of a region are cut: a mark for each effect of each instance.
 
 ghost use Rattle.std.specs.Prelude.{◌≡◌, ◌==◌, ◌&&◌, ◌||◌, ◌+◌, ◌<◌, ◌^◌, ℕ, true, false, None};
-ghost use Rattle.std.specs.Prelude.{length, slice_index, slice_set, IfOk, IfSome};
+ghost use Rattle.std.specs.Prelude.{length, slice_set, IfOk, IfSome};
 ghost use Rattle.ev_graph.specs.Sets.{is_member, has_mark, ascends};
 ghost use Rattle.dx_live.specs.Cuts.{CutsValue, mark_place, cut_at, AreStarts, AreAscending};
 
-use crate::region::place_among;
+use crate::region::{number_at, place_among};
 use ev_graph::{CutTest, Incidence, NoMemory};
 use std::alloc::Global;
 use std::marker::Model;
@@ -25,13 +25,6 @@ impl Model for Cuts {
     ghost Value = { CutsValue };
 
     ghost view = { λ c. record { starts = c.starts.items; marks = c.marks.items } };
-}
-
-/// Where the marks of an instance begin; 0 past the end.
-fn start_of(starts: &[u32], place: u32) -> u32
-    ensures { result ≡ slice_index starts.now place }
-{
-    starts.get(place as usize).copied().unwrap_or(0)
 }
 
 fn starts_of(alloc: Global, table: &Incidence) -> Result<(Vec<u32>, u32), NoMemory>
@@ -82,7 +75,7 @@ impl Cuts {
         ensures none { result ≡ None → is_member effects.now effect ≡ false }
     {
         match place_among(effects, effect) {
-            Some(at) => Some(start_of(self.starts.as_slice(), place) as usize + at as usize),
+            Some(at) => Some(number_at(self.starts.as_slice(), place) as usize + at as usize),
             None => None,
         }
     }

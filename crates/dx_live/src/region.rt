@@ -1,11 +1,11 @@
 //! The part of a graph that one root reaches, with numbers of its own.
 
 ghost use Rattle.std.specs.Prelude.{◌≡◌, ◌<◌, ◌≤◌, ◌^◌, ℕ, true, map, length, slice_index, IfOk};
-ghost use Rattle.std.specs.Prelude.{IfSome, None, false};
+ghost use Rattle.std.specs.Prelude.{◌==◌, ◌&&◌, IfSome, None, false, nat_lt};
 ghost use Rattle.ev_graph.specs.Sets.{is_member, ascends};
 ghost use Rattle.ev_graph.specs.Table.{IsIncidence, wiring_of};
 ghost use Rattle.dx_live.specs.Region.{IsLocalRow, AreLocalRows, IsLocalTable, IsRegionOf};
-ghost use Rattle.dx_live.specs.Region.{IsPartOf};
+ghost use Rattle.dx_live.specs.Region.{IsPartOf, ArePlacesOf};
 
 use ev_graph::{Incidence, Marked, NoMemory, Rows, search};
 use std::alloc::Global;
@@ -52,6 +52,13 @@ fn ascending_of(alloc: Global, numbers: &[u32]) -> Result<Vec<u32>, NoMemory>
     Ok(list)
 }
 
+/// The number at a place, 0 past the end.
+pub(crate) fn number_at(numbers: &[u32], place: u32) -> u32
+    ensures { result ≡ slice_index numbers.now place }
+{
+    numbers.get(place as usize).copied().unwrap_or(0)
+}
+
 /// The place of a number in ascending numbers.
 pub(crate) fn place_among(nodes: &[u32], node: u32) -> Option<u32>
     requires up { ascends nodes.now ≡ true }
@@ -66,15 +73,75 @@ pub(crate) fn place_among(nodes: &[u32], node: u32) -> Option<u32>
     }
 }
 
-/// The members that are among the nodes, by their places there.
-fn local_row(alloc: Global, nodes: &[u32], members: &[u32]) -> Result<Vec<u32>, NoMemory>
+fn note_places(nodes: &[u32], noted: &mut [u32])
     requires up { ascends nodes.now ≡ true }
     requires few { length nodes.now < 2 ^ 32 }
+    requires below { (i : ℕ) → i < length nodes.now
+        → slice_index nodes.now i < length noted.old }
+    ensures { ArePlacesOf (length nodes.now) nodes.now noted.new }
+{
+    for place in 0..nodes.len() {
+        noted[nodes[place] as usize] = place as u32;
+    }
+}
+
+/// What is above each of ascending numbers.
+fn past_last(nodes: &[u32]) -> usize
+    requires { ascends nodes.now ≡ true }
+    ensures { (i : ℕ) → i < length nodes.now → slice_index nodes.now i < result }
+{
+    if nodes.is_empty() {
+        return 0;
+    }
+    nodes[nodes.len() - 1] as usize + 1
+}
+
+/// For each of ascending numbers its place among them; what stands for a number between them says
+/// nothing.
+fn places_of(alloc: Global, nodes: &[u32]) -> Result<Vec<u32>, NoMemory>
+    requires up { ascends nodes.now ≡ true }
+    requires few { length nodes.now < 2 ^ 32 }
+    ensures { IfOk result (λ noted. ArePlacesOf (length nodes.now) nodes.now noted.items) }
+{
+    let mut noted = vec![in alloc; 0; past_last(nodes)]?;
+    note_places(nodes, noted.as_mut_slice());
+    Ok(noted)
+}
+
+fn stands_at(nodes: &[u32], at: u32, node: u32) -> bool
+    ensures { result ≡ (nat_lt at (length nodes.now) && slice_index nodes.now at == node) }
+{
+    (at as usize) < nodes.len() && nodes[at as usize] == node
+}
+
+/// The place of a number, by the places that are noted.
+fn place_noted(noted: &[u32], nodes: &[u32], node: u32) -> Option<u32>
+    requires { ArePlacesOf (length nodes.now) nodes.now noted.now }
+    ensures found { IfSome result (λ at. (at < length nodes.now)
+        × (slice_index nodes.now at ≡ node)) }
+    ensures none { result ≡ None → is_member nodes.now node ≡ false }
+{
+    let at = number_at(noted, node);
+    if stands_at(nodes, at, node) {
+        Some(at)
+    } else {
+        None
+    }
+}
+
+/// The members that are among the nodes, by their places there.
+fn local_row(
+    alloc: Global,
+    noted: &[u32],
+    nodes: &[u32],
+    members: &[u32],
+) -> Result<Vec<u32>, NoMemory>
+    requires { ArePlacesOf (length nodes.now) nodes.now noted.now }
     ensures { IfOk result (λ row. IsLocalRow nodes.now members.now row.items) }
 {
     let mut row = Vec::new(alloc);
     for member in members {
-        match place_among(nodes, *member) {
+        match place_noted(noted, nodes, *member) {
             Some(at) => row.push(at)?,
             None => {}
         }
@@ -85,17 +152,17 @@ fn local_row(alloc: Global, nodes: &[u32], members: &[u32]) -> Result<Vec<u32>, 
 fn local_causes(
     alloc: Global,
     table: &Incidence,
+    noted: &[u32],
     nodes: &[u32],
     places: &[u32],
 ) -> Result<Rows, NoMemory>
-    requires up { ascends nodes.now ≡ true }
-    requires few { length nodes.now < 2 ^ 32 }
+    requires { ArePlacesOf (length nodes.now) nodes.now noted.now }
     ensures { IfOk result (λ rows.
         AreLocalRows (length places.now) table.now.causes nodes.now places.now rows) }
 {
     let mut rows = Rows::new(alloc)?;
     for place in places {
-        let row = local_row(alloc, nodes, table.causes(*place))?;
+        let row = local_row(alloc, noted, nodes, table.causes(*place))?;
         rows.push(row.as_slice())?;
     }
     Ok(rows)
@@ -104,17 +171,17 @@ fn local_causes(
 fn local_effects(
     alloc: Global,
     table: &Incidence,
+    noted: &[u32],
     nodes: &[u32],
     places: &[u32],
 ) -> Result<Rows, NoMemory>
-    requires up { ascends nodes.now ≡ true }
-    requires few { length nodes.now < 2 ^ 32 }
+    requires { ArePlacesOf (length nodes.now) nodes.now noted.now }
     ensures { IfOk result (λ rows.
         AreLocalRows (length places.now) table.now.effects nodes.now places.now rows) }
 {
     let mut rows = Rows::new(alloc)?;
     for place in places {
-        let row = local_row(alloc, nodes, table.effects(*place))?;
+        let row = local_row(alloc, noted, nodes, table.effects(*place))?;
         rows.push(row.as_slice())?;
     }
     Ok(rows)
@@ -147,8 +214,9 @@ fn local_table(
     requires few { length nodes.now < 2 ^ 32 }
     ensures { IfOk result (λ made. IsLocalTable table.now nodes.now places.now made) }
 {
-    let causes = local_causes(alloc, table, nodes, places)?;
-    let effects = local_effects(alloc, table, nodes, places)?;
+    let noted = places_of(alloc, nodes)?;
+    let causes = local_causes(alloc, table, noted.as_slice(), nodes, places)?;
+    let effects = local_effects(alloc, table, noted.as_slice(), nodes, places)?;
     let n = shown_of(alloc, table, places)?;
     let k = needed_of(alloc, table, places)?;
     let made = Incidence::new(alloc, nodes.len() as u32, causes, effects, n, k)?;
@@ -156,8 +224,8 @@ fn local_table(
 }
 
 impl Region {
-    /// The part that a node reaches. It takes the time of what is reached, that of sorting it, and
-    /// a byte for each node and instance of the graph while it runs.
+    /// The part that a node reaches. It takes the time of what is reached and that of sorting it;
+    /// while it runs, it takes 5 bytes for each node and one for each instance of the graph.
     pub fn new(alloc: Global, table: &Incidence, root: u32) -> Result<Region, NoMemory>
         requires { root < length table.now.uses }
         ensures region { IfOk result (λ part. IsRegionOf (wiring_of table.now) root part) }
