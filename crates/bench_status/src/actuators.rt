@@ -1,6 +1,7 @@
-//! An actuator in memory, brought to hold what is wanted.
+//! Actuators, brought to hold what is wanted.
 
 use crate::made::{processor, push_suspect, record};
+use crate::marked::Marked;
 use fm_act::{ActKind, Actuator, MemActuator, reconcile};
 use fm_entry::ListKind;
 use fm_status::{Status, Wanted};
@@ -18,7 +19,7 @@ fn wanted(alloc: Global, count: u32) -> Result<Wanted, AllocError> {
     status.wanted(alloc).map_err(|_| AllocError)
 }
 
-/// An actuator for processors that holds so many of them, of which half are wanted.
+/// An actuator in memory for processors that holds so many of them, of which half are wanted.
 fn holding(alloc: Global, count: u32) -> Result<MemActuator, AllocError> {
     let Ok(Some(kind)) = ActKind::read(alloc, "cpu") else {
         return Err(AllocError);
@@ -31,32 +32,43 @@ fn holding(alloc: Global, count: u32) -> Result<MemActuator, AllocError> {
     Ok(act)
 }
 
-/// Whether an actuator holds as many paths.
+/// Whether an actuator holds so many paths.
 fn holds(act: &mut Box<dyn Actuator + Send>, count: u32) -> bool {
     let last = act.listed(count.saturating_sub(1));
     last.is_ok_and(|path| path.is_some()) && act.listed(count).is_ok_and(|path| path.is_none())
 }
 
-/// Makes an actuator that holds so many paths, and as many wanted ones, of which half are others:
-/// whether there are as many. The number is at least 1.
+/// Makes what `bring_marked` needs and brings nothing: whether as many are wanted.
 pub fn make(alloc: Global, count: u32) -> Result<bool, AllocError> {
     let wanted = wanted(alloc, count)?;
+    let act = Marked::new(alloc, count.saturating_add(count / 2))?;
     let mut acts: Vec<Box<dyn Actuator + Send>> = Vec::new(alloc);
-    acts.push(Box::new(alloc, holding(alloc, count)?)?)?;
+    acts.push(Box::new(alloc, act)?)?;
     Ok(wanted.paths().len() == count as usize && acts.len() == 1)
 }
 
-/// Brings an actuator that holds so many paths to hold as many, of which half are others: whether
-/// it then holds so many. The number is at least 1.
-pub fn bring(alloc: Global, count: u32) -> Result<bool, AllocError> {
+/// Brings an actuator that marks what it holds, which are so many paths, to hold as many, of which
+/// half are others: whether it then holds so many. The number is even, and at least 2.
+pub fn bring_marked(alloc: Global, count: u32) -> Result<bool, AllocError> {
+    let wanted = wanted(alloc, count)?;
+    let act = Marked::new(alloc, count.saturating_add(count / 2))?;
+    let mut acts: Vec<Box<dyn Actuator + Send>> = Vec::new(alloc);
+    acts.push(Box::new(alloc, act)?)?;
+    let is_done = reconcile(alloc, &mut acts, &wanted).is_ok();
+    match acts.last_mut() {
+        Some(act) => Ok(is_done && holds(act, count)),
+        None => Ok(false),
+    }
+}
+
+/// The same of an actuator in memory, with the making of it.
+pub fn bring_in_memory(alloc: Global, count: u32) -> Result<bool, AllocError> {
     let wanted = wanted(alloc, count)?;
     let mut acts: Vec<Box<dyn Actuator + Send>> = Vec::new(alloc);
     acts.push(Box::new(alloc, holding(alloc, count)?)?)?;
-    if reconcile(alloc, &mut acts, &wanted).is_err() {
-        return Ok(false);
-    }
+    let is_done = reconcile(alloc, &mut acts, &wanted).is_ok();
     match acts.last_mut() {
-        Some(act) => Ok(holds(act, count)),
+        Some(act) => Ok(is_done && holds(act, count)),
         None => Ok(false),
     }
 }

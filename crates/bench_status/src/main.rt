@@ -2,17 +2,18 @@
 //! scripts in bench/.
 //!
 //! Its words are `status COUNT`: two words of each of so many cases are taken, then the rows and
-//! the wanted paths; `held COUNT`: an actuator that holds so many paths is made, and as many wanted
-//! ones, half of them others; `reconcile COUNT`: the same, and then the actuator is brought to hold
-//! what is wanted; `entries COUNT`: so many entries are made; or `errors COUNT`: so many entries are
-//! made, and their lines are put to standard output. It ends with status 0 where that went well,
-//! with 1 where not, and with 2 where the words are others.
+//! the wanted paths; `reconcile COUNT`: an actuator that holds so many paths is brought to hold as
+//! many, half of them others; `held COUNT`: what that needs is made; `memory COUNT`: the same as
+//! `reconcile` of an actuator in memory; `entries COUNT`: so many entries are made; or
+//! `errors COUNT`: so many entries are made, and their lines are put to standard output. It ends
+//! with status 0 where that went well, with 1 where not, and with 2 where the words are others.
 #![tactic(auto)]
 
 mod actuators;
 mod cases;
 mod lines;
 mod made;
+mod marked;
 
 use std::alloc::AllocError;
 use std::env;
@@ -33,7 +34,8 @@ fn run(rt: &HostRuntime) -> Result<Option<bool>, AllocError> {
     match operation.as_str() {
         "status" => Ok(Some(cases::take_words(rt.alloc(), count)?)),
         "held" => Ok(Some(actuators::make(rt.alloc(), count)?)),
-        "reconcile" => Ok(Some(actuators::bring(rt.alloc(), count)?)),
+        "reconcile" => Ok(Some(actuators::bring_marked(rt.alloc(), count)?)),
+        "memory" => Ok(Some(actuators::bring_in_memory(rt.alloc(), count)?)),
         "entries" => Ok(Some(lines::make(rt.alloc(), count)?)),
         "errors" => Ok(Some(lines::put(rt, count)?)),
         _ => Ok(None),

@@ -14,6 +14,8 @@ mod named;
 #[cfg(test)]
 mod rings;
 #[cfg(test)]
+mod sources;
+#[cfg(test)]
 mod topologies;
 #[cfg(test)]
 mod topology_faults;

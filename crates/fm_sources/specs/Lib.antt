@@ -1,0 +1,4 @@
+pub mod Conversions
+pub mod Rules
+pub mod Sources
+pub mod Texts
