@@ -1,3 +1,4 @@
 pub mod Searches
 pub mod Telling
 pub mod Meaning
+pub mod Blaming

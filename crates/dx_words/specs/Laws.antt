@@ -1,12 +1,14 @@
 -- What the tests mean, in the relations of stories.
-use Rattle.std.specs.Prelude.{◌≡◌, ◌↔◌, ℕ, true, List}
-use Rattle.ev_graph.specs.Sets.{is_member}
+use Rattle.std.specs.Prelude.{◌≡◌, ◌↔◌, ℕ, Bool, true, List, slice_get}
+use Rattle.ev_graph.specs.Sets.{is_member, ascends}
+use Rattle.ev_graph.specs.Kinds.{has_kind}
+use Rattle.ev_graph.specs.declared.nodes.NodeKind.{NodeKind}
 use Rattle.ev_graph.specs.Lawful.{GraphValue, IsGraph}
 use Rattle.dx_sets.specs.Engine.{CutsOf}
 use Rattle.dx_explain.specs.Laws.{Explains, IsPending}
 use Rattle.fm_core.specs.Meaning.{OpenCase}
 use Rattle.dx_words.specs.Stories.{explains}
-use Rattle.dx_words.specs.Cases.{cuts_of, is_allowed, is_pending, waits}
+use Rattle.dx_words.specs.Cases.{cuts_of, is_allowed, is_pending, waits, blamed}
 
 -- a root explains what was seen exactly where some story of it has just that as its reports
 abbrev pub ExplainsIs : Type 0
@@ -28,3 +30,14 @@ pub record HasPending (g : GraphValue) (time : ℕ) (c : OpenCase) : Type 0 wher
 abbrev pub WaitsIs : Type 0
 WaitsIs = (g : GraphValue) (c : OpenCase) (time : ℕ) → IsGraph g
     → (waits g time c ≡ true) ↔ HasPending g time c
+
+-- the roots of a kind that explain a case are blamed, each once, in order
+abbrev pub BlamedIs : Type 0
+BlamedIs = (kind : NodeKind → Bool) (g : GraphValue) (c : OpenCase) (e : ℕ) → IsGraph g
+    → (is_member (blamed kind g c) e ≡ true)
+    ↔ ((has_kind kind (slice_get g.nodes e) ≡ true)
+    × Explains g (cuts_of c) e (is_member c.observed))
+
+abbrev pub BlamedAscends : Type 0
+BlamedAscends = (kind : NodeKind → Bool) (g : GraphValue) (c : OpenCase)
+    → ascends (blamed kind g c) ≡ true

@@ -1,6 +1,6 @@
 //! Laws of the tests of cases.
 
-ghost use Rattle.dx_words.specs.Laws.{ExplainsIs, PendingIs, WaitsIs};
+ghost use Rattle.dx_words.specs.Laws.{ExplainsIs, PendingIs, WaitsIs, BlamedIs, BlamedAscends};
 
 /// A root explains what was seen exactly where some story of it has just that as its reports.
 pub fn explains_is()
@@ -16,4 +16,11 @@ pub fn pending_is()
 /// A case waits exactly where some report is pending.
 pub fn waits_is()
     ensures { WaitsIs }
+{}
+
+/// A node is blamed exactly where it is of the kind and explains what was observed; those that are
+/// blamed are in event order.
+pub fn blamed_is()
+    ensures members { BlamedIs }
+    ensures ascend { BlamedAscends }
 {}

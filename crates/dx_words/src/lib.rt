@@ -9,9 +9,9 @@
 //! tried before any code stands.
 //!
 //! **Promises.** The tests mean what the relations of stories say ([`explains_is`],
-//! [`pending_is`], [`waits_is`]), in every graph.
+//! [`pending_is`], [`waits_is`], [`blamed_is`]), in every graph.
 #![tactic(auto)]
 
 mod laws;
 
-pub use laws::{explains_is, pending_is, waits_is};
+pub use laws::{blamed_is, explains_is, pending_is, waits_is};
