@@ -1,0 +1,10 @@
+pub mod Changing
+pub mod Awaiting
+pub mod Inserting
+pub mod Searching
+pub mod Elements
+pub mod Narrowing
+pub mod Standing
+pub mod Steps
+pub mod Fresh
+pub mod Verdicts

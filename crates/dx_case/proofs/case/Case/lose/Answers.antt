@@ -1,0 +1,20 @@
+use Rattle.std.proofs.Common.{length, ap, ◌∙◌, arith}
+use Rattle.std.specs.List.{filter}
+use Rattle.dx_case.specs.Candidates.{keeps}
+use Rattle.dx_case.proofs.Inserting.{write_back}
+use Rattle.dx_case.proofs.case.Case.lose.Goals as goal
+
+pub returns-clause-changed : goal.returns-clause-changed
+returns-clause-changed c =
+    let old = c.args.self.now.candidates.items in
+    let new = c.change_each.new.candidates in
+    let changed = rw (c.as_mut_slice.ensures.value, c.as_slice.ensures.value, c.as_slice-2.ensures.value) at c.change_each.ensures in
+    record {
+      mid = new;
+      changed = changed;
+      kept = c.settle.ensures.kept
+          ∙ ap (filter (keeps c.args.self.now.observed.items))
+          (write_back c.args.self.now.candidates.len new old changed.count
+          (omega (arith, ap length c.as_mut_slice.ensures.value, c.as_mut_slice.ensures.len)));
+      waiting = c.settle.ensures.waiting;
+    }

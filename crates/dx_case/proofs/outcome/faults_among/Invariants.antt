@@ -1,0 +1,10 @@
+use Rattle.std.proofs.Common.{◌≡◌, take}
+use Rattle.std.specs.List.{filter}
+use Rattle.dx_words.specs.Cases.{is_solving_kind}
+use Rattle.dx_case.specs.Candidates.{is_of_kind, roots_in}
+use Rattle.dx_case.proofs.outcome.faults_among.Given as goal
+
+abbrev pub invariant-loop-candidate : goal.invariant-loop-candidate
+invariant-loop-candidate l =
+    l.list.items ≡ filter (is_of_kind is_solving_kind l.nodes)
+    (take l.candidate-index (roots_in l.candidates))

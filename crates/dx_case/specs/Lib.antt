@@ -1,0 +1,5 @@
+pub mod Changes
+pub mod Candidates
+pub mod Finding
+pub mod Cases
+pub mod Places
