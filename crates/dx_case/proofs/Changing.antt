@@ -1,5 +1,6 @@
 -- What cutting links and taking reports out does, step by step.
-use Rattle.std.proofs.Common.{◌≡◌, ◌≢◌, ◌⊎◌, ◌+◌, ◌<◌, ◌≤◌, ◌&&◌, ◌||◌, ◌++◌, not, ℕ, zero, suc, Bool}
+use Rattle.std.proofs.Common.{◌≡◌, ◌≢◌, ◌⊎◌, ◌+◌, ◌<◌, ◌≤◌, ◌&&◌, ◌||◌, ◌++◌}
+use Rattle.std.proofs.Common.{not, ℕ, zero, suc, Bool}
 use Rattle.std.proofs.Common.{true, false, List, [], ◌∷◌, eqb, length, get_or, take, refl}
 use Rattle.std.proofs.Common.{slice_get, sym, ap, subst, ◌∙◌, inl, inr, arith, Option, Some, None}
 use Rattle.std.specs.Prelude.{slice_set}
@@ -135,7 +136,8 @@ module _ (nodes : List Node) (reports observed : List ℕ) (age : Option ℕ) (i
       let p = and_parts (is_member (take (i + 1) reports) e) (goes nodes observed age e) h in
       elim (in_push (take i reports) x e
       (ap (λ (xs : List ℕ). is_member xs e) (sym last) ∙ p.0)) [
-        | inl old ↦ inl (and_from (is_member (take i reports) e) (goes nodes observed age e) old p.1)
+        | inl old ↦
+            inl (and_from (is_member (take i reports) e) (goes nodes observed age e) old p.1)
         | inr same ↦ inr (sym same, p.1)
       ]
 

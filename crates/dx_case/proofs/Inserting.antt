@@ -1,6 +1,7 @@
 -- Lists in order, with an item more.
 use Rattle.std.proofs.Common.{◌≡◌, ◌+◌, ◌<◌, ◌≤◌, ◌&&◌, ◌||◌, ◌++◌, ℕ, zero, suc, Bool, true, false}
-use Rattle.std.proofs.Common.{List, [], ◌∷◌, eqb, ltb, length, get_or, take, drop, map, refl, sym, ap}
+use Rattle.std.proofs.Common.{List, [], ◌∷◌, eqb, ltb, length, get_or, take}
+use Rattle.std.proofs.Common.{drop, map, refl, sym, ap}
 use Rattle.std.proofs.Common.{subst, ◌∙◌, inl, inr, arith, if◌then◌else◌}
 use Rattle.std.specs.List.{list_any}
 use Rattle.std.specs.List.Sorted.{IsPartitionedBy}

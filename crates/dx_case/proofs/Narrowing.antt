@@ -133,7 +133,8 @@ module _ (g : GraphValue) (cut : CutsOf) (links : List Link) (gone allowed fewer
   all_kept_roots : (root : ℕ) → IsPossible g after root (is_member observed) fewer
       → is_member (roots_in kept) root ≡ true
   all_kept_roots root p =
-      let r = made_from (λ (c : Candidate). c.root) old root (h.all root (possible_before root p)) in
+      let r = made_from (λ (c : Candidate). c.root) old root
+      (h.all root (possible_before root p)) in
       let b = at_same_place mid old r.0 r.1 ch.count r.2 in
       let a = b.0 in
       let f = from r.0 a b.1 in

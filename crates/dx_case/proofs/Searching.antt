@@ -16,7 +16,8 @@ use Rattle.ev_graph.specs.Rules.{IsProduced}
 use Rattle.ev_graph.specs.Table.{row_at, IncidenceValue, IsIncidence, wiring_of}
 use Rattle.ev_graph.specs.Reached.{IsReach, CanSearch, MarkedValue}
 use Rattle.ev_graph.specs.Lawful.{GraphValue, IsGraph, IsIncidenceOf}
-use Rattle.ev_graph.proofs.Occurrences.{in_filter, filter_in, all_from, in_transposed, transposed_in}
+use Rattle.ev_graph.proofs.Occurrences.{in_filter, filter_in, all_from, in_transposed}
+use Rattle.ev_graph.proofs.Occurrences.{transposed_in}
 use Rattle.ev_graph.proofs.Occurrences.{row_in_range, in_at}
 use Rattle.ev_graph.proofs.Building.{wiring_same}
 use Rattle.dx_sets.specs.Engine.{CutsOf}

@@ -269,7 +269,8 @@ module _ (g : GraphValue) (c : Case) (h : IsCaseOf g c) where
         (λ e i.
         let p = blamed_from kind g open_case e h.graph i in
         in_filter test e roots p.0 (explains_root e p.1)) where
-          ascending : (xs : List ℕ) (p : ℕ → Bool) → ascends xs ≡ true → ascends (filter p xs) ≡ true
+          ascending : (xs : List ℕ) (p : ℕ → Bool) → ascends xs ≡ true
+              → ascends (filter p xs) ≡ true
           ascending xs p up =
               sym (ap ascends (as_map (filter p xs)))
               ∙ ascends_part (λ (x : ℕ). x) p xs (ap ascends (as_map xs) ∙ up) where

@@ -19,10 +19,12 @@ use Rattle.fm_entry.specs.declared.broken.Broken.{Broken}
 use Rattle.fm_entry.specs.Words.{is_link_before}
 use Rattle.dx_words.specs.Cases.{cuts_of, is_allowed, is_awaited, inserted, broken_of, with_links}
 use Rattle.dx_case.specs.declared.candidate.Candidate.{Candidate}
-use Rattle.dx_case.specs.Changes.{cut_or, allowed_less, within_of, goes, gone_of, AreChanged, AreLivesOf}
+use Rattle.dx_case.specs.Changes.{cut_or, allowed_less, within_of, goes}
+use Rattle.dx_case.specs.Changes.{gone_of, AreChanged, AreLivesOf}
 use Rattle.dx_case.specs.Candidates.{AreCovered, AreCandidates, keeps, is_left, Narrows}
 use Rattle.dx_case.specs.Finding.{AreRootsOf, AreFresh}
-use Rattle.dx_case.specs.Cases.{allowed_at, IsBefore, AreAwaited, AreAwaitedAt, CaseParts, open_case}
+use Rattle.dx_case.specs.Cases.{allowed_at, IsBefore, AreAwaited, AreAwaitedAt}
+use Rattle.dx_case.specs.Cases.{CaseParts, open_case}
 use Rattle.dx_case.specs.Cases.{IsCase}
 use Rattle.dx_case.proofs.Changing.{or_none, and_all}
 use Rattle.dx_case.proofs.Awaiting.{awaited_is}

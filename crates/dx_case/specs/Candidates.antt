@@ -53,8 +53,8 @@ is_held candidates e = list_any (λ a. live_set a.live e) candidates
 abbrev pub is_left : List Candidate → List ℕ → ℕ → Bool
 is_left candidates observed e = not (is_member observed e) && is_held candidates e
 
--- what is allowed after a change: of the reports that candidates' stories have, just what was allowed
--- and did not go
+-- what is allowed after a change: of the reports that candidates' stories have, just what was
+-- allowed and did not go
 pub record Narrows (g : GraphValue) (reports : List ℕ) (gone allowed fewer : NodeSet) : Type 0 where
   pub within : (e : ℕ) → is_report_node g.nodes e ≡ true → fewer e ≡ true
       → allowed_less allowed gone e ≡ true

@@ -46,12 +46,12 @@ abbrev pub gone_of : List Node → List ℕ → List ℕ → Option ℕ → Node
 gone_of nodes reports observed age e = is_member reports e && goes nodes observed age e
 
 -- links of it were cut, and reports went
-pub record IsChanged (g : GraphValue) (links : List Link) (gone : NodeSet) (a b : LiveValue) : Type 0
-  where
-    pub live : IsLiveOf g b
-    pub root : live_root b ≡ live_root a
-    pub best : (cut : CutsOf) (allowed : NodeSet) → IsLiveBest g cut allowed a
-        → IsLiveBest g (cut_or cut links) (allowed_less allowed gone) b
+pub record IsChanged (g : GraphValue) (links : List Link) (gone : NodeSet)
+    (a b : LiveValue) : Type 0 where
+  pub live : IsLiveOf g b
+  pub root : live_root b ≡ live_root a
+  pub best : (cut : CutsOf) (allowed : NodeSet) → IsLiveBest g cut allowed a
+      → IsLiveBest g (cut_or cut links) (allowed_less allowed gone) b
 
 -- so with the first n of some candidates, and nothing with the others
 pub record AreChangedBelow (g : GraphValue) (links : List Link) (gone : NodeSet) (n : ℕ)

@@ -1,6 +1,7 @@
 //! Open cases.
 
-ghost use Rattle.std.specs.Prelude.{◌≡◌, ◌&&◌, ◌||◌, [], true, false, map, Some, None, IfOk, OnOk, OnErr};
+ghost use Rattle.std.specs.Prelude.{◌≡◌, ◌&&◌, ◌||◌, [], true, false, map, Some};
+ghost use Rattle.std.specs.Prelude.{None, IfOk, OnOk, OnErr};
 ghost use Rattle.std.specs.List.{list_all, list_any, filter};
 ghost use Rattle.ev_graph.specs.Sets.{ascends, is_member};
 ghost use Rattle.ev_graph.specs.Kinds.{is_report_node};
@@ -8,7 +9,8 @@ ghost use Rattle.ev_graph.specs.Lawful.{GraphValue};
 ghost use Rattle.dx_words.specs.Cases.{case_opened, case_joined, broken_of, verdict_of};
 ghost use Rattle.dx_case.specs.Changes.{gone_of, AreLivesOf};
 ghost use Rattle.dx_case.specs.Candidates.{keeps, is_held, is_left};
-ghost use Rattle.dx_case.specs.Cases.{open_of, time_of, IsCaseOf, IsBefore, waits_at, takes_at, told};
+ghost use Rattle.dx_case.specs.Cases.{open_of, time_of, IsCaseOf, IsBefore};
+ghost use Rattle.dx_case.specs.Cases.{waits_at, takes_at, told};
 ghost use Rattle.dx_case.specs.Cases.{IsSettled, IsSameBut};
 
 use crate::candidate::{Candidate, copies_of, drop_lost, is_any_left, is_held};
@@ -125,8 +127,8 @@ impl Case {
         })
     }
 
-    /// Moves the case to a moment that is not before the one it has come to. It takes no memory, and
-    /// one comparison where no window of a report ends in between.
+    /// Moves the case to a moment that is not before the one it has come to. It takes no memory,
+    /// and one comparison where no window of a report ends in between.
     pub fn expire(&mut self, graph: &Graph, moment: u64)
         requires case { IsCaseOf graph.now self.old }
         requires before { IsBefore (time_of self.old) moment }

@@ -93,7 +93,8 @@ module _ (g : GraphValue) (cut : CutsOf) (seen : List ℕ) (allowed : NodeSet) (
 
 module _ (g : GraphValue) (c : OpenCase) (time : ℕ) (graph : IsGraph g) where
   abbrev comes : ℕ → Bool
-  comes e = some_below (length g.nodes) (comes_from g (cuts_of c) c.observed (is_allowed g time c) e)
+  comes e = some_below (length g.nodes)
+      (comes_from g (cuts_of c) c.observed (is_allowed g time c) e)
 
   pub to_pending_case : (e : ℕ) → is_pending g time c e ≡ true
       → IsPending g (cuts_of c) (is_member c.observed) (is_allowed g time c) e

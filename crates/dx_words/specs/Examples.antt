@@ -21,8 +21,8 @@ leads causes effects n k = record { causes = causes; effects = effects; n = n; k
 link : ℕ → ℕ → Link
 link instance effect = record { instance = instance; effect = effect }
 
--- A cpu: the reports 0 and 1, awaited for 5, and the faults 2 and 3. The fault 3 shows the report 0,
--- and the fault 2 shows n of both.
+-- A cpu: the reports 0 and 1, awaited for 5, and the faults 2 and 3. The fault 3 shows the report
+-- 0, and the fault 2 shows n of both.
 cpu : ℕ → GraphValue
 cpu n = record {
   nodes = node (Report 5) ∷ node (Report 5) ∷ node (Fault 200 true) ∷ node (Fault 100 true) ∷ [];
@@ -90,7 +90,8 @@ unexplained_where_more_must_show :
 unfolding fan node leads blamed explains is_story some_below every_below some_set numbers_below
 unexplained_where_more_must_show = refl
 
--- A payload breaks the link of the instance 1 and the report 0: the fault 2 doesn't lead to it then.
+-- A payload breaks the link of the instance 1 and the report 0: the fault 2 doesn't lead to it
+-- then.
 links : GraphValue
 links = record {
   nodes = node (Report 0) ∷ node (Report 5) ∷ node (Fault 200 true) ∷ node (Fault 100 true) ∷ [];

@@ -16,8 +16,8 @@ loop-root-preserved c =
     let i = c.loop-root.root-index in
     let x = get_or roots i 0 in
     let a : Candidate = record { root = x; live = c.in_ok-live.live } in
-    rw c.in_ok-push.ensures.items (fresh_more c.args.graph.now roots i 0 c.loop-root.candidates.items
-    a c.loop-root-test.true refl
+    rw c.in_ok-push.ensures.items (fresh_more c.args.graph.now roots i 0
+    c.loop-root.candidates.items a c.loop-root-test.true refl
     (record {
       live = c.in_ok-live.ensures.live;
       root = c.in_ok-live.ensures.root;

@@ -5,7 +5,10 @@ use Rattle.ev_graph.specs.Kinds.{is_report_node}
 use Rattle.dx_case.proofs.Elements.{filter_more, filter_past}
 use Rattle.dx_case.proofs.Searching.{sorted_is}
 use Rattle.dx_case.proofs.finding.reports_among.Goals as goal
-use Rattle.dx_case.proofs.finding.reports_among.Goals.{then-is_report_node+in_ok-push, else-is_report_node}
+use Rattle.dx_case.proofs.finding.reports_among.Goals.{
+  then-is_report_node+in_ok-push,
+  else-is_report_node,
+}
 
 pub loop-number-init : goal.loop-number-init
 loop-number-init c = c.new-list.ensures.items

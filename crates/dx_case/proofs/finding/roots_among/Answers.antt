@@ -5,7 +5,10 @@ use Rattle.ev_graph.specs.Kinds.{is_root_node}
 use Rattle.dx_case.proofs.Elements.{filter_more, filter_past}
 use Rattle.dx_case.proofs.Searching.{sorted_is}
 use Rattle.dx_case.proofs.finding.roots_among.Goals as goal
-use Rattle.dx_case.proofs.finding.roots_among.Goals.{then-is_root_node+in_ok-push, else-is_root_node}
+use Rattle.dx_case.proofs.finding.roots_among.Goals.{
+  then-is_root_node+in_ok-push,
+  else-is_root_node,
+}
 
 pub loop-number-init : goal.loop-number-init
 loop-number-init c = c.new-list.ensures.items

@@ -11,10 +11,12 @@ use Rattle.dx_case.proofs.lists.put_link.Goals.{
 pub returns-then-not-is_before : goal.returns-then-not-is_before
 returns-then-not-is_before c =
     let xs = c.args.list.now.items in
+    let sized = ap length c.as_slice.ensures.value in
     let place = rw c.as_slice.ensures.value at c.place_of_link-at.ensures in
     record {
       put = sym (link_there c.args.link xs c.place_of_link-at.result place c.index.result.now
-          (omega (arith, c.if-at-len.true, c.len.ensures, c.as_slice.ensures.len, ap length c.as_slice.ensures.value)) c.index.ensures
+          (omega (arith, c.if-at-len.true, c.len.ensures, c.as_slice.ensures.len, sized))
+          c.index.ensures
           (sym c.is_before.ensures ∙ c.if-not-is_before.true));
       ascend = c.requires;
     }
@@ -22,6 +24,7 @@ returns-then-not-is_before c =
 pub returns : goal.returns
 returns c =
     let xs = c.args.list.now.items in
+    let sized = ap length c.as_slice.ensures.value in
     let x = c.args.link in
     let at = c.place_of_link-at.result in
     let place = rw c.as_slice.ensures.value at c.place_of_link-at.ensures in
@@ -30,7 +33,8 @@ returns c =
       | else-at-len-via-then-at-len+else-not-is_before w ↦ link_behind x xs at place
           w.index.result.now l w.index.ensures
           (sym w.is_before.ensures ∙ w.if-not-is_before.false)
-      | else-at-len-via-else-at-len w ↦ absurd (omega (arith, w.if-at-len.false, c.len.ensures, c.as_slice.ensures.len, ap length c.as_slice.ensures.value, l))
+      | else-at-len-via-else-at-len w ↦
+          absurd (omega (arith, w.if-at-len.false, c.len.ensures, c.as_slice.ensures.len, sized, l))
     ])) in
     record {
       put = put;

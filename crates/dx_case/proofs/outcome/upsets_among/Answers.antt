@@ -4,7 +4,10 @@ use Rattle.ev_graph.specs.Kinds.{is_upset_kind}
 use Rattle.dx_case.specs.Candidates.{is_of_kind}
 use Rattle.dx_case.proofs.Elements.{root_kept, root_past, all_roots}
 use Rattle.dx_case.proofs.outcome.upsets_among.Goals as goal
-use Rattle.dx_case.proofs.outcome.upsets_among.Goals.{then-is_upset_node+in_ok-push, else-is_upset_node}
+use Rattle.dx_case.proofs.outcome.upsets_among.Goals.{
+  then-is_upset_node+in_ok-push,
+  else-is_upset_node,
+}
 
 pub loop-candidate-init : goal.loop-candidate-init
 loop-candidate-init c = c.new-list.ensures.items

@@ -8,7 +8,11 @@ pub returns-clause-changed : goal.returns-clause-changed
 returns-clause-changed c =
     let old = c.args.self.now.candidates.items in
     let new = c.change_each.new.candidates in
-    let changed = rw (c.as_mut_slice.ensures.value, c.as_slice.ensures.value, c.as_slice-2.ensures.value) at c.change_each.ensures in
+    let changed = rw (
+      c.as_mut_slice.ensures.value,
+      c.as_slice.ensures.value,
+      c.as_slice-2.ensures.value,
+    ) at c.change_each.ensures in
     record {
       mid = new;
       changed = changed;
