@@ -8,3 +8,6 @@ pub mod StoreBases
 pub mod StoreMoves
 pub mod StoreCheckpoints
 pub mod Saves
+pub mod StoreRotates
+pub mod StoreRotations
+pub mod StoreChanges

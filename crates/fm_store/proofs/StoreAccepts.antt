@@ -147,7 +147,7 @@ module _ {D : Type 0} (g : Ghosts D) where
 
 module _ {D : Type 0} (g : Ghosts D) where
   -- the names of the disks are the same
-  name_of_both : (second : Bool) (a b one other : D) → g.name a ≡ g.name b
+  pub name_of_both : (second : Bool) (a b one other : D) → g.name a ≡ g.name b
       → g.name one ≡ g.name other
       → g.name (of_two second a one) ≡ g.name (of_two second b other)
   name_of_both true a b one other same others = others

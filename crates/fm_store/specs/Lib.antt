@@ -1,4 +1,5 @@
 pub mod Making
+pub mod Rotating
 pub mod Slots
 pub mod StoreCalls
 pub mod StoreLeft

@@ -1,5 +1,5 @@
 -- What holds of each store.
-use Rattle.std.specs.Prelude.{◌≡◌, ℕ, ◌<◌, ◌^◌, Bool, List, length}
+use Rattle.std.specs.Prelude.{◌≡◌, ◌≢◌, ℕ, ◌<◌, ◌^◌, Bool, List, length, Some, None}
 use Rattle.std.specs.declared.option.Option.{Option}
 use Rattle.fm_journal.specs.JournalOf.{JournalOf}
 use Rattle.fm_logs.specs.LogsOf.{LogsOf}
@@ -25,9 +25,15 @@ base_of conf spare slot_a slot_b newest moment in_force kept states =
 abbrev pub store_of : {D M : Type 0} → LogsOf D → StoreBaseOf D M → StoreOf D M
 store_of logs base = record { logs = logs; base = base }
 
--- the moment is within its limit
-pub record IsStoreBase {D M : Type 0} (base : StoreBaseOf D M) : Type 0 where
-  pub moment_fits : base.moment < 2 ^ 62
+-- the spare disk, which is there, or else another
+abbrev pub spare_of : {D : Type 0} → Option D → D → D
+spare_of (Some disk) other = disk
+spare_of None other = other
+
+-- the other error journal's disk is there, and the moment is within its limit
+pub record IsStoreBase {D : Type 0} (spare : Option D) (moment : ℕ) : Type 0 where
+  pub has_spare : spare ≢ None
+  pub moment_fits : moment < 2 ^ 62
 
 -- The greatest moment and the number of the configuration now in force are kept; the moment is
 -- within its limit, and a module's number has 32 bits.

@@ -1,4 +1,4 @@
-//! Checkpoints of a store.
+//! Checkpoints of a store, and rotations, which begin a new journal too.
 
 ghost use Rattle.std.specs.Prelude.{◌≡◌, ◌+◌, ◌<◌, ◌≤◌, ◌^◌, List, length, IfOk, IfErr, OnOk};
 ghost use Rattle.std.specs.Prelude.{Some, None, nat_le, []};
@@ -8,6 +8,7 @@ ghost use Rattle.fm_logs.specs.LogsOf.{FrameRefused};
 ghost use Rattle.fm_logs.specs.declared.fault.StoreFault.TheVariants.{Disk as DiskFailed};
 ghost use Rattle.fm_logs.specs.StoreBook.{StoreBook};
 ghost use Rattle.fm_saved.specs.Checkpoints.{IsSpelledCheckpoint, checkpoint_bytes};
+ghost use Rattle.fm_store.specs.Rotating.{RotateDoes, RotatesOnBook};
 ghost use Rattle.fm_store.specs.Slots.{next_slot, kept_slot, Replaces};
 ghost use Rattle.fm_store.specs.StoreCalls.{AreAtEnd, AreLawful, saves_of, checkpoint_at};
 ghost use Rattle.fm_store.specs.StoreCalls.{IsNextFrame, NextRefused, HandsAreDone, next_entry};
@@ -192,6 +193,38 @@ impl<D: Disk, M: Module> Store<D, M> {
                     Ok(())
                 }
                 Err(fault) => Err(fault),
+            },
+            Err(fault) => Err(fault),
+        }
+    }
+
+    /// Begins a journal on the other of two disks, for the entries to come, and writes a checkpoint
+    /// that names it, as `checkpoint` does. The number of the next entry, which is the first of
+    /// that journal.
+    pub fn rotate(&mut self, alloc: Global, hands: &[Hand<M>]) -> Result<u64, StoreFault>
+        requires as_many { length hands.now ≡ length self.old.logs.cursors }
+        requires at_end { AreAtEnd self.old.logs }
+        ensures does { RotateDoes D.Disk self.old self.new (saves_of M.Module hands.now) result }
+        ensures book { (fresh : List ModuleState) (k : StoreBook)
+            → StoreStandsFor D.Disk fresh self.old k
+            → HandsAreDone M.Module k.book hands.now
+            → RotatesOnBook D.Disk fresh self.old self.new k result }
+        ensures same_disks { AreSameStore D.Disk self.old self.new }
+    {
+        let number = self.logs.next_entry();
+        if number == 1 << 46 && self.logs.closed().is_none() {
+            return Err(StoreFault::Full(FullKind::Numbers));
+        }
+        match self.next_frame(alloc, !self.logs.is_second(), hands) {
+            Ok((frame, states)) => match self.base.change_journal(&mut self.logs, &frame) {
+                Ok(()) => {
+                    self.move_base(states);
+                    Ok(number)
+                }
+                Err((disk, faults)) => {
+                    self.logs.close(disk, faults);
+                    Err(StoreFault::Disk)
+                }
             },
             Err(fault) => Err(fault),
         }

@@ -7,20 +7,21 @@
 //! disk is a journal with a payload (`HasStore`). The contents of a new one are `IsNewStore`: the
 //! configuration, two empty logs, and no open slot. They read as the book without entries and
 //! records, with all modules as they are made (`a_new_store_reads_as_its_book`). A store that is
-//! there is two parts (`StoreOf`): its logs, which a lock may hold, and what stands beside them, the
-//! modules as they were made among it. It stands for a book (`StoreStandsFor`) where its logs keep
-//! the book's entries and records and its other disks say the rest, in each image.
+//! there is two parts (`StoreOf`): its logs, which a lock may hold, and what stands beside them,
+//! the modules as they were made among it. It stands for a book (`StoreStandsFor`) where its logs
+//! keep the book's entries and records and its other disks say the rest, in each image.
 //!
 //! **Promises.** `init` reads the configurations' disk, and refuses where a store is there. Then it
 //! closes both slots and makes the two logs, and writes the configuration last. So a crash at any
 //! moment leaves what was there before, no store, or the new one, and where there is none it may be
 //! run again. `Disk` comes only where the count of a disk rose.
 //!
-//! `accept`, `commit` and `checkpoint` have one clause each on what they make of the memory, by
-//! cases on the answer, and one on the book that the store stands for: after `Ok` it stands for the
-//! book after the move, and whatever is answered, each crash at a moment of the call or after it
-//! leaves contents that read as a book which drains to what the book of before does, or with the
-//! entry that was being taken. A checkpoint writes the slot that is not in force. After `Disk` the
+//! `accept`, `commit`, `checkpoint` and `rotate` have one clause each on what they make of the
+//! memory, by cases on the answer, and one on the book that the store stands for: after `Ok` it
+//! stands for the book after the move, and whatever is answered, each crash at a moment of the call
+//! or after it leaves contents that read as a book which drains to what the book of before does, or
+//! with the entry that was being taken. A checkpoint writes the slot that is not in force; a
+//! rotation first makes a journal of the error journal's disk that is not active. After `Disk` the
 //! store is closed: each later call answers `Closed` with the disk that failed and its count.
 #![tactic(auto)]
 
@@ -31,6 +32,7 @@ mod refused;
 mod slots;
 mod store;
 mod store_base;
+mod store_laws;
 
 pub use fm_bytes::NoMemory;
 pub use fm_logs::{Committed, DiskName, Disks, Logs, LogsParts, StoreFault};
@@ -40,3 +42,4 @@ pub use making::init;
 pub use refused::StoreRefused;
 pub use store::Store;
 pub use store_base::StoreBase;
+pub use store_laws::stores_read_like_their_books;

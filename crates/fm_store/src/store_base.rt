@@ -1,14 +1,16 @@
 //! What a store has beside its logs.
 
 ghost use Rattle.std.specs.Prelude.{◌≡◌, ◌+◌, ◌<◌, ◌^◌, Some};
+ghost use Rattle.fm_store.specs.Rotating.{ChangeDoes};
+ghost use Rattle.fm_store.specs.StoreCalls.{next_entry};
 ghost use Rattle.fm_store.specs.Slots.{next_slot, kept_slot, Replaces};
 ghost use Rattle.fm_store.specs.StoreLeft.{AreDisksOf};
 ghost use Rattle.fm_store.specs.StoreLimits.{store_of};
 ghost use Rattle.fm_store.specs.StoreOf.{fills_second, newest_sequence, of_two};
 
-use crate::slots::replace_of_two;
+use crate::slots::{begin_journal, put_back, replace_of_two, slot_disk, spare_name};
 use fm_journal::Journal;
-use fm_logs::{Disks, Logs, LogsParts};
+use fm_logs::{DiskName, Disks, Logs, LogsParts};
 use fm_outer::{Disk, Failed};
 use fm_saved::SavedStates;
 use fm_slots::SlotFrame;
@@ -31,8 +33,9 @@ fn in_order<D>(second: bool, first: D, other: D) -> (D, D)
 pub struct StoreBase<D: Disk, M> {
     /// The configurations' journal.
     pub(crate) conf: Journal<D>,
-    /// The disk of the error journal that is not active.
-    pub(crate) spare: D,
+    /// The disk of the error journal that is not active; it is away only while a rotation makes a
+    /// journal of it.
+    pub(crate) spare: Option<D>,
     pub(crate) slot_a: D,
     pub(crate) slot_b: D,
     /// Of the slot in force whether it is the second, and its sequence.
@@ -45,18 +48,17 @@ pub struct StoreBase<D: Disk, M> {
 
 impl<D: Disk, M> Model for StoreBase<D, M> {
     ghost use Rattle.fm_store.specs.StoreOf.{StoreBaseOf};
-    ghost use Rattle.fm_store.specs.StoreLimits.{IsStoreBase, base_of};
+    ghost use Rattle.fm_store.specs.StoreLimits.{IsStoreBase, base_of, spare_of};
     ghost use Rattle.std.specs.Coded.{codes};
 
     ghost Value = { StoreBaseOf D M };
 
     ghost coded = { Prim.hlevel (codes, M.code) };
 
-    ghost view = { λ b. base_of b.conf b.spare b.slot_a b.slot_b b.newest b.moment b.in_force
-        b.kept.items b.states };
+    ghost view = { λ b. base_of b.conf (spare_of b.spare b.conf.disk) b.slot_a b.slot_b b.newest
+        b.moment b.in_force b.kept.items b.states };
 
-    ghost invariant = { λ b. IsStoreBase (base_of b.conf b.spare b.slot_a b.slot_b b.newest
-        b.moment b.in_force b.kept.items b.states) };
+    ghost invariant = { λ b. IsStoreBase b.spare b.moment };
 }
 
 impl<D: Disk, M> StoreBase<D, M> {
@@ -121,6 +123,37 @@ impl<D: Disk, M> StoreBase<D, M> {
         replace_of_two(second, &mut self.slot_a, &mut self.slot_b, frame)
     }
 
+    /// Makes a journal on the spare disk, and puts the frame, which names it, into the slot that is
+    /// not in force. Then it is the active one, and the disk of the one before is spare. The disk
+    /// that failed, and its count.
+    pub(crate) fn change_journal(
+        &mut self,
+        logs: &mut Logs<D>,
+        frame: &SlotFrame,
+    ) -> Result<(), (DiskName, u64)>
+        requires { next_entry logs.old < 2 ^ 46 }
+        ensures { ChangeDoes D.Disk (store_of logs.old self.old) (store_of logs.new self.new)
+            frame.now result }
+    {
+        let second = self.fills_second();
+        match begin_journal(&mut self.spare, logs.next_entry()) {
+            Ok(journal) => {
+                match replace_of_two(second, &mut self.slot_a, &mut self.slot_b, frame) {
+                    Ok(()) => {
+                        let before = logs.change_active(journal);
+                        put_back(&mut self.spare, before.into_disk());
+                        Ok(())
+                    }
+                    Err(Failed) => {
+                        put_back(&mut self.spare, journal.into_disk());
+                        Err((slot_disk(second), self.slot_faults()))
+                    }
+                }
+            }
+            Err(faults) => Err((spare_name(logs.is_second()), faults)),
+        }
+    }
+
     /// The base is where the slot that was just written says.
     pub(crate) fn move_on(&mut self, moment: u64, in_force: u32, states: SavedStates)
         requires fits { moment < 2 ^ 62 }
@@ -163,6 +196,9 @@ impl<D: Disk, M: Drop> StoreBase<D, M> {
             kept: _,
             states: _,
         } = self;
+        let Some(spare) = spare else {
+            unreachable!();
+        };
         let (err_a, err_b) = in_order(second, active.into_disk(), spare);
         Disks {
             conf: conf.into_disk(),

@@ -8,7 +8,7 @@ pub returns-then-not-are_short-clause-err : goal.returns-then-not-are_short-clau
 returns-then-not-are_short-clause-err c = (
   refl,
   too_long c.args.checkpoint.now c.are_short.result
-    (c.are_short.ensures ∙ ap (list_all is_short) c.as_slice.ensures)
+      (c.are_short.ensures ∙ ap (list_all is_short) c.as_slice.ensures)
       c.if-not-are_short.true,
 )
 
