@@ -1,6 +1,7 @@
 //! A store: its logs, and what stands beside them.
 
 ghost use Rattle.std.specs.Prelude.{◌≡◌, ◌<◌, ◌^◌, ◌∷◌, [], List, length, slice_get, Some, All};
+ghost use Rattle.std.specs.Prelude.{◌↔◌, IsTrue};
 ghost use Rattle.std.specs.Option.{option_map};
 ghost use Rattle.fm_core.specs.Book.{ModuleState, greatest_from};
 ghost use Rattle.fm_entry.specs.Entries.{IsSpelled};
@@ -9,7 +10,7 @@ ghost use Rattle.fm_logs.specs.LogsOf.{AcceptDoes, CommitDoes};
 ghost use Rattle.fm_logs.specs.StoreBook.{StoreBook, IsLawfulStore, store_accepted, force_along};
 ghost use Rattle.fm_store.specs.StoreOf.{StoreStandsFor, greatest_at, force_at};
 ghost use Rattle.fm_store.specs.StoreLeft.{AreSameStore, AreDisksOf};
-ghost use Rattle.fm_store.specs.StoreCalls.{AcceptsOnBook, CommitsOnBook};
+ghost use Rattle.fm_store.specs.StoreCalls.{AcceptsOnBook, AreAtEnd, CommitsOnBook};
 
 use crate::store_base::StoreBase;
 use fm_entry::Entry;
@@ -152,6 +153,13 @@ impl<D: Disk, M> Store<D, M> {
         ensures { result ≡ length self.now.logs.cursors }
     {
         self.logs.modules() as u32
+    }
+
+    /// Whether each module has come to the end of the entries.
+    pub fn is_done(&self) -> bool
+        ensures { IsTrue result ↔ AreAtEnd self.now.logs }
+    {
+        self.logs.is_done()
     }
 
     /// The disk that failed in a writing call, and its count of failures then; `None` exactly where
