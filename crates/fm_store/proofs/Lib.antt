@@ -11,3 +11,14 @@ pub mod Saves
 pub mod StoreRotates
 pub mod StoreRotations
 pub mod StoreChanges
+pub mod Spelled
+pub mod Reloads
+pub mod FirstRecords
+pub mod Damages
+pub mod OpeningLaws
+pub mod Looks
+pub mod StoreConfs
+pub mod BaseReads
+pub mod EntryReads
+pub mod ActiveReads
+pub mod OpenReads

@@ -5,3 +5,8 @@ pub mod StoreCalls
 pub mod StoreLeft
 pub mod StoreLimits
 pub mod StoreOf
+pub mod Opening
+pub mod Looks
+pub mod Entries
+pub mod Bases
+pub mod Opened

@@ -1,0 +1,174 @@
+//! The looks of an opening, one after another.
+
+ghost use Rattle.std.specs.Prelude.{◌≡◌, ◌<◌, ◌≤◌, ℕ, List, length, Some, None, IfOk, IfErr};
+ghost use Rattle.fm_outer.specs.Moments.{OnlyRead};
+ghost use Rattle.fm_logs.specs.Contents.{WereOnlyRead};
+ghost use Rattle.fm_store.specs.Entries.{EntriesKept, AreEntries};
+ghost use Rattle.fm_store.specs.Opened.{ErrorsCause, RestDoes, active_disk, errors_back, fault_at};
+ghost use Rattle.fm_store.specs.Opened.{six_disks, opened_disks, AreErrorsRead};
+
+use crate::base::{BaseRead, read_base};
+use crate::confs::ConfsRead;
+use crate::entries::open_entries;
+use crate::look::LookFault;
+use crate::opened::Opened;
+use crate::refused::StoreRefused;
+use fm_entry::Entry;
+use fm_journal::Journal;
+use fm_logs::{DiskName, Disks, StoreFault};
+use fm_outer::Disk;
+use fm_saved::Checkpoint;
+use std::alloc::Global;
+
+/// The disks beside that of the configurations.
+#[derive(Drop)]
+pub(crate) struct OtherDisks<D> {
+    pub(crate) err_a: D,
+    pub(crate) err_b: D,
+    pub(crate) slot_a: D,
+    pub(crate) slot_b: D,
+    pub(crate) flt: D,
+}
+
+/// The active error journal, its entries from the base on, and the other one's disk.
+#[derive(Drop)]
+struct ErrorsRead<D: Disk> {
+    active: Journal<D>,
+    entries: Vec<Entry>,
+    spare: D,
+}
+
+/// The disks of both error journals, of which the active one was not read.
+#[derive(Drop)]
+struct ErrorsRefused<D> {
+    err_a: D,
+    err_b: D,
+    fault: StoreFault,
+}
+
+/// What a fault of a look at this disk is to the store.
+pub(crate) fn store_fault(disk: DiskName, fault: LookFault) -> StoreFault
+    ensures { result ≡ fault_at disk fault }
+{
+    match fault {
+        LookFault::Disk => StoreFault::Disk,
+        LookFault::Damaged { place } => StoreFault::Damaged { disk, place },
+        LookFault::NoMemory => StoreFault::NoMemory,
+    }
+}
+
+/// Reads the entries of the error journal that the checkpoint names.
+fn open_errors<D: Disk>(
+    alloc: Global,
+    err_a: D,
+    err_b: D,
+    known: u64,
+    checkpoint: &Checkpoint,
+) -> Result<ErrorsRead<D>, ErrorsRefused<D>>
+    requires known { checkpoint.now.conf < known }
+    ensures passes { IfOk result (λ read. (c : List ℕ)
+        → D.seen (active_disk checkpoint.now.second err_a err_b) ≡ Some c
+        → EntriesKept D.Disk c known checkpoint.now read.active read.entries.items) }
+    ensures are { IfOk result (λ read. AreEntries known checkpoint.now read.active
+        read.entries.items) }
+    ensures kept { AreErrorsRead D.Disk checkpoint.now.second err_a err_b
+        (errors_back checkpoint.now.second result) }
+    ensures cause { IfErr result (λ refused. ErrorsCause D.Disk known checkpoint.now
+        (active_disk checkpoint.now.second err_a err_b)
+        (active_disk checkpoint.now.second refused.err_a refused.err_b) refused.fault) }
+{
+    if checkpoint.second {
+        match open_entries(alloc, err_b, known, checkpoint) {
+            Ok(read) => Ok(ErrorsRead {
+                active: read.journal,
+                entries: read.entries,
+                spare: err_a,
+            }),
+            Err(refused) => Err(ErrorsRefused {
+                err_a,
+                err_b: refused.disk,
+                fault: store_fault(DiskName::ErrB, refused.fault),
+            }),
+        }
+    } else {
+        match open_entries(alloc, err_a, known, checkpoint) {
+            Ok(read) => Ok(ErrorsRead {
+                active: read.journal,
+                entries: read.entries,
+                spare: err_b,
+            }),
+            Err(refused) => Err(ErrorsRefused {
+                err_a: refused.disk,
+                err_b,
+                fault: store_fault(DiskName::ErrA, refused.fault),
+            }),
+        }
+    }
+}
+
+/// Reads the slots and the active error journal, beside configurations that were read.
+pub(crate) fn open_rest<D: Disk>(
+    alloc: Global,
+    confs: ConfsRead<D>,
+    others: OtherDisks<D>,
+) -> Result<Opened<D>, StoreRefused<D>>
+    requires is_open { confs.journal.closed ≡ None }
+    requires some { 1 ≤ length confs.confs.items }
+    ensures does { RestDoes D.Disk confs.journal confs.confs.items others result }
+    ensures still { WereOnlyRead D.Disk (six_disks confs.journal.disk others)
+        (opened_disks result) }
+{
+    let ConfsRead { journal, confs } = confs;
+    let OtherDisks {
+        err_a,
+        err_b,
+        slot_a,
+        slot_b,
+        flt,
+    } = others;
+    let mut slot_a = slot_a;
+    let mut slot_b = slot_b;
+    let known = confs.len() as u64;
+    let base = match read_base(alloc, &mut slot_a, &mut slot_b, known) {
+        Ok(base) => base,
+        Err(fault) => {
+            let conf = journal.into_disk();
+            let disks = Disks {
+                conf,
+                err_a,
+                err_b,
+                slot_a,
+                slot_b,
+                flt,
+            };
+            return Err(StoreRefused { disks, fault });
+        }
+    };
+    let BaseRead { newest, checkpoint } = base;
+    match open_errors(alloc, err_a, err_b, known, &checkpoint) {
+        Ok(read) => Ok(Opened {
+            conf: journal,
+            confs,
+            slot_a,
+            slot_b,
+            newest,
+            checkpoint,
+            active: read.active,
+            spare: read.spare,
+            flt,
+            entries: read.entries,
+        }),
+        Err(refused) => {
+            let fault = refused.fault;
+            let disks = Disks {
+                conf: journal.into_disk(),
+                err_a: refused.err_a,
+                err_b: refused.err_b,
+                slot_a,
+                slot_b,
+                flt,
+            };
+            Err(StoreRefused { disks, fault })
+        }
+    }
+}
