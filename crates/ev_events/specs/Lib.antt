@@ -1,0 +1,5 @@
+pub mod Asking
+pub mod Giving
+pub mod Placed
+pub mod Nodes
+pub mod Whole

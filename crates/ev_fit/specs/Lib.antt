@@ -1,0 +1,5 @@
+pub mod Names
+pub mod Fits
+pub mod Bindings
+pub mod Slots
+pub mod Sheets
