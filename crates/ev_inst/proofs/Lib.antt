@@ -1,0 +1,6 @@
+pub mod NodeSets
+pub mod Numbering
+pub mod Kindred
+pub mod Buildable
+pub mod Gathering
+pub mod Ready

@@ -1,0 +1,4 @@
+pub mod Outcomes
+pub mod Instances
+pub mod Gathering
+pub mod Guarding
