@@ -1,8 +1,8 @@
 //! Small graphs that are drawn from a number, and a search over all sets of their nodes.
 
 use crate::made::{graph_of, put, put_instance};
-use dx_story::check_story;
-use ev_graph::{Graph, Instance, NodeKind};
+use dx_story::{are_links, check_story_less};
+use ev_graph::{Graph, Instance, Link, NodeKind};
 use std::alloc::Global;
 use std::process::Abort;
 
@@ -115,13 +115,23 @@ pub fn drawn_graph(rt: &impl Abort, alloc: Global, draws: &mut Draws) -> Graph {
     graph_of(rt, alloc, &kinds, instances)
 }
 
-/// All sets of nodes that are stories of the root with some report.
-pub fn stories_of(rt: &impl Abort, alloc: Global, graph: &Graph, root: u32) -> Vec<u32> {
+fn is_story_less(graph: &Graph, less: &[Link], root: u32, seen: &[u32], story: &[u32]) -> bool {
+    are_links(graph, less) && check_story_less(graph, less, root, seen, story)
+}
+
+/// All sets of nodes that are stories of the root with some report, in the graph less these links.
+pub fn stories_of(
+    rt: &impl Abort,
+    alloc: Global,
+    graph: &Graph,
+    less: &[Link],
+    root: u32,
+) -> Vec<u32> {
     let mut stories = Vec::new(alloc);
     for bits in 0..256 {
         let story = numbers_of(rt, alloc, bits);
         let reports = numbers_of(rt, alloc, bits & REPORTS);
-        if check_story(graph, root, reports.as_slice(), story.as_slice()) {
+        if is_story_less(graph, less, root, reports.as_slice(), story.as_slice()) {
             put(rt, &mut stories, bits);
         }
     }

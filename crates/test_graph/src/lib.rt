@@ -1,7 +1,8 @@
-//! Tests of graphs, stories and explanations over the rule files that the documents work out and
-//! over drawn graphs: which graphs are built and which are refused, what a graph answers, which
-//! stories are told of it, and which roots are possible. They stand in a crate of their own, so
-//! that the libraries below are not proved again with each of them.
+//! Tests of graphs, stories, explanations and live sets over the rule files that the documents work
+//! out and over drawn graphs: which graphs are built and which are refused, what a graph answers,
+//! which stories are told of it, which roots are possible, and what is left while reports go and
+//! links are cut. They stand in a crate of their own, so that the libraries below are not proved
+//! again with each of them.
 #![tactic(auto)]
 
 #[cfg(test)]
@@ -10,6 +11,8 @@ mod answers;
 mod drawn;
 #[cfg(test)]
 mod explained;
+#[cfg(test)]
+mod lived;
 #[cfg(test)]
 mod made;
 #[cfg(test)]
