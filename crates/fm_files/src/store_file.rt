@@ -10,7 +10,6 @@ use fm_outer::{Disk, Failed};
 use std::fs::File;
 use std::io;
 use std::io::ErrorKind;
-use std::os::fd::AsRawFd;
 use std::os::unix::fs::FileExt;
 
 /// A byte of a file before it was written over.
@@ -27,16 +26,14 @@ fn byte_in(file: &File, at: u64) -> Option<OldByte> {
     Some(OldByte { at, byte: buf[0] })
 }
 
-/// What is done with a file that was written to and couldn't be synced. The byte is put back and
-/// written to the device, if it takes it; either way the system then takes what it has of the file
-/// in memory for written, and is asked to drop it, so that whoever reads the file next reads what
-/// the device has.
+/// What is done with a file that was written to and couldn't be synced. The byte is put back, and
+/// written to the device, if it takes it, so that whoever reads the file next reads what stood
+/// there before.
 fn fall_back(file: &File, old: Option<OldByte>) {
     if let Some(OldByte { at, byte }) = old {
         let _ = file.write_all_at(&[byte], at);
         let _ = file.sync_data();
     }
-    let _ = libc::posix_fadvise(file.as_raw_fd(), 0, 0, libc::POSIX_FADV_DONTNEED);
 }
 
 /// The file of a disk.
