@@ -1,0 +1,48 @@
+-- Sums of rates and of shares.
+use Rattle.std.proofs.Common.{◌≡◌, ℕ, zero, suc, ◌+◌, ◌-◌, ◌*◌, ◌<◌, ◌≤◌, List, [], ◌∷◌, length}
+use Rattle.std.proofs.Common.{drop}
+use Rattle.std.proofs.Common.{get_or, refl, sym, ap, ◌∙◌, arith, sum, drop-cons, add-one}
+use Rattle.std.proofs.lemmas.List.Sums.{sum_by-cons}
+use Rattle.std.proofs.Common.{map}
+use Rattle.dx_step.specs.Certainty.{share, shares, with_rest, certainties}
+use Rattle.dx_step.proofs.Certain.{certain_all}
+
+pub sum_first : (x : ℕ) (xs : List ℕ) → sum (x ∷ xs) ≡ x + sum xs
+sum_first x xs = sum_by-cons (λ n. n) x xs
+
+-- the rest of a list from a place on
+pub sum_from : (xs : List ℕ) (at d : ℕ) → at < length xs
+    → sum (drop at xs) ≡ get_or xs at d + sum (drop (at + 1) xs)
+sum_from xs at d low =
+    ap sum (drop-cons xs at d low) ∙ sum_first (get_or xs at d) (drop (suc at) xs)
+    ∙ ap (λ n. get_or xs at d + sum (drop n xs)) (sym (add-one at))
+
+rest_sum : (left : ℕ) (x : ℕ) (xs : List ℕ) → sum (with_rest left (x ∷ xs)) ≡ sum (x ∷ xs) + left
+rest_sum left x xs =
+    sum_first (x + left) xs ∙ (let all = sum_first x xs in omega arith)
+
+few_by : (xs : List ℕ) → (0 < length xs → sum (with_rest (100 - sum xs) xs) ≡ 100)
+    → sum xs ≤ 100
+few_by [] h = omega arith
+few_by (x ∷ xs) h =
+    let all = h (omega arith) in
+    let same = rest_sum (100 - sum (x ∷ xs)) x xs in
+    omega arith
+
+-- shares come to no more than 100
+pub shares_few : (rates : List ℕ) → sum (shares rates) ≤ 100
+unfolding certainties
+shares_few rates = few_by (shares rates) (λ some. some_all rates some) where
+  some_all : (rates : List ℕ) → 0 < length (shares rates)
+      → sum (with_rest (100 - sum (shares rates)) (shares rates)) ≡ 100
+  some_all [] some = absurd (omega arith)
+  some_all (r ∷ rates) some = certain_all (r ∷ rates) (omega arith)
+
+-- the shares of rates, where their total is the sum
+pub shares_low : (rates : List ℕ) (total : ℕ) (items : List ℕ) → total ≡ sum rates
+    → items ≡ map (share total) rates → sum items ≤ 100
+shares_low rates total items h k =
+    let same : sum items ≡ sum (shares rates) =
+    ap sum (k ∙ ap (λ n. map (share n) rates) h) in
+    let few = shares_few rates in
+    omega arith
