@@ -1,0 +1,34 @@
+// What is told where the words are no command.
+
+use std::alloc::{AllocError, Global};
+
+/// A command: its words, and what it does.
+#[derive(Clone, Copy)]
+struct CommandHelp {
+    words: &'static str,
+    does: &'static str,
+}
+
+/// The commands that are built.
+const COMMANDS: [CommandHelp; 2] = [
+    CommandHelp {
+        words: "accept",
+        does: "keeps each report of standard input in the folder store, and answers it",
+    },
+    CommandHelp {
+        words: "replay",
+        does: "counts the reports of standard input by class, and keeps nothing",
+    },
+];
+
+/// The commands, one a line with its words and what it does, and where the manual is.
+pub fn usage_text(alloc: Global) -> Result<String, AllocError> {
+    let mut text = String::new(alloc);
+    text.push_str("fma: no command of these words. The commands:\n")?;
+    for CommandHelp { words, does } in COMMANDS {
+        let line = format!(in alloc; "  {words}  {does}\n")?;
+        text.push_str(line.as_str())?;
+    }
+    text.push_str("The manual is README.md and docs/FORMATS.md, beside the program's source.\n")?;
+    Ok(text)
+}
