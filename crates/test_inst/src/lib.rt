@@ -1,0 +1,10 @@
+//! Tests of what rule files come to over small topologies, by values that were worked out by hand.
+//! They stand in a crate of their own, so that the libraries below are not proved again with them.
+#![tactic(auto)]
+
+#[cfg(test)]
+mod answers;
+#[cfg(test)]
+mod drawn;
+#[cfg(test)]
+mod instances;
