@@ -16,7 +16,8 @@ use Rattle.fm_slots.specs.declared.fault.SlotFault.TheVariants.{Damaged as SlotD
 use Rattle.fm_slots.specs.declared.fault.SlotFault.TheVariants.{NoMemory as SlotWantsMemory}
 use Rattle.fm_store.specs.Bases.{SlotsKept, SlotsCause, SlotsDamage, BaseCause, newest_of}
 use Rattle.fm_store.specs.Bases.{fault_of_slots}
-use Rattle.fm_store.specs.Opening.{SaysCheckpoint, slot_disk, slot_disk_of}
+use Rattle.fm_store.specs.Opening.{SaysCheckpoint, slot_disk}
+use Rattle.fm_store.specs.StoreLeft.{slot_name}
 use Rattle.fm_store.specs.declared.base.BaseRead.{BaseRead}
 
 module _ {D : Type 0} (g : Ghosts D) (a b new_a new_b : D) (known : ℕ)
@@ -70,7 +71,7 @@ module _ {D : Type 0} (g : Ghosts D) (a b new_a new_b : D) (known : ℕ)
 
 -- a damaged slot of a pair
 pair_damaged : (known : ℕ) (second : Bool) (place : ℕ) (x y : List ℕ) → place ≡ 0
-    → IsDamagedPair second x y → SlotsDamage known x y (slot_disk_of second) place
+    → IsDamagedPair second x y → SlotsDamage known x y (slot_name second) place
 pair_damaged known false place x y is damaged = inl (refl, is, damaged)
 pair_damaged known true place x y is damaged =
     inr (damaged.0, damaged.1, inl (refl, is, damaged.2))

@@ -1,5 +1,3 @@
-pub mod NewStore
-pub mod Stores
 pub mod StoreReads
 pub mod StoreAccepts
 pub mod StoreCommits

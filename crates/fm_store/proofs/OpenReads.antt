@@ -35,7 +35,7 @@ use Rattle.fm_store.specs.declared.look.LookFault.{LookFault}
 use Rattle.fm_store.specs.declared.look.LookFault.TheVariants.{Disk as Failed, Damaged as IsDamaged}
 use Rattle.fm_store.specs.declared.look.LookFault.TheVariants.{NoMemory as WantsMemory}
 use Rattle.fm_store.specs.declared.opening.OtherDisks.{OtherDisks}
-use Rattle.fm_store.specs.declared.refused.StoreRefused.{StoreRefused}
+use Rattle.fm_init.specs.declared.refused.StoreRefused.{StoreRefused}
 
 -- all six were only read
 pub were_read : {D : Type 0} (g : Ghosts D) (old new : Disks D) → OnlyRead g old.conf new.conf

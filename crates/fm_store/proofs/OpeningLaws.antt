@@ -16,7 +16,7 @@ use Rattle.fm_slots.specs.Format.{SlotOf}
 use Rattle.fm_slots.specs.InForce.{in_force}
 use Rattle.fm_slots.proofs.Forces.{same_slot, damaged_no_slot}
 use Rattle.fm_outer.specs.declared.disk.Disk.{Ghosts}
-use Rattle.fm_store.specs.Making.{AreFirstModules}
+use Rattle.fm_init.specs.Making.{AreFirstModules}
 use Rattle.fm_store.specs.Opened.{OpenedOf, Opens, OpensBook}
 use Rattle.fm_store.specs.Opening.{WasRead, DamageAt, AllStorePass, FirstStoreFinds, open_looks}
 use Rattle.fm_store.specs.Opening.{book_read, slot_found, SaysCheckpoint, LoadsStates}

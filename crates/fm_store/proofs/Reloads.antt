@@ -1,9 +1,8 @@
 -- Reloads along entries, and entries behind older ones.
-use Rattle.std.proofs.Common.{◌≡◌, ℕ, zero, suc, ◌+◌, ◌<◌, ◌≤◌, List, [], ◌∷◌, ◌++◌, length}
-use Rattle.std.proofs.Common.{take, drop, refl, sym, ◌∙◌, ap, arith, length-append}
+use Rattle.std.proofs.Common.{◌≡◌, ℕ, zero, suc, ◌<◌, ◌≤◌, List, [], ◌∷◌, ◌++◌, length}
+use Rattle.std.proofs.Common.{take, drop, refl, sym, ◌∙◌, arith, length-append}
 use Rattle.std.proofs.Math.ListN.{drop_of_length-le}
-use Rattle.std.proofs.Common.{get_or}
-use Rattle.std.proofs.lemmas.List.{drop-append-le, take_more}
+use Rattle.std.proofs.lemmas.List.{drop-append-le}
 use Rattle.fm_entry.specs.declared.entry.Entry.{Entry}
 use Rattle.fm_entry.specs.declared.entry.Entry.TheVariants.{Reload}
 use Rattle.fm_logs.specs.StoreBook.{force_along, ReloadsRise}
@@ -54,13 +53,3 @@ behind_take known n zero k all a = rise_take known n k all a
 behind_take known n (suc older) zero all a = tt
 behind_take known n (suc older) (suc k) [] a = tt
 behind_take known n (suc older) (suc k) (x ∷ all) a = behind_take known n older k all a
-
--- the number in force after one entry more of a list
-pub force_next : (n force next : ℕ) (es : List Entry) (i : ℕ) (e : Entry) → i < length es
-    → e ≡ get_or es i e → force ≡ force_along n (take i es)
-    → next ≡ force_along force (e ∷ []) → next ≡ force_along n (take (i + 1) es)
-force_next n force next es i e inside is before after =
-    after ∙ ap (λ (m : ℕ). force_along m (e ∷ [])) before
-    ∙ sym (force_push n (take i es) e)
-    ∙ ap (force_along n) (sym (take_more es i e inside
-    ∙ ap (λ (x : Entry). take i es ++ x ∷ []) (sym is)))

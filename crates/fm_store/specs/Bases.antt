@@ -15,7 +15,8 @@ use Rattle.fm_logs.specs.declared.disks.DiskName.{DiskName}
 use Rattle.fm_logs.specs.declared.disks.DiskName.TheVariants.{SlotA, SlotB}
 use Rattle.fm_logs.specs.declared.fault.StoreFault.{StoreFault}
 use Rattle.fm_logs.specs.declared.fault.StoreFault.TheVariants.{Disk, Damaged, NoMemory}
-use Rattle.fm_store.specs.Opening.{SaysCheckpoint, slot_disk, slot_disk_of}
+use Rattle.fm_store.specs.Opening.{SaysCheckpoint, slot_disk}
+use Rattle.fm_store.specs.StoreLeft.{slot_name}
 
 -- whether the slot in force is the second, and its sequence
 abbrev pub newest_of : Option (Bool × SlotOf) → Option (Bool × ℕ)
@@ -60,5 +61,5 @@ SlotsCause g known a b new_a new_b _ = ⊥
 -- what a fault of the slots is to the store
 abbrev pub fault_of_slots : SlotFault → StoreFault
 fault_of_slots SlotFailed = Disk
-fault_of_slots (SlotDamaged second place) = Damaged (slot_disk_of second) place
+fault_of_slots (SlotDamaged second place) = Damaged (slot_name second) place
 fault_of_slots SlotWantsMemory = NoMemory

@@ -1,4 +1,3 @@
-pub mod Making
 pub mod Rotating
 pub mod Slots
 pub mod StoreCalls

@@ -29,7 +29,7 @@ use Rattle.fm_store.specs.declared.look.LookFault.TheVariants.{NoMemory as Wants
 use Rattle.fm_store.specs.declared.opening.ErrorsRead.{ErrorsRead}
 use Rattle.fm_store.specs.declared.opening.ErrorsRefused.{ErrorsRefused}
 use Rattle.fm_store.specs.declared.opening.OtherDisks.{OtherDisks}
-use Rattle.fm_store.specs.declared.refused.StoreRefused.{StoreRefused}
+use Rattle.fm_init.specs.declared.refused.StoreRefused.{StoreRefused}
 
 -- The journals of the configurations and of the active errors, the configurations, the slots'
 -- disks, the slot in force if one is open, as whether it is the second and its sequence, what is

@@ -2,7 +2,7 @@
 -- needs of the looks before it is a function of what these read.
 use Rattle.std.specs.Prelude.{◌≡◌, ◌⊎◌, ℕ, ◌+◌, ◌-◌, ◌<◌, ◌≤◌, Bool, false, List, [], ◌∷◌}
 use Rattle.std.specs.Prelude.{◌++◌, length}
-use Rattle.std.specs.Prelude.{take, drop, Some, None, if◌then◌else◌}
+use Rattle.std.specs.Prelude.{take, drop, Some, None}
 use Rattle.std.specs.declared.option.Option.{Option}
 use Rattle.fm_core.specs.Book.{Book, ModuleState, IsLawful, floored}
 use Rattle.fm_entry.specs.declared.entry.Entry.{Entry}
@@ -21,6 +21,7 @@ use Rattle.fm_logs.specs.ReadsAsBook.{AreLoaded}
 use Rattle.fm_logs.specs.StoreBook.{StoreBook, AreConfs, HaveConf, ReloadsRise}
 use Rattle.fm_logs.specs.declared.disks.DiskName.{DiskName}
 use Rattle.fm_logs.specs.declared.disks.DiskName.TheVariants.{Conf as ConfDisk, SlotA, SlotB, Flt}
+use Rattle.fm_store.specs.StoreLeft.{slot_name}
 
 -- What was read so far: the configurations, the slots, what is known at the base, the first number
 -- and all entries of the active journal, the modules at the base, and the records. What no look has
@@ -64,12 +65,9 @@ all_looks = open_looks ++ adopt_looks
 abbrev pub slot_found : WasRead → Option (Bool × SlotOf)
 slot_found o = in_force o.slot_a o.slot_b
 
-abbrev pub slot_disk_of : Bool → DiskName
-slot_disk_of second = if second then SlotB else SlotA
-
 abbrev pub slot_disk : Option (Bool × SlotOf) → DiskName
 slot_disk None = SlotA
-slot_disk (Some found) = slot_disk_of found.0
+slot_disk (Some found) = slot_name found.0
 
 -- the entries from the base on
 abbrev pub from_base : WasRead → List Entry

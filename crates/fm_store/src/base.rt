@@ -6,10 +6,11 @@ ghost use Rattle.fm_outer.specs.Moments.{IsSettled, OnlyRead};
 ghost use Rattle.fm_slots.specs.Pair.{found_slot};
 ghost use Rattle.fm_store.specs.Bases.{SlotsKept, SlotsCause, BaseCause, newest_of};
 ghost use Rattle.fm_store.specs.Bases.{fault_of_slots};
-ghost use Rattle.fm_store.specs.Opening.{SaysCheckpoint, first_checkpoint, slot_disk_of};
+ghost use Rattle.fm_store.specs.Opening.{SaysCheckpoint, first_checkpoint};
 
+use crate::slots::slot_disk;
 use fm_bytes::{Items, NoMemory};
-use fm_logs::{DiskName, StoreFault};
+use fm_logs::StoreFault;
 use fm_outer::Disk;
 use fm_saved::{Checkpoint, read_checkpoint};
 use fm_slots::{Found, SlotFault, newest};
@@ -23,17 +24,6 @@ pub(crate) struct BaseRead {
     pub(crate) checkpoint: Checkpoint,
 }
 
-/// The disk of the first slot or the second.
-fn slot_name(second: bool) -> DiskName
-    ensures { result ≡ slot_disk_of second }
-{
-    if second {
-        DiskName::SlotB
-    } else {
-        DiskName::SlotA
-    }
-}
-
 /// What a fault of the slots is to the store.
 fn slot_fault(fault: SlotFault) -> StoreFault
     ensures { result ≡ fault_of_slots fault }
@@ -41,7 +31,7 @@ fn slot_fault(fault: SlotFault) -> StoreFault
     match fault {
         SlotFault::Disk => StoreFault::Disk,
         SlotFault::Damaged { second, place } => StoreFault::Damaged {
-            disk: slot_name(second),
+            disk: slot_disk(second),
             place,
         },
         SlotFault::NoMemory => StoreFault::NoMemory,
@@ -82,7 +72,7 @@ fn base_of(alloc: Global, found: Option<Found>, known: u64) -> Result<BaseRead, 
         payload,
     } = found;
     let damaged = StoreFault::Damaged {
-        disk: slot_name(second),
+        disk: slot_disk(second),
         place: 13,
     };
     let Some(checkpoint) = read_checkpoint(alloc, &payload)? else {

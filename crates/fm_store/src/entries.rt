@@ -155,7 +155,7 @@ pub(crate) fn open_entries<D: Disk>(
 }
 
 /// The number of the configuration in force after one entry more.
-fn force_after(force: u32, entry: &Entry) -> u32
+pub(crate) fn force_after(force: u32, entry: &Entry) -> u32
     ensures { result ≡ force_along force (entry.now ∷ []) }
 {
     match entry {
@@ -165,11 +165,12 @@ fn force_after(force: u32, entry: &Entry) -> u32
 }
 
 /// The number of the configuration in force after entries.
+#[tactic(auto, using(crate::proofs::Based::force_step))]
 pub(crate) fn force_of(at_base: u32, entries: &[Entry]) -> u32
     ensures { result ≡ force_along at_base entries.now }
 {
     let mut force = at_base;
-    for entry in entries {
+    'entries: for entry in entries {
         force = force_after(force, entry);
     }
     force

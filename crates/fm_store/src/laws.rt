@@ -2,24 +2,15 @@
 
 ghost use Rattle.std.specs.Prelude.{◌≡◌, List, []};
 ghost use Rattle.fm_core.specs.Book.{ModuleState};
-ghost use Rattle.fm_saved.specs.Confs.{IsSpelledConf};
-ghost use Rattle.fm_saved.specs.declared.conf.Conf.{Conf};
 ghost use Rattle.fm_logs.specs.Contents.{Contents};
 ghost use Rattle.fm_logs.specs.ReadsAsBook.{ReadsAsBook};
 ghost use Rattle.fm_logs.specs.StoreBook.{StoreBook};
-ghost use Rattle.fm_store.specs.Making.{IsNewStore, AreFirstModules, new_book};
+ghost use Rattle.fm_init.specs.Making.{AreFirstModules};
 ghost use Rattle.fm_store.specs.Opened.{OpenedOf, Opens, OpensBook};
 ghost use Rattle.fm_store.specs.Opening.{WasRead, DamageAt, AllStorePass, FirstStoreFinds};
 ghost use Rattle.fm_store.specs.Opening.{all_looks, book_read, open_looks};
 
 use fm_outer::Disk;
-
-/// The contents of a new store read as the book without entries and records, with the modules as
-/// they are made.
-pub fn a_new_store_reads_as_its_book()
-    ensures { (fresh : List ModuleState) (c : Contents) (conf : Conf) → IsSpelledConf conf
-        → AreFirstModules fresh → IsNewStore c conf → ReadsAsBook fresh c (new_book fresh conf) }
-{}
 
 /// Contents read as a book exactly where all looks pass, and it is the book that these read; there
 /// is one at most.

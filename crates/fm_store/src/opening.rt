@@ -12,8 +12,8 @@ use crate::confs::ConfsRead;
 use crate::entries::open_entries;
 use crate::look::LookFault;
 use crate::opened::Opened;
-use crate::refused::StoreRefused;
 use fm_entry::Entry;
+use fm_init::StoreRefused;
 use fm_journal::Journal;
 use fm_logs::{DiskName, Disks, StoreFault};
 use fm_outer::Disk;
@@ -106,6 +106,32 @@ fn open_errors<D: Disk>(
     }
 }
 
+/// All disks, and why the others were not opened.
+fn refuse_rest<D: Disk>(
+    journal: Journal<D>,
+    others: OtherDisks<D>,
+    fault: StoreFault,
+) -> StoreRefused<D>
+    ensures { result ≡ record { disks = six_disks journal.disk others; fault = fault } }
+{
+    let OtherDisks {
+        err_a,
+        err_b,
+        slot_a,
+        slot_b,
+        flt,
+    } = others;
+    let disks = Disks {
+        conf: journal.into_disk(),
+        err_a,
+        err_b,
+        slot_a,
+        slot_b,
+        flt,
+    };
+    StoreRefused { disks, fault }
+}
+
 /// Reads the slots and the active error journal, beside configurations that were read.
 pub(crate) fn open_rest<D: Disk>(
     alloc: Global,
@@ -119,56 +145,34 @@ pub(crate) fn open_rest<D: Disk>(
         (opened_disks result) }
 {
     let ConfsRead { journal, confs } = confs;
-    let OtherDisks {
-        err_a,
-        err_b,
-        slot_a,
-        slot_b,
-        flt,
-    } = others;
-    let mut slot_a = slot_a;
-    let mut slot_b = slot_b;
+    let mut others = others;
     let known = confs.len() as u64;
-    let base = match read_base(alloc, &mut slot_a, &mut slot_b, known) {
+    let base = match read_base(alloc, &mut others.slot_a, &mut others.slot_b, known) {
         Ok(base) => base,
-        Err(fault) => {
-            let conf = journal.into_disk();
-            let disks = Disks {
-                conf,
-                err_a,
-                err_b,
-                slot_a,
-                slot_b,
-                flt,
-            };
-            return Err(StoreRefused { disks, fault });
-        }
+        Err(fault) => return Err(refuse_rest(journal, others, fault)),
     };
     let BaseRead { newest, checkpoint } = base;
-    match open_errors(alloc, err_a, err_b, known, &checkpoint) {
+    match open_errors(alloc, others.err_a, others.err_b, known, &checkpoint) {
         Ok(read) => Ok(Opened {
             conf: journal,
             confs,
-            slot_a,
-            slot_b,
+            slot_a: others.slot_a,
+            slot_b: others.slot_b,
             newest,
             checkpoint,
             active: read.active,
             spare: read.spare,
-            flt,
+            flt: others.flt,
             entries: read.entries,
         }),
         Err(refused) => {
-            let fault = refused.fault;
-            let disks = Disks {
-                conf: journal.into_disk(),
-                err_a: refused.err_a,
-                err_b: refused.err_b,
-                slot_a,
-                slot_b,
-                flt,
+            let (err_a, err_b) = (refused.err_a, refused.err_b);
+            let others = OtherDisks {
+                err_a,
+                err_b,
+                ..others
             };
-            Err(StoreRefused { disks, fault })
+            Err(refuse_rest(journal, others, refused.fault))
         }
     }
 }

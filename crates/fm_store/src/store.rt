@@ -12,6 +12,7 @@ ghost use Rattle.fm_store.specs.StoreOf.{StoreStandsFor, greatest_at, force_at};
 ghost use Rattle.fm_store.specs.StoreLeft.{AreSameStore, AreDisksOf};
 ghost use Rattle.fm_store.specs.StoreCalls.{AcceptsOnBook, AreAtEnd, CommitsOnBook};
 
+use crate::entries::{force_after, force_of};
 use crate::store_base::StoreBase;
 use fm_entry::Entry;
 use fm_journal::Frame;
@@ -19,16 +20,6 @@ use fm_logs::{Committed, DiskName, Disks, Logs, StoreFault};
 use fm_outer::Disk;
 use std::alloc::Global;
 use std::marker::Model;
-
-/// The number of the configuration in force after the entry, where this one was before.
-fn force_after(in_force: u32, entry: &Entry) -> u32
-    ensures { result ≡ force_along in_force (entry.now ∷ []) }
-{
-    match entry {
-        Entry::Reload { conf, .. } => *conf,
-        _ => in_force,
-    }
-}
 
 /// The greatest of the moment and those of the entries.
 fn greatest_along(moment: u64, entries: &[Entry]) -> u64
@@ -42,18 +33,6 @@ fn greatest_along(moment: u64, entries: &[Entry]) -> u64
         greatest = greatest.max(entry.moment());
     }
     greatest
-}
-
-/// The number of the configuration in force after the entries.
-#[tactic(auto, using(crate::proofs::Based::force_step))]
-fn force_after_all(in_force: u32, entries: &[Entry]) -> u32
-    ensures { result ≡ force_along in_force entries.now }
-{
-    let mut force = in_force;
-    'entries: for entry in entries {
-        force = force_after(force, entry);
-    }
-    force
 }
 
 /// Six disks that stand for one book, with the modules that the book is of. Contracts see
@@ -88,7 +67,7 @@ impl<D: Disk, M> Store<D, M> {
         ensures { result ≡ record { logs = logs; base = base } }
     {
         let greatest = greatest_along(base.moment(), logs.entries());
-        let in_force = force_after_all(base.in_force(), logs.entries());
+        let in_force = force_of(base.in_force(), logs.entries());
         Store {
             logs,
             base,

@@ -1,7 +1,9 @@
 -- The slots and the active error journal were read, or were not.
-use Rattle.std.proofs.Common.{◌≡◌, ℕ, arith, List, Some, length, refl, subst}
+use Rattle.std.proofs.Common.{◌≡◌, ℕ, arith, List, Some, Err, length, refl, sym, subst}
 use Rattle.fm_store.specs.Bases.{SlotsCause, SlotsKept}
-use Rattle.fm_store.specs.Opened.{ErrorsCause, RestOpens, active_disk, opened_of, six_disks}
+use Rattle.fm_init.specs.declared.refused.StoreRefused.{StoreRefused}
+use Rattle.fm_store.specs.Opened.{ErrorsCause, RestDoes, RestOpens, active_disk, opened_of}
+use Rattle.fm_store.specs.Opened.{six_disks}
 use Rattle.fm_store.proofs.OpenReads.{errors_refused, rest_opens, slots_refused}
 use Rattle.fm_store.proofs.opening.open_rest.Goals as goal
 
@@ -9,9 +11,11 @@ pub returns-in-Err-clause-does : goal.returns-in-Err-clause-does
 returns-in-Err-clause-does g c =
     let many : c.len-known.result ≡ length c.args.confs.confs.items =
     omega (arith, c.len-known.ensures) in
-    slots_refused g.D.Disk (length c.args.confs.confs.items)
+    subst (λ (r : StoreRefused _). RestDoes g.D.Disk c.args.confs.journal c.args.confs.confs.items
+    c.args.others (Err r)) (sym c.refuse_rest.ensures)
+    (slots_refused g.D.Disk (length c.args.confs.confs.items)
     (six_disks c.args.confs.journal.disk c.args.others) (record {
-      conf = c.into_disk-conf.result;
+      conf = c.args.confs.journal.disk;
       err_a = c.args.others.err_a;
       err_b = c.args.others.err_b;
       slot_a = c.read_base.new.slot_a;
@@ -20,7 +24,7 @@ returns-in-Err-clause-does g c =
     }) c.in-Err.fault
     (subst (λ (n : ℕ). SlotsCause g.D.Disk n c.args.others.slot_a c.args.others.slot_b
     c.read_base.new.slot_a c.read_base.new.slot_b c.in-Err.fault) many
-    c.in-Err.ensures.cause)
+    c.in-Err.ensures.cause))
 
 pub returns-in-Ok-open_errors-clause-does : goal.returns-in-Ok-open_errors-clause-does
 returns-in-Ok-open_errors-clause-does g c =
@@ -47,9 +51,11 @@ pub returns-in-Err-open_errors-clause-does : goal.returns-in-Err-open_errors-cla
 returns-in-Err-open_errors-clause-does g c =
     let many : c.len-known.result ≡ length c.args.confs.confs.items =
     omega (arith, c.len-known.ensures) in
-    errors_refused g.D.Disk (length c.args.confs.confs.items)
+    subst (λ (r : StoreRefused _). RestDoes g.D.Disk c.args.confs.journal c.args.confs.confs.items
+    c.args.others (Err r)) (sym c.refuse_rest-in-Err-open_errors.ensures)
+    (errors_refused g.D.Disk (length c.args.confs.confs.items)
     (six_disks c.args.confs.journal.disk c.args.others) (record {
-      conf = c.into_disk.result;
+      conf = c.args.confs.journal.disk;
       err_a = c.in-Err-open_errors.refused.err_a;
       err_b = c.in-Err-open_errors.refused.err_b;
       slot_a = c.read_base.new.slot_a;
@@ -64,4 +70,4 @@ returns-in-Err-open_errors-clause-does g c =
     (active_disk c.in-Ok.base.checkpoint.second c.args.others.err_a c.args.others.err_b)
     (active_disk c.in-Ok.base.checkpoint.second c.in-Err-open_errors.refused.err_a
     c.in-Err-open_errors.refused.err_b) c.in-Err-open_errors.refused.fault) many
-    c.in-Err-open_errors.ensures.cause)
+    c.in-Err-open_errors.ensures.cause))

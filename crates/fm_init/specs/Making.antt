@@ -16,7 +16,7 @@ use Rattle.fm_logs.specs.StoreBook.{StoreBook, HaveConf}
 use Rattle.fm_logs.specs.declared.disks.Disks.{Disks}
 use Rattle.fm_logs.specs.declared.fault.StoreFault.{StoreFault}
 use Rattle.fm_logs.specs.declared.fault.StoreFault.TheVariants.{Disk, Full, Exists, NoMemory}
-use Rattle.fm_store.specs.declared.refused.StoreRefused.{StoreRefused}
+use Rattle.fm_init.specs.declared.refused.StoreRefused.{StoreRefused}
 
 -- a store is there: the bytes of the configurations' disk are a journal with a payload
 abbrev pub HasStore : List ℕ → Type 0

@@ -1,6 +1,6 @@
 -- A synced disk has no image but what it tells, and that is no store.
-use Rattle.fm_store.proofs.Stores.{found_none}
-use Rattle.fm_store.proofs.making.refuse_store.Goals as goal
+use Rattle.fm_init.proofs.Stores.{found_none}
+use Rattle.fm_init.proofs.making.refuse_store.Goals as goal
 
 pub returns-in-Ok-false-clause-none : goal.returns-in-Ok-false-clause-none
 returns-in-Ok-false-clause-none g c = λ image left.

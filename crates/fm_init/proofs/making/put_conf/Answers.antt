@@ -2,9 +2,9 @@
 use Rattle.std.proofs.Common.{Ok, Err, subst, sym}
 use Rattle.fm_outer.specs.Moments.{LeavesOnly}
 use Rattle.fm_journal.proofs.Started.{create_leaves}
-use Rattle.fm_store.specs.Making.{IsNoneOrConf}
-use Rattle.fm_store.proofs.Stores.{written_leaves, stopped_leaves}
-use Rattle.fm_store.proofs.making.put_conf.Goals as goal
+use Rattle.fm_init.specs.Making.{IsNoneOrConf}
+use Rattle.fm_init.proofs.Stores.{written_leaves, stopped_leaves}
+use Rattle.fm_init.proofs.making.put_conf.Goals as goal
 
 pub returns-in-Ok-clause-any_moment : goal.returns-in-Ok-clause-any_moment
 returns-in-Ok-clause-any_moment g c = λ bytes told.

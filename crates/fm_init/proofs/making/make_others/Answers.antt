@@ -1,6 +1,6 @@
 -- Each of the four was made.
-use Rattle.fm_store.proofs.Stores.{others_ready}
-use Rattle.fm_store.proofs.making.make_others.Goals as goal
+use Rattle.fm_init.proofs.Stores.{others_ready}
+use Rattle.fm_init.proofs.making.make_others.Goals as goal
 
 pub returns-in-Ok-made-2-clause-ready : goal.returns-in-Ok-made-2-clause-ready
 returns-in-Ok-made-2-clause-ready g c = λ contents told.

@@ -11,7 +11,7 @@ use Rattle.fm_saved.specs.declared.checkpoint.Checkpoint.{Checkpoint}
 use Rattle.fm_logs.specs.Contents.{Contents}
 use Rattle.fm_logs.specs.ReadsAsBook.{ReadsAsBook}
 use Rattle.fm_logs.specs.StoreBook.{IsLawfulStore, AreOfOneStore}
-use Rattle.fm_store.specs.Making.{IsNewStore, AreFirstModules, new_book}
+use Rattle.fm_init.specs.Making.{IsNewStore, AreFirstModules, new_book}
 
 -- before any slot is open
 abbrev first_checkpoint : Checkpoint

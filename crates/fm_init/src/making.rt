@@ -13,8 +13,8 @@ ghost use Rattle.fm_logs.specs.Contents.{Contents, AreSameDisks, AreTold};
 ghost use Rattle.fm_logs.specs.declared.fault.StoreFault.TheVariants.{Disk as DiskFailed};
 ghost use Rattle.fm_logs.specs.LogsOf.{FrameRefused};
 ghost use Rattle.fm_slots.specs.Format.{IsClosedSlot};
-ghost use Rattle.fm_store.specs.Making.{HasStore, IsNoneOrConf, LookRefused};
-ghost use Rattle.fm_store.specs.Making.{InitDoes, disks_back, OnlyLooked, AreReady, RoseOnOne};
+ghost use Rattle.fm_init.specs.Making.{HasStore, IsNoneOrConf, LookRefused};
+ghost use Rattle.fm_init.specs.Making.{InitDoes, disks_back, OnlyLooked, AreReady, RoseOnOne};
 
 use crate::refused::StoreRefused;
 use fm_journal::{Frame, FrameFault, FullKind, Journal, JournalFault};
@@ -157,56 +157,21 @@ fn make_others<D: Disk>(disks: Disks<D>) -> Result<Disks<D>, StoreRefused<D>>
     ensures rose { IfErr result (λ refused. (refused.fault ≡ DiskFailed)
         × RoseOnOne D.Disk disks refused.disks) }
 {
-    let Disks {
-        conf,
-        err_a,
-        err_b,
-        slot_a,
-        slot_b,
-        flt,
-    } = disks;
-    let mut slot_a = slot_a;
-    let mut slot_b = slot_b;
-    let Ok(()) = close_slots(&mut slot_a, &mut slot_b) else {
-        let disks = Disks {
-            conf,
-            err_a,
-            err_b,
-            slot_a,
-            slot_b,
-            flt,
-        };
-        let fault = StoreFault::Disk;
+    let fault = StoreFault::Disk;
+    let mut disks = disks;
+    let Ok(()) = close_slots(&mut disks.slot_a, &mut disks.slot_b) else {
         return Err(StoreRefused { disks, fault });
     };
-    let (err_a, made) = make_log(err_a);
+    let (err_a, made) = make_log(disks.err_a);
+    let disks = Disks { err_a, ..disks };
     let Ok(()) = made else {
-        let disks = Disks {
-            conf,
-            err_a,
-            err_b,
-            slot_a,
-            slot_b,
-            flt,
-        };
-        let fault = StoreFault::Disk;
         return Err(StoreRefused { disks, fault });
     };
-    let (flt, made) = make_log(flt);
-    let disks = Disks {
-        conf,
-        err_a,
-        err_b,
-        slot_a,
-        slot_b,
-        flt,
-    };
+    let (flt, made) = make_log(disks.flt);
+    let disks = Disks { flt, ..disks };
     match made {
         Ok(()) => Ok(disks),
-        Err(Failed) => Err(StoreRefused {
-            disks,
-            fault: StoreFault::Disk,
-        }),
+        Err(Failed) => Err(StoreRefused { disks, fault }),
     }
 }
 
@@ -221,23 +186,8 @@ fn look<D: Disk>(disks: Disks<D>) -> Result<Disks<D>, StoreRefused<D>>
         LookRefused D.Disk disks.conf refused.disks.conf refused.fault) }
     ensures kept { IfOk result (λ looked. D.failures looked.conf ≡ D.failures disks.conf) }
 {
-    let Disks {
-        conf,
-        err_a,
-        err_b,
-        slot_a,
-        slot_b,
-        flt,
-    } = disks;
-    let (conf, looked) = refuse_store(conf);
-    let disks = Disks {
-        conf,
-        err_a,
-        err_b,
-        slot_a,
-        slot_b,
-        flt,
-    };
+    let (conf, looked) = refuse_store(disks.conf);
+    let disks = Disks { conf, ..disks };
     match looked {
         Ok(()) => Ok(disks),
         Err(fault) => Err(StoreRefused { disks, fault }),
@@ -257,23 +207,8 @@ fn finish<D: Disk>(disks: Disks<D>, frame: &Frame) -> Result<Disks<D>, StoreRefu
     ensures rose { IfErr result (λ refused. (refused.fault ≡ DiskFailed)
         × Rose (D.failures disks.conf) (D.failures refused.disks.conf)) }
 {
-    let Disks {
-        conf,
-        err_a,
-        err_b,
-        slot_a,
-        slot_b,
-        flt,
-    } = disks;
-    let (conf, done) = put_conf(conf, frame);
-    let disks = Disks {
-        conf,
-        err_a,
-        err_b,
-        slot_a,
-        slot_b,
-        flt,
-    };
+    let (conf, done) = put_conf(disks.conf, frame);
+    let disks = Disks { conf, ..disks };
     match done {
         Ok(()) => Ok(disks),
         Err(Failed) => Err(StoreRefused {

@@ -25,9 +25,9 @@ use Rattle.fm_logs.specs.declared.disks.DiskName.TheVariants.{ErrB}
 use Rattle.fm_logs.specs.declared.fault.StoreFault.{StoreFault}
 use Rattle.fm_logs.specs.declared.fault.StoreFault.TheVariants.{Disk as DiskFailed}
 use Rattle.fm_outer.specs.Failures.{Rose}
-use Rattle.fm_store.specs.declared.refused.StoreRefused.{StoreRefused}
-use Rattle.fm_store.specs.Making.{HasStore, IsNoneOrConf, MakesStore, AreReady, IsNewStore}
-use Rattle.fm_store.specs.Making.{OnlyLooked, RoseOnOne, InitRefused, InitDoes, disks_back}
+use Rattle.fm_init.specs.declared.refused.StoreRefused.{StoreRefused}
+use Rattle.fm_init.specs.Making.{HasStore, IsNoneOrConf, MakesStore, AreReady, IsNewStore}
+use Rattle.fm_init.specs.Making.{OnlyLooked, RoseOnOne, InitRefused, InitDoes, disks_back}
 
 -- what is told twice is one
 told_twice : (seen : Option (List ℕ)) (a b : List ℕ) → seen ≡ Some a → seen ≡ Some b → a ≡ b

@@ -1,8 +1,8 @@
 -- A journal with a payload is a store; one without, and what is no journal, is none.
 use Rattle.std.proofs.Common.{subst}
 use Rattle.fm_journal.specs.Causes.{OpenCause}
-use Rattle.fm_store.proofs.Stores.{there_where_some, none_where_none}
-use Rattle.fm_store.proofs.making.has_store.Goals as goal
+use Rattle.fm_init.proofs.Stores.{there_where_some, none_where_none}
+use Rattle.fm_init.proofs.making.has_store.Goals as goal
 
 pub returns-in-Ok-clause-there : goal.returns-in-Ok-clause-there
 returns-in-Ok-clause-there g c = λ some bytes told.

@@ -1,8 +1,8 @@
 -- The store is made in order: a look, the four others, the configuration.
 use Rattle.std.proofs.Common.{ℕ, List, subst, sym}
 use Rattle.fm_journal.specs.Crash.{IsEmptyOrNone}
-use Rattle.fm_store.proofs.Stores.{others_stop, finish_does}
-use Rattle.fm_store.proofs.making.init.Goals as goal
+use Rattle.fm_init.proofs.Stores.{others_stop, finish_does}
+use Rattle.fm_init.proofs.making.init.Goals as goal
 
 pub finish-requires-clause-none : goal.finish-requires-clause-none
 finish-requires-clause-none g c =

@@ -1,0 +1,2 @@
+pub mod NewStore
+pub mod Stores
