@@ -79,6 +79,17 @@ pub record MakesStore {D : Type 0} (g : Ghosts D) (old new : Disks D) (conf : Co
   pub in_order : (new.conf ≡ read) ⊎ ((c : Contents) → AreTold g old c → AreReady g new)
   pub second_same : new.err_b ≡ old.err_b
 
+-- the counts of failures of the six disks
+abbrev pub counts_on : {D : Type 0} → Ghosts D → Disks D → Disks ℕ
+counts_on g disks = record {
+  conf = g.failures disks.conf;
+  err_a = g.failures disks.err_a;
+  err_b = g.failures disks.err_b;
+  slot_a = g.failures disks.slot_a;
+  slot_b = g.failures disks.slot_b;
+  flt = g.failures disks.flt;
+}
+
 -- why the configurations' disk was refused
 abbrev pub LookRefused : {D : Type 0} → Ghosts D → D → D → StoreFault → Type 0
 LookRefused g old new Exists = (c : List ℕ) → g.seen old ≡ Some c → HasStore c

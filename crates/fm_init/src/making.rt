@@ -15,6 +15,7 @@ ghost use Rattle.fm_logs.specs.LogsOf.{FrameRefused};
 ghost use Rattle.fm_slots.specs.Format.{IsClosedSlot};
 ghost use Rattle.fm_init.specs.Making.{HasStore, IsNoneOrConf, LookRefused};
 ghost use Rattle.fm_init.specs.Making.{InitDoes, disks_back, OnlyLooked, AreReady, RoseOnOne};
+ghost use Rattle.fm_init.specs.Making.{counts_on};
 
 use crate::refused::StoreRefused;
 use fm_journal::{Frame, FrameFault, FullKind, Journal, JournalFault};
@@ -140,6 +141,8 @@ fn close_slots<D: Disk>(slot_a: &mut D, slot_b: &mut D) -> Result<(), Failed>
     ensures second { OnOk result ((c : List ℕ) → D.images slot_b.new c → IsClosedSlot c) }
     ensures same_disks { (D.name slot_a.new ≡ D.name slot_a.old)
         × (D.name slot_b.new ≡ D.name slot_b.old) }
+    ensures kept { OnOk result ((D.failures slot_a.new ≡ D.failures slot_a.old)
+        × (D.failures slot_b.new ≡ D.failures slot_b.old)) }
     ensures rose { OnErr result (Rose (D.failures slot_a.old) (D.failures slot_a.new)
         ⊎ Rose (D.failures slot_b.old) (D.failures slot_b.new)) }
 {
@@ -156,6 +159,7 @@ fn make_others<D: Disk>(disks: Disks<D>) -> Result<Disks<D>, StoreRefused<D>>
     ensures same_disks { AreSameDisks D.Disk disks (disks_back result) }
     ensures rose { IfErr result (λ refused. (refused.fault ≡ DiskFailed)
         × RoseOnOne D.Disk disks refused.disks) }
+    ensures kept { IfOk result (λ made. counts_on D.Disk made ≡ counts_on D.Disk disks) }
 {
     let fault = StoreFault::Disk;
     let mut disks = disks;
@@ -206,6 +210,7 @@ fn finish<D: Disk>(disks: Disks<D>, frame: &Frame) -> Result<Disks<D>, StoreRefu
     ensures same_disk { D.name (disks_back result).conf ≡ D.name disks.conf }
     ensures rose { IfErr result (λ refused. (refused.fault ≡ DiskFailed)
         × Rose (D.failures disks.conf) (D.failures refused.disks.conf)) }
+    ensures kept { IfOk result (λ made. D.failures made.conf ≡ D.failures disks.conf) }
 {
     let (conf, done) = put_conf(disks.conf, frame);
     let disks = Disks { conf, ..disks };
@@ -227,6 +232,7 @@ pub fn init<D: Disk>(
 ) -> Result<Disks<D>, StoreRefused<D>>
     requires { IsSpelledConf conf.now }
     ensures does { InitDoes D.Disk disks conf.now result }
+    ensures quiet { IfOk result (λ made. counts_on D.Disk made ≡ counts_on D.Disk disks) }
     ensures same_disks { AreSameDisks D.Disk disks (disks_back result) }
 {
     let disks = look(disks)?;
