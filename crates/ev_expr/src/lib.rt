@@ -16,8 +16,6 @@
 mod conditions;
 mod operands;
 mod settings;
-#[cfg(test)]
-mod tests;
 
 pub use conditions::{holds, holds_for};
 pub use settings::{Bound, Prop};

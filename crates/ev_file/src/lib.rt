@@ -20,6 +20,3 @@ mod nodes;
 pub use files::{read_file, write_file};
 pub use fm_bytes::NoMemory;
 pub use made::Made;
-
-#[cfg(test)]
-mod tests;

@@ -21,8 +21,6 @@ mod fault;
 mod law;
 mod lexer;
 mod piece;
-#[cfg(test)]
-mod tests;
 mod token;
 
 pub use fault::LexFault;

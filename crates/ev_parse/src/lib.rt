@@ -28,8 +28,6 @@ mod patterns;
 mod statements;
 mod stop;
 mod sums;
-#[cfg(test)]
-mod tests;
 mod tokens;
 
 pub use fault::ParseFault;

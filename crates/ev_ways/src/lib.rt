@@ -29,8 +29,6 @@ mod links;
 mod rows;
 mod search;
 mod step;
-#[cfg(test)]
-mod tests;
 mod walk;
 
 pub use arrows::Arrows;

@@ -31,6 +31,3 @@ pub use fm_bytes::NoMemory;
 pub use kind::ActKind;
 pub use mem_actuator::MemActuator;
 pub use reconciling::reconcile;
-
-#[cfg(test)]
-mod tests;

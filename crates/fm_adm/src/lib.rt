@@ -18,6 +18,3 @@ pub use config::{ModuleSizes, put_listing, write_config};
 pub use faulty::write_faulty;
 pub use fm_bytes::NoMemory;
 pub use summary::{OpenReports, write_summary};
-
-#[cfg(test)]
-mod tests;

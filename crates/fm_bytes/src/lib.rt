@@ -30,8 +30,6 @@ mod items;
 mod laws;
 mod no_memory;
 mod output;
-#[cfg(test)]
-mod tests;
 mod text;
 mod text_order;
 

@@ -40,6 +40,3 @@ pub use list_event_item::{put_list_event, take_list_event};
 pub use spoken::Spoken;
 pub use spoken_item::{read_spoken, write_spoken};
 pub use suspect::{Mark, Suspect, Suspects};
-
-#[cfg(test)]
-mod tests;

@@ -36,6 +36,3 @@ pub use retired_note::RetiredNote;
 pub use store_file::StoreFile;
 pub use streams::Streams;
 pub use trouble::Trouble;
-
-#[cfg(test)]
-mod tests;

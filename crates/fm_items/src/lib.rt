@@ -15,6 +15,3 @@
 mod codec;
 
 pub use codec::{Codec, NumberCodec, put_counted, put_items, take_counted, take_items};
-
-#[cfg(test)]
-mod tests;

@@ -50,6 +50,3 @@ pub use fm_outer::FrameFault;
 pub use frame::Frame;
 pub use journal::Journal;
 pub use piece::Piece;
-
-#[cfg(test)]
-mod tests;

@@ -43,6 +43,3 @@ pub use fm_bytes::NoMemory;
 pub use print::{print_line, print_payload};
 pub use read::read_line;
 pub use split::{Splitter, Whole};
-
-#[cfg(test)]
-mod tests;

@@ -37,6 +37,3 @@ pub use fm_bytes::NoMemory;
 pub use parts::is_name;
 pub use paths::{Fmri, read_fmri};
 pub use patterns::{Pattern, read_pattern};
-
-#[cfg(test)]
-mod tests;

@@ -52,6 +52,3 @@ pub use read::read_nv;
 pub use reading::take_nv;
 pub use text::NvText;
 pub use write::write_nv;
-
-#[cfg(test)]
-mod tests;

@@ -58,6 +58,3 @@ pub use sink::Sink;
 pub use source::Source;
 pub use through::{add, write_through};
 pub use write_sink::WriteSink;
-
-#[cfg(test)]
-mod tests;

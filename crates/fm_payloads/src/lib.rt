@@ -31,6 +31,3 @@ pub use place::place_of;
 pub use reader::PayloadReader;
 pub use reading::read_payloads;
 pub use values::{PayloadCodec, ReadValues, read_values};
-
-#[cfg(test)]
-mod tests;

@@ -27,6 +27,3 @@ pub use conf::{Conf, ConfText, RuleFiles};
 pub use conf_bytes::{read_conf, write_conf};
 pub use fm_bytes::NoMemory;
 pub use saved_bytes::SavedBytes;
-
-#[cfg(test)]
-mod tests;

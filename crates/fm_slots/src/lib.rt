@@ -36,6 +36,3 @@ pub use filling::{fill, replace};
 pub use frame::SlotFrame;
 pub use laws::slots_are_one;
 pub use pair::{Found, newest};
-
-#[cfg(test)]
-mod tests;

@@ -27,6 +27,3 @@ pub use lines::{put_case, put_event, put_number, put_suspects, put_text};
 pub use names::uuid_of;
 pub use status::Status;
 pub use wanted::{Wanted, is_solved};
-
-#[cfg(test)]
-mod tests;

@@ -24,6 +24,3 @@ pub use times::{read_time, write_time};
 
 /// A word of the command line, which contracts see as its bytes.
 pub type ArgText = fm_bytes::Text;
-
-#[cfg(test)]
-mod tests;

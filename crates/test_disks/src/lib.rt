@@ -1,0 +1,16 @@
+//! Tests of disks, journals and slots: what no clause says of them.
+//! They stand in a crate of their own, so that the libraries are not proved again with them.
+#![tactic(auto)]
+
+#[cfg(test)]
+mod journals;
+#[cfg(test)]
+mod made;
+#[cfg(test)]
+mod mem_disks;
+#[cfg(test)]
+mod objects;
+#[cfg(test)]
+mod payloads;
+#[cfg(test)]
+mod slots;
