@@ -52,6 +52,11 @@ abbrev pub IsBefore : Option ℕ → ℕ → Type 0
 IsBefore None moment = ⊥
 IsBefore (Some time) moment = time ≤ moment
 
+-- at a later moment the same is pending as at the one that the case has come to
+pub record StaysSame (g : GraphValue) (c : OpenCase) (time : Option ℕ) (moment : ℕ) : Type 0 where
+  pub waits : waits_at g (Some moment) c ≡ waits_at g time c
+  pub takes : (node : ℕ) → takes_at g (Some moment) node c ≡ takes_at g time node c
+
 -- an outcome, as a verdict
 abbrev pub told : Outcome → Verdict
 told (Solved xs) = Solving xs.items

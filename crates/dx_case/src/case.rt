@@ -11,7 +11,7 @@ ghost use Rattle.dx_case.specs.Changes.{gone_of, AreLivesOf};
 ghost use Rattle.dx_case.specs.Candidates.{keeps, is_held, is_left};
 ghost use Rattle.dx_case.specs.Cases.{open_of, time_of, IsCaseOf, IsBefore};
 ghost use Rattle.dx_case.specs.Cases.{waits_at, takes_at, told};
-ghost use Rattle.dx_case.specs.Cases.{IsSettled, IsSameBut};
+ghost use Rattle.dx_case.specs.Cases.{IsSettled, IsSameBut, StaysSame};
 
 use crate::candidate::{Candidate, copies_of, drop_lost, is_any_left, is_held};
 use crate::changes::{Change, awaited_until, change_each};
@@ -142,6 +142,15 @@ impl Case {
             self.lose(graph, Some(age));
             self.until = awaited_until(graph.nodes(), self.reports.as_slice(), age);
         }
+    }
+
+    /// Whether no window ends up to a moment that is not before the one the case has come to, so
+    /// that the same is pending then. Where it says no, some may end. It takes one comparison.
+    pub fn stays(&self, moment: u64) -> bool
+        ensures { (g : GraphValue) → IsCaseOf g self.now → IsBefore (time_of self.now) moment
+            → result ≡ true → StaysSame g (open_of self.now) (time_of self.now) moment }
+    {
+        moment.saturating_sub(self.opened) <= self.until
     }
 
     /// Lets what was observed alone be allowed from now on, so that nothing is pending. It takes no
