@@ -1,13 +1,18 @@
 -- Candidates as they are made.
 use Rattle.std.proofs.Common.{◌≡◌, ◌⊎◌, ◌+◌, ◌<◌, ◌++◌, ℕ, zero, suc, List, [], ◌∷◌, length, get_or}
-use Rattle.std.proofs.Common.{take, slice_get, refl, sym, ap, subst, ◌∙◌, inl, inr}
-use Rattle.std.proofs.Common.{Some}
+use Rattle.std.proofs.Common.{take, slice_get, refl, sym, ap, subst, ◌∙◌, inl, inr, eqb, true}
+use Rattle.std.proofs.Common.{false, Some, ◌≤◌, arith}
+use Rattle.std.specs.List.{list_all}
+use Rattle.std.proofs.lemmas.Bool.{or_left, eq-eqb, cases_lt, false≢true}
 use Rattle.std.proofs.lemmas.List.{take_more, map-append}
+use Rattle.ev_graph.specs.Sets.{is_member, ascends}
+use Rattle.ev_graph.specs.Kinds.{is_report_node}
 use Rattle.ev_graph.specs.Lawful.{GraphValue}
+use Rattle.ev_graph.specs.declared.nodes.Node.{Node}
 use Rattle.dx_live.specs.Live.{no_cut, all_allowed}
 use Rattle.dx_case.specs.declared.candidate.Candidate.{Candidate}
-use Rattle.dx_case.specs.Candidates.{IsCandidate}
-use Rattle.dx_case.specs.Finding.{AreFresh}
+use Rattle.dx_case.specs.Candidates.{IsCandidate, AreCovered, AreCandidates}
+use Rattle.dx_case.specs.Finding.{AreRootsOf, AreFresh}
 use Rattle.dx_case.proofs.Changing.{same_some}
 
 -- an item of a list with one more at its end
@@ -37,3 +42,32 @@ fresh_more g roots i d cs a l is h f = record {
         subst P same h
   ];
 }
+
+-- a report is a node
+pub report_below : (nodes : List Node) (e : ℕ) → is_report_node nodes e ≡ true → e < length nodes
+report_below nodes e h = elim (cases_lt e (length nodes)) [
+  | inl l ↦ l
+  | inr past ↦ absurd (false≢true (sym (past_none nodes e past) ∙ h))
+] where
+  past_none : (ns : List Node) (e : ℕ) → length ns ≤ e → is_report_node ns e ≡ false
+  past_none [] e l = refl
+  past_none (n ∷ ns) zero l = absurd (omega (arith, l))
+  past_none (n ∷ ns) (suc e) l = past_none ns e (omega (arith, l))
+
+-- candidates of all roots whose stories have a node
+pub begins : (g : GraphValue) (node : ℕ) (roots reports : List ℕ) (fresh : List Candidate)
+    → AreRootsOf g node roots → AreFresh g roots fresh → ascends reports ≡ true
+    → list_all (is_report_node g.nodes) reports ≡ true → AreCovered g roots reports
+    → AreCandidates g no_cut (is_member (node ∷ [])) all_allowed fresh reports
+begins g node roots reports fresh list made up are covered =
+    let P : List ℕ → Type 0 = λ rs. AreCovered g rs reports in
+    record {
+      each = made.each;
+      ascend = ap ascends made.are ∙ list.ascend;
+      all = λ root p. ap (λ (rs : List ℕ). is_member rs root) made.are
+          ∙ list.all root no_cut all_allowed p.set p.story
+          (p.all node (or_left (eqb node node) false (eq-eqb node node refl)));
+      reports_ascend = up;
+      reports_are = are;
+      covered = subst P (sym made.are) covered;
+    }

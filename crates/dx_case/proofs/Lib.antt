@@ -8,3 +8,4 @@ pub mod Standing
 pub mod Steps
 pub mod Fresh
 pub mod Verdicts
+pub mod Fitting

@@ -4,8 +4,9 @@ use Rattle.std.proofs.Common.{[], ◌∷◌, eqb, ltb, map, slice_get, refl, sym
 use Rattle.std.proofs.Common.{◌∙◌, inl, inr, arith, Option, Some, None}
 use Rattle.std.specs.List.{filter, list_all, list_any}
 use Rattle.std.proofs.lemmas.Bool.{cases_Bool, and_parts, and_from, or_cases, or_left, or_right}
-use Rattle.std.proofs.lemmas.Bool.{both_ways, not-true, not_from_false, false_from_ne_true, eq-eqb}
-use Rattle.std.proofs.lemmas.Bool.{eqb-true, ltb-true, lt-ltb, leb-true, le-leb, cases_lt}
+use Rattle.std.proofs.lemmas.Bool.{both_ways, not-true, not_from_false, false_from_ne_true}
+use Rattle.std.proofs.lemmas.Bool.{false≢true, eqb-true, ltb-true, lt-ltb, leb-true, le-leb}
+use Rattle.std.proofs.lemmas.Bool.{cases_lt}
 use Rattle.ev_graph.specs.Sets.{NodeSet, is_member, ascends, ascends_by, IsSubset}
 use Rattle.ev_graph.specs.Kinds.{has_kind, is_report_node}
 use Rattle.ev_graph.specs.Cutting.{is_cut, is_before_link}
@@ -21,8 +22,7 @@ use Rattle.dx_words.specs.Cases.{cuts_of, is_allowed, is_awaited, inserted, brok
 use Rattle.dx_case.specs.declared.candidate.Candidate.{Candidate}
 use Rattle.dx_case.specs.Changes.{cut_or, allowed_less, within_of, goes}
 use Rattle.dx_case.specs.Changes.{gone_of, AreChanged, AreLivesOf}
-use Rattle.dx_case.specs.Candidates.{AreCovered, AreCandidates, keeps, is_left, Narrows}
-use Rattle.dx_case.specs.Finding.{AreRootsOf, AreFresh}
+use Rattle.dx_case.specs.Candidates.{AreCandidates, keeps, is_left, Narrows}
 use Rattle.dx_case.specs.Cases.{allowed_at, IsBefore, AreAwaited, AreAwaitedAt}
 use Rattle.dx_case.specs.Cases.{CaseParts, open_case}
 use Rattle.dx_case.specs.Cases.{IsCase}
@@ -386,81 +386,75 @@ module _ (g : GraphValue) (p : CaseParts) (h : IsCase g p) where
           awaited = h.awaited;
         }
 
--- a report opens a case
-module _ (g : GraphValue) (graph : IsGraph g) (number node moment : ℕ) (entries : List ℕ)
-    (links broken : List Link) (roots reports : List ℕ) (fresh mid cs : List Candidate) (w : Bool)
-    (report_node : is_report_node g.nodes node ≡ true) (root_list : AreRootsOf g node roots)
-    (made : AreFresh g roots fresh) (up : ascends reports ≡ true)
-    (are : list_all (is_report_node g.nodes) reports ≡ true)
-    (covered : AreCovered g roots reports)
-    (brk : map broken_of broken ≡ with_links links []) where
+-- a case is opened
+any_broken : (links : List Link) (j e : ℕ)
+    → is_cut links j e
+    ≡ list_any (λ (b : Broken). eqb b.instance j && eqb b.effect e) (map broken_of links)
+any_broken [] j e = refl
+any_broken (l ∷ ls) j e =
+    ap (λ (b : Bool). (eqb l.instance j && eqb l.effect e) || b) (any_broken ls j e)
+
+module _ (g : GraphValue) (graph : IsGraph g) (number opened node : ℕ) (entries observed : List ℕ)
+    (broken : List Link) (reports : List ℕ) (fresh mid cs : List Candidate) (w : Bool)
+    (node_in : is_member observed node ≡ true)
+    (begun : AreCandidates g no_cut (is_member (node ∷ [])) all_allowed fresh reports) where
   abbrev first : OpenCase
   first = record {
     number = number;
-    opened = moment;
+    opened = opened;
     entries = entries;
-    observed = node ∷ [];
+    observed = observed;
     broken = map broken_of broken;
   }
 
-  begins : AreCandidates g no_cut (is_member (node ∷ [])) all_allowed fresh reports
-  begins =
-      let P : List ℕ → Type 0 = λ rs. AreCovered g rs reports in
-      record {
-        each = made.each;
-        ascend = ap ascends made.are ∙ root_list.ascend;
-        all = λ root p. ap (λ (rs : List ℕ). is_member rs root) made.are
-            ∙ root_list.all root no_cut all_allowed p.set p.story
-            (p.all node (or_left (eqb node node) false (eq-eqb node node refl)));
-        reports_ascend = up;
-        reports_are = are;
-        covered = subst P (sym made.are) covered;
-      }
-
-  opens : Narrows g reports (λ e. false) all_allowed (is_allowed g moment first)
+  opens : Narrows g reports (λ e. false) all_allowed (is_allowed g opened first)
   opens = record {
     within = λ e r here. refl;
     only = λ e r e_in stays.
-        or_right (is_member (node ∷ []) e)
-        (has_kind (is_awaited moment moment) (slice_get g.nodes e))
-        (awaited_is moment moment g.nodes e r
-        ∙ le-leb moment (moment + within_of g.nodes e) (omega arith));
+        or_right (is_member observed e)
+        (has_kind (is_awaited opened opened) (slice_get g.nodes e))
+        (awaited_is opened opened g.nodes e r
+        ∙ le-leb opened (opened + within_of g.nodes e) (omega arith));
   }
 
-  cuts_first : (j e : ℕ) → cut_or no_cut links j e ≡ cuts_of first j e
-  cuts_first j e = sym (ap (list_any (λ (b : Broken). eqb b.instance j && eqb b.effect e)) brk
-      ∙ any_links links [] j e)
+  node_seen : IsSubset (is_member (node ∷ [])) (is_member observed)
+  node_seen e i = elim (or_cases (eqb node e) false i) [
+    | inl same ↦ ap (is_member observed) (sym (eqb-true node e same)) ∙ node_in
+    | inr none ↦ absurd (false≢true none)
+  ]
 
-  pub opened_case : ascends_by is_before_link broken ≡ true
-      → AreChanged g links (λ e. false) fresh mid → cs ≡ filter (keeps (node ∷ [])) mid
-      → w ≡ list_any (is_left cs (node ∷ [])) reports
+  pub opened_case : ascends observed ≡ true
+      → list_all (is_report_node g.nodes) observed ≡ true
+      → ascends_by is_before_link broken ≡ true
+      → AreChanged g broken (λ e. false) fresh mid → cs ≡ filter (keeps observed) mid
+      → w ≡ list_any (is_left cs observed) reports
       → IsCase g (record {
         number = number;
-        opened = moment;
-        time = Some moment;
+        opened = opened;
+        time = Some opened;
         until = 0;
         entries = entries;
-        observed = node ∷ [];
+        observed = observed;
         broken = broken;
         candidates = cs;
         reports = reports;
         waiting = w;
       })
-  opened_case links_up ch is waits =
-      let fewer = is_allowed g moment first in
-      let n = narrowed g no_cut links (λ e. false) all_allowed fewer (is_member (node ∷ []))
-      (node ∷ []) reports fresh mid begins ch opens (λ e i. i) in
+  opened_case up are links_up ch is waits =
+      let fewer = is_allowed g opened first in
+      let n = narrowed g no_cut broken (λ e. false) all_allowed fewer (is_member (node ∷ []))
+      observed reports fresh mid begun ch opens node_seen in
       let P : List Candidate → Type 0 = λ ks. AreCandidates g (cuts_of first)
-      (is_member (node ∷ [])) fewer ks reports in
+      (is_member observed) fewer ks reports in
       record {
         graph = graph;
-        observed_ascend = refl;
-        observed_are = and_from (is_report_node g.nodes node) true report_node refl;
+        observed_ascend = up;
+        observed_are = are;
         broken_ascend = links_up;
-        candidates = subst P (sym is) (equal_case g (cut_or no_cut links) (cuts_of first)
-            (is_member (node ∷ [])) fewer fewer (filter (keeps (node ∷ [])) mid) reports
-            cuts_first (λ e. refl) n);
-        kept = ap (list_all (keeps (node ∷ []))) is ∙ all_kept (keeps (node ∷ [])) mid;
+        candidates = subst P (sym is) (equal_case g (cut_or no_cut broken) (cuts_of first)
+            (is_member observed) fewer fewer (filter (keeps observed) mid) reports
+            (any_broken broken) (λ e. refl) n);
+        kept = ap (list_all (keeps observed)) is ∙ all_kept (keeps observed) mid;
         waiting = waits;
         awaited = record { each = λ e i l. omega arith };
       }

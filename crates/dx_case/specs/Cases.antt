@@ -1,6 +1,6 @@
 -- What a case is: an open case at a time, or finished.
 use Rattle.std.specs.Prelude.{◌≡◌, ◌-◌, ℕ, Bool, true, false, List, map}
-use Rattle.std.specs.Prelude.{Option, Some, None, ◌≤◌}
+use Rattle.std.specs.Prelude.{Option, Some, None, ◌≤◌, ◌<◌, length}
 use Rattle.std.specs.List.{list_all, list_any, filter}
 use Rattle.ev_graph.specs.Sets.{NodeSet, is_member, ascends, ascends_by}
 use Rattle.ev_graph.specs.Kinds.{is_report_node}
@@ -123,6 +123,16 @@ pub record IsCase (g : GraphValue) (p : CaseParts) : Type 0 where
 -- the case was made in this graph
 abbrev pub IsCaseOf : GraphValue → Case → Type 0
 IsCaseOf g c = IsCase g (parts_of c)
+
+-- the case as it is opened: it has some reports of the graph, and broken links, both in order, and
+-- no moment has come since
+pub record IsOpened (g : GraphValue) (c : Case) : Type 0 where
+  pub some : 0 < length c.observed.items
+  pub observed_ascend : ascends c.observed.items ≡ true
+  pub observed_are : list_all (is_report_node g.nodes) c.observed.items ≡ true
+  pub broken_ascend : ascends_by is_before_link c.broken.items ≡ true
+  pub time : c.time ≡ Some c.opened
+  pub until : c.until ≡ 0
 
 -- links were cut of all sets and reports went; the lost candidates were dropped, and it was looked
 -- whether some report is pending

@@ -3,3 +3,5 @@ pub mod Candidates
 pub mod Finding
 pub mod Cases
 pub mod Places
+pub mod Facts
+pub mod Kinds

@@ -11,13 +11,16 @@ ghost use Rattle.dx_case.specs.Changes.{gone_of, AreLivesOf};
 ghost use Rattle.dx_case.specs.Candidates.{keeps, is_held, is_left};
 ghost use Rattle.dx_case.specs.Cases.{open_of, time_of, IsCaseOf, IsBefore};
 ghost use Rattle.dx_case.specs.Cases.{waits_at, takes_at, told};
-ghost use Rattle.dx_case.specs.Cases.{IsSettled, IsSameBut, StaysSame};
+ghost use Rattle.dx_case.specs.Cases.{IsOpened, IsSettled, IsSameBut, StaysSame};
+ghost use Rattle.dx_case.specs.Facts.{case_of, facts_fit};
 
 use crate::candidate::{Candidate, copies_of, drop_lost, is_any_left, is_held};
 use crate::changes::{Change, awaited_until, change_each};
-use crate::finding::{candidates_of, reports_of, roots_of};
+use crate::facts::{CaseFacts, as_links};
+use crate::finding::fresh_from;
+use crate::kinds::Asked;
 use crate::lists::{is_among, put_links, put_number};
-use crate::outcome::{Outcome, faults_among, upsets_among};
+use crate::outcome::{Outcome, roots_among};
 use ev_graph::{Graph, Link, NoMemory};
 use std::alloc::Global;
 
@@ -76,11 +79,6 @@ impl Case {
             (λ c. open_of c ≡ case_opened number node moment entry broken.now) }
         ensures time { IfOk result (λ c. time_of c ≡ Some moment) }
     {
-        // This says that the graph is a lawful one.
-        let _ = graph.nodes();
-        let roots = roots_of(alloc, graph, node)?;
-        let reports = reports_of(alloc, graph, roots.as_slice())?;
-        let candidates = candidates_of(alloc, graph, roots.as_slice())?;
         let observed = Vec::from_array(alloc, [node])?;
         let entries = Vec::from_array(alloc, [entry])?;
         let mut links = Vec::new(alloc);
@@ -93,11 +91,44 @@ impl Case {
             entries,
             observed,
             broken: links,
-            candidates,
-            reports,
+            candidates: Vec::new(alloc),
+            reports: Vec::new(alloc),
             waiting: false,
         };
-        case.cut(graph, broken);
+        case.find_candidates(alloc, graph)?;
+        Ok(case)
+    }
+
+    /// The case of these facts at a moment, in whatever order its reports came. It takes the time
+    /// and memory of `start`, and the time of one move to the moment.
+    pub fn restore(
+        alloc: Global,
+        graph: &Graph,
+        facts: &CaseFacts<'_>,
+        moment: u64,
+    ) -> Result<Case, NoMemory>
+        requires { facts_fit graph.now moment (case_of facts.now) ≡ true }
+        ensures case { IfOk result (λ c. IsCaseOf graph.now c) }
+        ensures open { IfOk result (λ c. open_of c ≡ case_of facts.now) }
+        ensures time { IfOk result (λ c. time_of c ≡ Some moment) }
+    {
+        let entries = Vec::from_slice(alloc, facts.entries)?;
+        let observed = Vec::from_slice(alloc, facts.observed)?;
+        let broken = as_links(alloc, facts.broken)?;
+        let mut case = Case {
+            number: facts.number,
+            opened: facts.opened,
+            time: Some(facts.opened),
+            until: 0,
+            entries,
+            observed,
+            broken,
+            candidates: Vec::new(alloc),
+            reports: Vec::new(alloc),
+            waiting: false,
+        };
+        case.find_candidates(alloc, graph)?;
+        case.expire(graph, moment);
         Ok(case)
     }
 
@@ -233,11 +264,21 @@ impl Case {
         requires still { waits_at graph.now (time_of self.now) (open_of self.now) ≡ false }
         ensures { IfOk result (λ o. told o ≡ verdict_of graph.now (open_of self.now)) }
     {
-        let faults = faults_among(alloc, graph.nodes(), self.candidates.as_slice())?;
+        let faults = roots_among(
+            alloc,
+            graph.nodes(),
+            self.candidates.as_slice(),
+            Asked::Solving,
+        )?;
         if !faults.as_slice().is_empty() {
             return Ok(Outcome::Solved(faults));
         }
-        let upsets = upsets_among(alloc, graph.nodes(), self.candidates.as_slice())?;
+        let upsets = roots_among(
+            alloc,
+            graph.nodes(),
+            self.candidates.as_slice(),
+            Asked::Upsets,
+        )?;
         if !upsets.as_slice().is_empty() {
             return Ok(Outcome::Upset(upsets));
         }
@@ -284,6 +325,29 @@ impl Case {
         ensures { map broken_of result.now ≡ (open_of self.now).broken }
     {
         self.broken.as_slice()
+    }
+
+    /// Finds the candidates of a case as it is opened, and what they wait for.
+    fn find_candidates(&mut self, alloc: Global, graph: &Graph) -> Result<(), NoMemory>
+        requires { IsOpened graph.now self.old }
+        ensures case { OnOk result (IsCaseOf graph.now self.new) }
+        ensures open { open_of self.new ≡ open_of self.old }
+        ensures time { time_of self.new ≡ time_of self.old }
+    {
+        // This says that the graph is a lawful one.
+        let _ = graph.nodes();
+        let fresh = fresh_from(alloc, graph, self.observed[0])?;
+        self.candidates = fresh.candidates;
+        self.reports = fresh.reports;
+        let change = Change {
+            links: self.broken.as_slice(),
+            reports: &[],
+            observed: self.observed.as_slice(),
+            age: None,
+        };
+        change_each(graph, &change, self.candidates.as_mut_slice());
+        self.settle();
+        Ok(())
     }
 
     /// Takes those reports out of all sets that were not observed and whose windows are over at an

@@ -1,39 +1,33 @@
 //! The roots that reach a report, and the reports that roots reach.
 
-ghost use Rattle.std.specs.Prelude.{◌≡◌, ◌<◌, true, length, IfOk};
+ghost use Rattle.std.specs.Prelude.{◌≡◌, ◌<◌, ◌∷◌, [], true, length, IfOk};
 ghost use Rattle.std.specs.List.{list_all};
 ghost use Rattle.ev_graph.specs.Kinds.{is_root_node, is_report_node};
-ghost use Rattle.ev_graph.specs.Sets.{ascends};
-ghost use Rattle.dx_case.specs.Candidates.{AreCovered};
+ghost use Rattle.ev_graph.specs.Sets.{ascends, is_member};
+ghost use Rattle.dx_live.specs.Live.{no_cut, all_allowed};
+ghost use Rattle.dx_case.specs.Candidates.{AreCovered, AreCandidates, is_of_kind};
+ghost use Rattle.dx_case.specs.Kinds.{is_asked};
 ghost use Rattle.dx_case.specs.Finding.{AreSorted, AreRootsOf, AreFresh};
 
 use crate::candidate::Candidate;
+use crate::kinds::Asked;
 use dx_live::Live;
-use ev_graph::{Graph, Marked, NoMemory, Node, is_report_node, is_root_node, search};
+use ev_graph::{Graph, Marked, NoMemory, Node, search};
 use std::alloc::Global;
 
-/// The roots among some nodes, ascending.
-fn roots_among(alloc: Global, nodes: &[Node], numbers: &[u32]) -> Result<Vec<u32>, NoMemory>
-    ensures { IfOk result (λ list. AreSorted (is_root_node nodes.now) numbers.now list.items) }
+/// Those of some nodes that are of a kind, ascending.
+fn sorted_among(
+    alloc: Global,
+    nodes: &[Node],
+    numbers: &[u32],
+    kind: Asked,
+) -> Result<Vec<u32>, NoMemory>
+    ensures { IfOk result
+        (λ list. AreSorted (is_of_kind (is_asked kind) nodes.now) numbers.now list.items) }
 {
     let mut list = Vec::new(alloc);
     for number in numbers {
-        if is_root_node(nodes, *number) {
-            list.push(*number)?;
-        }
-    }
-    list.sort_unstable();
-    list.dedup();
-    Ok(list)
-}
-
-/// The reports among some nodes, ascending.
-fn reports_among(alloc: Global, nodes: &[Node], numbers: &[u32]) -> Result<Vec<u32>, NoMemory>
-    ensures { IfOk result (λ list. AreSorted (is_report_node nodes.now) numbers.now list.items) }
-{
-    let mut list = Vec::new(alloc);
-    for number in numbers {
-        if is_report_node(nodes, *number) {
+        if kind.has_node(nodes, *number) {
             list.push(*number)?;
         }
     }
@@ -45,7 +39,7 @@ fn reports_among(alloc: Global, nodes: &[Node], numbers: &[u32]) -> Result<Vec<u
 /// The roots of all stories that have the node, ascending: those that a search backwards from it
 /// meets. It takes the time of what it meets, and a byte for each node and instance of the graph
 /// while it runs.
-pub(crate) fn roots_of(alloc: Global, graph: &Graph, node: u32) -> Result<Vec<u32>, NoMemory>
+fn roots_of(alloc: Global, graph: &Graph, node: u32) -> Result<Vec<u32>, NoMemory>
     requires { node < length graph.now.nodes }
     ensures { IfOk result (λ list. AreRootsOf graph.now node list.items) }
 {
@@ -54,12 +48,12 @@ pub(crate) fn roots_of(alloc: Global, graph: &Graph, node: u32) -> Result<Vec<u3
     let mut taken = Marked::new(alloc, table.count())?;
     let (index, rows) = table.backwards();
     search(index, rows, &[node], &mut reached, &mut taken)?;
-    let roots = roots_among(alloc, graph.nodes(), reached.as_slice())?;
+    let roots = sorted_among(alloc, graph.nodes(), reached.as_slice(), Asked::Roots)?;
     Ok(roots)
 }
 
 /// The reports that these roots reach, ascending, likewise.
-pub(crate) fn reports_of(alloc: Global, graph: &Graph, roots: &[u32]) -> Result<Vec<u32>, NoMemory>
+fn reports_of(alloc: Global, graph: &Graph, roots: &[u32]) -> Result<Vec<u32>, NoMemory>
     requires { list_all (is_root_node graph.now.nodes) roots.now ≡ true }
     ensures ascend { IfOk result (λ list. ascends list.items ≡ true) }
     ensures reports { IfOk result
@@ -71,16 +65,12 @@ pub(crate) fn reports_of(alloc: Global, graph: &Graph, roots: &[u32]) -> Result<
     let mut taken = Marked::new(alloc, table.count())?;
     let (index, rows) = table.forwards();
     search(index, rows, roots, &mut reached, &mut taken)?;
-    let reports = reports_among(alloc, graph.nodes(), reached.as_slice())?;
+    let reports = sorted_among(alloc, graph.nodes(), reached.as_slice(), Asked::Reports)?;
     Ok(reports)
 }
 
 /// Candidates of these roots, with all reports allowed and no link cut.
-pub(crate) fn candidates_of(
-    alloc: Global,
-    graph: &Graph,
-    roots: &[u32],
-) -> Result<Vec<Candidate>, NoMemory>
+fn candidates_of(alloc: Global, graph: &Graph, roots: &[u32]) -> Result<Vec<Candidate>, NoMemory>
     requires { list_all (is_root_node graph.now.nodes) roots.now ≡ true }
     ensures { IfOk result (λ made. AreFresh graph.now roots.now made.items) }
 {
@@ -90,4 +80,27 @@ pub(crate) fn candidates_of(
         candidates.push(Candidate { root: *root, live })?;
     }
     Ok(candidates)
+}
+
+/// Candidates, and the reports that their roots reach, ascending.
+#[derive(Drop)]
+pub(crate) struct Fresh {
+    pub(crate) candidates: Vec<Candidate>,
+    pub(crate) reports: Vec<u32>,
+}
+
+/// Candidates of all roots whose stories have the node, with all reports allowed and no link cut,
+/// and the reports that these roots reach.
+pub(crate) fn fresh_from(alloc: Global, graph: &Graph, node: u32) -> Result<Fresh, NoMemory>
+    requires { node < length graph.now.nodes }
+    ensures { IfOk result (λ fresh. AreCandidates graph.now no_cut (is_member (node ∷ []))
+        all_allowed fresh.candidates.items fresh.reports.items) }
+{
+    let roots = roots_of(alloc, graph, node)?;
+    let reports = reports_of(alloc, graph, roots.as_slice())?;
+    let candidates = candidates_of(alloc, graph, roots.as_slice())?;
+    Ok(Fresh {
+        candidates,
+        reports,
+    })
 }

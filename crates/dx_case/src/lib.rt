@@ -22,16 +22,20 @@
 //! [`Case::is_pending`] and [`Case::fits`] answer exactly, and [`Case::outcome`] gives all faults
 //! and defects that explain the case, else all such upsets, else says that nothing does. A case
 //! takes memory for what its candidates' roots reach. Moving in time takes none, and one comparison
-//! until a window ends.
+//! until a window ends. [`Case::restore`] makes a case again from what is kept of it
+//! ([`CaseFacts`]), whatever the order in which its reports had come.
 #![tactic(auto)]
 
 mod candidate;
 mod case;
 mod changes;
+mod facts;
 mod finding;
+mod kinds;
 mod lists;
 mod outcome;
 
 pub use case::Case;
 pub use ev_graph::NoMemory;
+pub use facts::CaseFacts;
 pub use outcome::Outcome;
