@@ -1,14 +1,12 @@
 -- What a checked file comes to over a topology is a graph: no refusal meets it.
-use Rattle.std.proofs.Common.{◌≡◌, ◌<◌, ◌≤◌, ◌^◌, ◌+◌, ◌++◌, ◌&&◌, ◌||◌, ◌==◌, ◌⊎◌, ℕ, zero, suc}
+use Rattle.std.proofs.Common.{◌≡◌, ◌<◌, ◌≤◌, ◌^◌, ◌+◌, ◌++◌, ◌||◌, ◌==◌, ◌⊎◌, ℕ, zero, suc}
 use Rattle.std.proofs.Common.{Bool}
 use Rattle.std.proofs.Common.{true, false, not, List, [], ◌∷◌, length, map, filter, slice_get, cond}
 use Rattle.std.proofs.Common.{Option, Some, None, refl, sym, ap, ◌∙◌, subst, arith, inl, inr}
-use Rattle.std.proofs.Common.{nat_lt, nat_le, eqb, filter_map, unwrap_or, get_or, position}
-use Rattle.std.proofs.Common.{if◌then◌else◌}
-use Rattle.std.specs.List.{list_all, list_any, All}
-use Rattle.std.proofs.lemmas.Bool.{cases_Bool, false≢true, and_parts, eq-eqb, eqb-true, lt-ltb}
-use Rattle.std.proofs.lemmas.Bool.{le-leb, leb-true, ltb-true}
-use Rattle.std.proofs.lemmas.Bool.Decides.{nat_tests}
+use Rattle.std.proofs.Common.{nat_lt, nat_le, unwrap_or}
+use Rattle.std.specs.List.{list_all, All}
+use Rattle.std.proofs.lemmas.Bool.{false≢true, and_parts, eq-eqb, lt-ltb}
+use Rattle.std.proofs.lemmas.Bool.{le-leb, ltb-true}
 use Rattle.std.proofs.lemmas.Option.{get_or_from_slice_get}
 use Rattle.fm_bytes.proofs.Booleans.{and_true}
 use Rattle.fm_name.specs.Category.{category_of}
@@ -20,7 +18,7 @@ use Rattle.ev_tree.specs.declared.tree.Count.{Count}
 use Rattle.ev_tree.specs.declared.tree.Count.TheVariants as counts
 use Rattle.ev_tree.specs.declared.tree.Declared.{Declared}
 use Rattle.ev_ways.specs.Lists.{IsIn, row}
-use Rattle.ev_ways.specs.Ways.{Leads, Reaches, Way}
+use Rattle.ev_ways.specs.Ways.{Leads, Way}
 use Rattle.ev_words.specs.Categories.{is_report, is_side, is_upset}
 use Rattle.ev_words.specs.Iterators.{same_name}
 use Rattle.ev_check.specs.CheckedFile.{CheckedFile, Linking, view_prop}
@@ -33,24 +31,21 @@ use Rattle.ev_check.specs.Lawful.{pattern_numbers, pattern_subject, spec_event}
 use Rattle.ev_join.specs.Tables.{RisesFrom}
 use Rattle.ev_graph.specs.Kinds.{has_engine_below, has_kind, has_limits, is_report_kind}
 use Rattle.ev_graph.specs.Kinds.{is_report_node, is_root_kind, is_root_node, is_upset_kind}
-use Rattle.ev_graph.specs.Kinds.{is_upset_node}
-use Rattle.ev_graph.specs.Lawful.{GraphValue, IsCountedGraph, TripsUpset, are_below, has_counts}
+use Rattle.ev_graph.specs.Lawful.{GraphValue, TripsUpset, are_below, has_counts}
 use Rattle.ev_graph.specs.Lawful.{has_engine_limits, is_ascending, is_in_range, keeps_kinds, links}
-use Rattle.ev_graph.specs.Sets.{ascends, ascends_by, is_member, starts_above}
-use Rattle.ev_graph.specs.Wiring.{Chain, HasChain, IsCauseOf, ReachesItself, Wiring, causes_if_any}
+use Rattle.ev_graph.specs.Sets.{ascends, ascends_by, is_member}
+use Rattle.ev_graph.specs.Wiring.{Chain, IsCauseOf, ReachesItself, causes_if_any}
 use Rattle.ev_graph.specs.Wiring.{effects_if_any, wiring}
 use Rattle.ev_graph.specs.declared.instances.Instance.{Instance}
 use Rattle.ev_graph.specs.declared.nodes.EngineSpec.{EngineSpec}
 use Rattle.ev_graph.specs.declared.nodes.Node.{Node}
-use Rattle.ev_graph.specs.declared.nodes.NodeKind.{NodeKind}
 use Rattle.ev_fit.specs.Fits.{fits, has_names}
 use Rattle.ev_fit.specs.Names.{iterators}
 use Rattle.ev_fit.proofs.Agreeing.{names_same, same_from}
 use Rattle.ev_fit.proofs.Grouped.{names_all}
-use Rattle.ev_fit.proofs.Places.{any_found, first_found, none_is_not, some_is, there_is, within_is}
-use Rattle.ev_events.specs.Nodes.{ArePlacedEvents, AreNodes, IsEngineOf, IsNodeOf, engine_name}
+use Rattle.ev_fit.proofs.Places.{any_found, first_found, none_is_not, some_is, within_is}
+use Rattle.ev_events.specs.Nodes.{ArePlacedEvents, engine_name}
 use Rattle.ev_events.specs.Nodes.{node_name}
-use Rattle.ev_events.specs.Giving.{gives}
 use Rattle.ev_events.specs.Whole.{IsWholeFile, needs_cause}
 use Rattle.ev_events.proofs.Keeping.{all_names}
 use Rattle.ev_events.proofs.Wholeness.{alike_class, at_map, map_at}
@@ -58,7 +53,7 @@ use Rattle.ev_inst.specs.Instances.{IsBuildable, instances_of_all}
 use Rattle.ev_inst.specs.Gathering.{is_given}
 use Rattle.ev_inst.specs.Outcomes.{count_of, events_of, instance_of, is_complete, is_dropped}
 use Rattle.ev_inst.specs.Outcomes.{is_event_among, is_event_of, is_made, numbers_with}
-use Rattle.ev_inst.proofs.Kindred.{KindFacts, kind_facts, node_category, not_report, not_root}
+use Rattle.ev_inst.proofs.Kindred.{kind_facts, node_category, not_report, not_root}
 use Rattle.ev_inst.proofs.Kindred.{reports, upsets}
 use Rattle.ev_inst.proofs.NodeSets.{numbers_member, numbers_rise}
 
@@ -74,7 +69,7 @@ pub all_at : {X : Type 0} (P : X → Type 0) (xs : List X) (i : ℕ) (x : X) →
     → slice_get xs i ≡ Some x → P x
 all_at P xs i x h s = subst P (get_or_from_slice_get xs i x x s) (h i x (within_is xs i x s))
 
-rising_ascends : (low : ℕ) (xs : List ℕ) → RisesFrom low xs → ascends xs ≡ true
+pub rising_ascends : (low : ℕ) (xs : List ℕ) → RisesFrom low xs → ascends xs ≡ true
 rising_ascends low [] h = refl
 rising_ascends low (x ∷ []) h = refl
 rising_ascends low (x ∷ y ∷ ys) h =
@@ -97,7 +92,7 @@ given_node : (test : Node → Bool) (o : Option Node) → is_given test o ≡ tr
 given_node test None h = absurd (false≢true h)
 given_node test (Some node) h = (node, refl, h)
 
-node_of : (test : Node → Bool) (nodes : List Node) (n : ℕ)
+pub node_of : (test : Node → Bool) (nodes : List Node) (n : ℕ)
     → is_member (numbers_with test 0 nodes) n ≡ true
     → (node : Node) × (slice_get nodes n ≡ Some node) × (test node ≡ true)
 node_of test nodes n h =

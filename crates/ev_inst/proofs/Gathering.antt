@@ -1,12 +1,12 @@
 -- One pattern more, one candidate more, one propagation more.
-use Rattle.std.proofs.Common.{◌≡◌, ◌<◌, ◌≤◌, ◌+◌, ◌++◌, ◌&&◌, ◌||◌, ◌==◌, ℕ, zero, suc, Bool, true}
+use Rattle.std.proofs.Common.{◌≡◌, ◌<◌, ◌≤◌, ◌+◌, ◌++◌, ◌&&◌, ◌||◌, ℕ, zero, suc, Bool, true}
 use Rattle.std.proofs.Common.{false}
 use Rattle.std.proofs.Common.{List, [], ◌∷◌, length, map, take, get_or, slice_get, filter, cond}
 use Rattle.std.proofs.Common.{not}
 use Rattle.std.proofs.Common.{Option, Some, None, refl, sym, ap, ◌∙◌, subst, arith, inl, inr}
 use Rattle.std.proofs.Common.{append_assoc, append-nil, if◌then◌else◌, drop, length-append}
 use Rattle.std.specs.List.{list_any, count_by, sum_by}
-use Rattle.std.proofs.lemmas.Bool.{cases_Bool, false≢true, and_parts}
+use Rattle.std.proofs.lemmas.Bool.{cases_Bool, false≢true}
 use Rattle.std.proofs.lemmas.List.{map_more, take_more}
 use Rattle.std.proofs.lemmas.List.Folds.{list_any-append}
 use Rattle.std.proofs.lemmas.List.Sums.{sum_by-cons, sum_by-append}
@@ -29,12 +29,12 @@ use Rattle.ev_fit.proofs.Joining.{pattern_there, table_at}
 use Rattle.ev_fit.proofs.Places.{none_is_not, some_is}
 use Rattle.ev_events.specs.Giving.{giving}
 use Rattle.ev_inst.specs.Gathering.{AddsCandidates, AddsOutcome, AreEventNumbers, AreOrderedNodes}
-use Rattle.ev_inst.specs.Gathering.{ArePatternsKnown, IsGatheredTo, IsOutcome, IsReady}
-use Rattle.ev_inst.specs.Gathering.{IsSideReady, fitting_links, is_event_number, is_given}
+use Rattle.ev_inst.specs.Gathering.{IsGatheredTo, IsOutcome, IsReady}
+use Rattle.ev_inst.specs.Gathering.{IsSideReady, fitting_links, is_given}
 use Rattle.ev_inst.specs.Gathering.{is_node_on, outcome_links}
 use Rattle.ev_inst.specs.Instances.{AreCandidatesOf, AreSomeCandidatesOf, HaveMoreLinks}
 use Rattle.ev_inst.specs.Instances.{instances_of_all, links_of_all, skipped_of_all}
-use Rattle.ev_inst.specs.Outcomes.{events_of, has_across, instance_of, is_bare, is_dropped}
+use Rattle.ev_inst.specs.Outcomes.{events_of, instance_of, is_bare, is_dropped}
 use Rattle.ev_inst.specs.Outcomes.{is_event_among}
 use Rattle.ev_inst.specs.Outcomes.{is_event_of, is_made, is_skipped}
 use Rattle.ev_inst.specs.declared.gathered.Gathered.{Gathered}
@@ -469,7 +469,7 @@ module _ (topology : Topology) (nodes : List Node) (l : Linking) where
       (subst (λ (x : List ℕ). outcome_links o ≤ candidate_links topology l x) owned few) step)
 
 -- ---- one propagation more
-candidates_push : (topology : Topology) (ls : List Linking) (css : List (List (List ℕ)))
+pub candidates_push : (topology : Topology) (ls : List Linking) (css : List (List (List ℕ)))
     (l : Linking) (bs : List (List ℕ)) → AreCandidatesOf topology ls css
     → AreAllBindings topology l bs → AreCandidatesOf topology (ls ++ l ∷ []) (css ++ bs ∷ [])
 candidates_push topology [] [] l bs h own = (own, tt)

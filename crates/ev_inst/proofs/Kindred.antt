@@ -1,6 +1,6 @@
 -- The kinds of nodes are those of the categories of their classes.
-use Rattle.std.proofs.Common.{◌≡◌, ◌<◌, ◌≤◌, ◌^◌, ℕ, Bool, true, false, List, length, slice_get}
-use Rattle.std.proofs.Common.{Option, Some, None, refl, sym, ap, ◌∙◌, nat_lt, nat_le}
+use Rattle.std.proofs.Common.{◌≡◌, ◌^◌, ℕ, true, false, List, length}
+use Rattle.std.proofs.Common.{Some, None, refl, ap, ◌∙◌, nat_lt, nat_le}
 use Rattle.std.proofs.lemmas.Bool.{false≢true, lt-ltb}
 use Rattle.fm_name.specs.declared.classes.Category.{Category}
 use Rattle.fm_name.specs.declared.classes.Category.TheVariants as categories

@@ -4,3 +4,8 @@ pub mod Kindred
 pub mod Buildable
 pub mod Gathering
 pub mod Ready
+pub mod Deriving
+pub mod GuardLaws
+pub mod Questioning
+pub mod Collected
+pub mod GuardedLinks

@@ -1,11 +1,10 @@
 -- Sets of numbers: rising lists with the same members are the same, and the numbers of nodes that
 -- pass a test rise.
-use Rattle.std.proofs.Common.{◌≡◌, ◌<◌, ◌≤◌, ◌+◌, ◌==◌, ◌||◌, ℕ, zero, suc, Bool, true, false, cond}
-use Rattle.std.proofs.Common.{List, [], ◌∷◌, length, get_or, slice_get, slice_index, Option, Some}
-use Rattle.std.proofs.Common.{None}
+use Rattle.std.proofs.Common.{◌≡◌, ◌<◌, ◌≤◌, ◌+◌, ◌==◌, ◌||◌, ℕ, zero, suc, Bool, true, false}
+use Rattle.std.proofs.Common.{List, [], ◌∷◌, length, get_or, slice_get, slice_index, Some}
 use Rattle.std.proofs.Common.{refl, sym, ap, ◌∙◌, subst, arith, inl, inr, nat_lt, eqb, add-one}
 use Rattle.std.proofs.Common.{IsPermutation}
-use Rattle.std.specs.List.{list_any, Contains, dedup}
+use Rattle.std.specs.List.{Contains, dedup}
 use Rattle.std.specs.List.Sorted.{IsStrictlyIncreasing, IsSorted}
 use Rattle.std.specs.Ordering.{nat_cmp}
 use Rattle.std.proofs.lemmas.Bool.{cases_Bool, eq-eqb, eqb-true, false≢true}
@@ -17,7 +16,6 @@ use Rattle.std.proofs.lemmas.Map.Keys.{IsStrictlyIncreasing-dedup}
 use Rattle.std.proofs.lemmas.Option.{get_or_from_slice_get}
 use Rattle.ev_join.specs.Tables.{RisesFrom}
 use Rattle.ev_graph.specs.Sets.{is_member}
-use Rattle.ev_graph.specs.declared.nodes.Node.{Node}
 use Rattle.ev_fit.proofs.Places.{any_found, same_tests, within_is}
 use Rattle.ev_inst.specs.Gathering.{is_given}
 use Rattle.ev_inst.specs.Outcomes.{numbers_with}
@@ -112,7 +110,7 @@ set_members numbers sorted moved n =
     (Contains-permutation numbers sorted n moved (member_contains numbers n h))))
 
 -- ---- the numbers of nodes that pass a test
-pub numbers_rise : (test : Node → Bool) (at : ℕ) (nodes : List Node)
+pub numbers_rise : {X : Type 0} (test : X → Bool) (at : ℕ) (nodes : List X)
     → RisesFrom at (numbers_with test at nodes)
 numbers_rise test at [] = tt
 numbers_rise test at (node ∷ more) = elim (cases_Bool (test node)) [
@@ -129,7 +127,7 @@ numbers_rise test at (node ∷ more) = elim (cases_Bool (test node)) [
   lower n [] h = tt
   lower n (x ∷ xs) h = let up = h.0 in (omega (arith, up), h.1)
 
-number_member : (test : Node → Bool) (at i : ℕ) (nodes : List Node)
+number_member : {X : Type 0} (test : X → Bool) (at i : ℕ) (nodes : List X)
     → is_member (numbers_with test at nodes) (at + i) ≡ is_given test (slice_get nodes i)
 number_member test at i [] = refl
 number_member test at zero (node ∷ more) =
@@ -155,13 +153,13 @@ number_member test at (suc i) (node ∷ more) =
       | inr not_so ↦ rw not_so later
     ]
 
-pub numbers_member : (test : Node → Bool) (nodes : List Node) (n : ℕ)
+pub numbers_member : {X : Type 0} (test : X → Bool) (nodes : List X) (n : ℕ)
     → is_member (numbers_with test 0 nodes) n ≡ is_given test (slice_get nodes n)
 numbers_member test nodes n =
     let same : n ≡ 0 + n = omega arith in
     ap (is_member (numbers_with test 0 nodes)) same ∙ number_member test 0 n nodes
 
-pub numbers_few : (test : Node → Bool) (at : ℕ) (nodes : List Node)
+pub numbers_few : {X : Type 0} (test : X → Bool) (at : ℕ) (nodes : List X)
     → length (numbers_with test at nodes) ≤ length nodes
 numbers_few test at [] = omega arith
 numbers_few test at (node ∷ more) =

@@ -3,18 +3,16 @@ use Rattle.std.proofs.Common.{◌≡◌, ◌<◌, ◌≤◌, ◌+◌, ◌==◌, 
 use Rattle.std.proofs.Common.{false}
 use Rattle.std.proofs.Common.{List, [], ◌∷◌, length, map, take, get_or, slice_get, Option, Some}
 use Rattle.std.proofs.Common.{None}
-use Rattle.std.proofs.Common.{refl, sym, ap, ◌∙◌, subst, arith, inl, inr, nat_lt, cond}
-use Rattle.std.proofs.Common.{if◌then◌else◌, not, eqb}
+use Rattle.std.proofs.Common.{refl, sym, ap, ◌∙◌, subst, arith, inl, inr, nat_lt}
+use Rattle.std.proofs.Common.{if◌then◌else◌}
 use Rattle.std.specs.List.{list_any}
 use Rattle.std.specs.Map.{keys_of}
 use Rattle.std.specs.Ordering.{is_lt}
-use Rattle.std.specs.declared.cmp.Ordering.{Ordering}
-use Rattle.std.specs.declared.cmp.Ordering.TheVariants.{Less, Equal, Greater}
+use Rattle.std.specs.declared.cmp.Ordering.TheVariants.{Equal}
 use Rattle.std.specs.Cmp.{tied_itself}
 use Rattle.std.proofs.lemmas.Bool.{cases_Bool, eq-eqb, eqb-true, false≢true, and_parts}
 use Rattle.std.proofs.lemmas.Bool.Decides.{nat_tests}
 use Rattle.std.proofs.lemmas.List.Folds.{list_any_more, list_any-append}
-use Rattle.std.proofs.lemmas.List.Sums.{sum_by-cons, sum_by_more}
 use Rattle.std.proofs.lemmas.Option.{get_or_from_slice_get}
 use Rattle.fm_bytes.proofs.Booleans.{and_true}
 use Rattle.fm_name.specs.Path.{names_of}
@@ -24,23 +22,23 @@ use Rattle.fm_topo.specs.Topology.{Topology}
 use Rattle.ev_tree.specs.Pattern.{Pattern}
 use Rattle.ev_check.specs.Declarations.{name_of}
 use Rattle.ev_words.specs.Iterators.{same_name}
-use Rattle.ev_graph.specs.Lawful.{is_before_node, name_in}
+use Rattle.ev_graph.specs.Lawful.{name_in}
 use Rattle.ev_graph.specs.Sets.{ascends_by, is_member}
 use Rattle.ev_graph.specs.declared.nodes.Node.{Node}
 use Rattle.ev_graph.proofs.Ascending.{rises_by}
 use Rattle.ev_fit.specs.Fits.{fits, fitting, has_names, places_with}
-use Rattle.ev_fit.proofs.Places.{any_found, none_is_not, same_tests, some_is, there_is, within_is}
+use Rattle.ev_fit.proofs.Places.{any_found, none_is_not, same_tests, some_is, within_is}
 use Rattle.ev_fit.proofs.Agreeing.{names_same, same_from}
 use Rattle.ev_fit.proofs.Grouped.{names_all}
 use Rattle.ev_events.specs.Nodes.{node_name}
 use Rattle.ev_events.specs.Giving.{gives, giving, passes}
-use Rattle.ev_events.specs.Placed.{IsAmongNames, is_before_name}
+use Rattle.ev_events.specs.Placed.{is_before_name}
 use Rattle.ev_events.proofs.Declaring.{ascends_named}
 use Rattle.ev_events.proofs.Finding.{before_trans}
-use Rattle.ev_inst.specs.Gathering.{AreEventNumbers, AreOnPaths, AreOrderedNodes, ArePatternsKnown}
-use Rattle.ev_inst.specs.Gathering.{fitting_links, is_event_number, is_given, is_node_at}
+use Rattle.ev_inst.specs.Gathering.{AreOnPaths, AreOrderedNodes, ArePatternsKnown}
+use Rattle.ev_inst.specs.Gathering.{is_given, is_node_at}
 use Rattle.ev_inst.specs.Gathering.{is_node_on, is_of}
-use Rattle.ev_inst.specs.Outcomes.{is_event_among, is_event_of}
+use Rattle.ev_inst.specs.Outcomes.{is_event_of}
 
 -- ---- places that pass a test
 place_is : (test : List ℕ → Bool) (at : ℕ) (more : Topology) (k n : ℕ)

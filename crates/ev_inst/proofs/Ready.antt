@@ -1,36 +1,33 @@
 -- The nodes of a checked file are those that its patterns ask for.
-use Rattle.std.proofs.Common.{◌≡◌, ◌⊎◌, ◌++◌, ℕ, zero, suc, true, false, List, [], ◌∷◌, map}
+use Rattle.std.proofs.Common.{◌≡◌, ◌≤◌, length, ℕ, true, false, List, map}
 use Rattle.std.proofs.Common.{slice_get, Some}
-use Rattle.std.proofs.Common.{refl, sym, ap, ◌∙◌, subst, inl, inr, arith}
+use Rattle.std.proofs.Common.{sym, ap, ◌∙◌, subst, inl, inr, arith}
 use Rattle.ev_graph.specs.Lawful.{GraphValue}
 use Rattle.ev_inst.specs.Instances.{IsMadeOf}
 use Rattle.ev_inst.specs.declared.gathered.Gathered.{Gathered}
-use Rattle.std.specs.List.{All}
-use Rattle.std.specs.Map.{keys_of}
-use Rattle.fm_name.specs.Path.{names_of}
 use Rattle.fm_topo.specs.Topology.{Topology}
 use Rattle.ev_tree.specs.Pattern.{Pattern}
 use Rattle.ev_tree.specs.declared.tree.Declared.{Declared}
-use Rattle.ev_check.specs.CheckedFile.{CheckedFile, Linking, view_prop}
-use Rattle.ev_check.specs.Declarations.{is_alike, is_declared, name_of}
+use Rattle.ev_check.specs.CheckedFile.{CheckedFile, view_prop}
+use Rattle.ev_check.specs.Declarations.{is_alike, is_declared}
 use Rattle.ev_check.specs.Lawful.{file_events, IsLawfulFile, IsLawfulLinking, IsLawfulPattern}
 use Rattle.ev_check.specs.Lawful.{is_vertical_of, pattern_subject, spec_event}
 use Rattle.ev_graph.specs.declared.nodes.EngineSpec.{EngineSpec}
 use Rattle.ev_graph.specs.declared.nodes.Node.{Node}
 use Rattle.ev_fit.specs.Bindings.{patterns_of}
 use Rattle.ev_fit.proofs.Places.{any_found}
-use Rattle.ev_events.specs.Nodes.{ArePlacedEvents}
+use Rattle.ev_events.specs.Nodes.{ArePlacedEvents, AreNodes}
 use Rattle.ev_events.proofs.Wholeness.{alike_class, alike_names, map_at}
 use Rattle.ev_inst.specs.Gathering.{AreOrderedNodes, ArePatternsKnown, ArePropsKnown, IsGathered}
 use Rattle.ev_inst.proofs.Buildable.{all_at, append_at}
 
 module _ (f : CheckedFile) (topology : Topology) (nodes : List Node) (engines : List EngineSpec)
-    (placed : ArePlacedEvents f topology nodes engines) where
-  pub ordered : AreOrderedNodes topology nodes
-  ordered = record {
-    ascend = placed.nodes_are.ascend;
-    few = placed.few_nodes;
-    placed = λ i node s. let o = placed.nodes_are.each i node s in (o.at.number, o.at.there);
+    (nodes_are : AreNodes f topology engines nodes) where
+  pub nodes_ordered : length nodes ≤ 65536 → AreOrderedNodes topology nodes
+  nodes_ordered few = record {
+    ascend = nodes_are.ascend;
+    few = few;
+    placed = λ i node s. let o = nodes_are.each i node s in (o.at.number, o.at.there);
   }
 
   known : (qs : List Pattern) → ((j : ℕ) (q : Pattern) → slice_get qs j ≡ Some q
@@ -42,7 +39,7 @@ module _ (f : CheckedFile) (topology : Topology) (nodes : List Node) (engines : 
         let e = map_at spec_event f.events any.0 any.1 any.2 in
         let class = alike_class (pattern_subject q) any.1 any.3 in
         let named = alike_names (pattern_subject q) any.1 any.3 in
-        placed.nodes_are.all any.0 e.0 (record { class = q.class; path = path }) e.1 (record {
+        nodes_are.all any.0 e.0 (record { class = q.class; path = path }) e.1 (record {
           class = sym (ap (λ (d : Declared). d.class) e.2 ∙ class);
           number = at;
           there = t;
@@ -50,8 +47,8 @@ module _ (f : CheckedFile) (topology : Topology) (nodes : List Node) (engines : 
         });
   }
 
-  pub props_known : IsLawfulFile f → ArePropsKnown topology nodes (map view_prop f.props)
-  props_known lawful = record {
+  pub nodes_known : IsLawfulFile f → ArePropsKnown topology nodes (map view_prop f.props)
+  nodes_known lawful = record {
     each = λ j l s.
         let law = all_at (IsLawfulLinking (file_events f)) (map view_prop f.props) j l lawful.props
         s in
@@ -65,6 +62,14 @@ module _ (f : CheckedFile) (topology : Topology) (nodes : List Node) (engines : 
               law.effects other.1).declared
         ]);
   }
+
+module _ (f : CheckedFile) (topology : Topology) (nodes : List Node) (engines : List EngineSpec)
+    (placed : ArePlacedEvents f topology nodes engines) where
+  pub ordered : AreOrderedNodes topology nodes
+  ordered = nodes_ordered f topology nodes engines placed.nodes_are placed.few_nodes
+
+  pub props_known : IsLawfulFile f → ArePropsKnown topology nodes (map view_prop f.props)
+  props_known lawful = nodes_known f topology nodes engines placed.nodes_are lawful
 
   pub made_is : (g : Gathered) → IsGathered topology nodes (map view_prop f.props) g
       → (graph : GraphValue) → graph ≡ record {

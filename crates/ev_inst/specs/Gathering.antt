@@ -1,5 +1,5 @@
 -- How the instances of a propagation are gathered, candidate by candidate.
-use Rattle.std.specs.Prelude.{◌≡◌, ◌≤◌, ◌+◌, ◌++◌, ◌&&◌, ◌||◌, ◌==◌, ℕ, Bool, true, false, List, []}
+use Rattle.std.specs.Prelude.{◌≡◌, ◌≤◌, ◌+◌, ◌++◌, ◌&&◌, ◌==◌, ℕ, Bool, true, false, List, []}
 use Rattle.std.specs.Prelude.{◌∷◌, map}
 use Rattle.std.specs.Prelude.{Option, Some, None, length, slice_get, filter, count_by, sum_by}
 use Rattle.std.specs.List.{list_any}
@@ -15,11 +15,10 @@ use Rattle.ev_join.specs.Tables.{TableValue}
 use Rattle.ev_graph.specs.Lawful.{is_before_node, links}
 use Rattle.ev_graph.specs.Sets.{ascends_by}
 use Rattle.ev_graph.specs.declared.nodes.Node.{Node}
-use Rattle.ev_graph.specs.declared.instances.Instance.{Instance}
 use Rattle.ev_fit.specs.Names.{iterators}
 use Rattle.ev_fit.specs.Fits.{fitting}
 use Rattle.ev_fit.specs.Bindings.{candidate_links, patterns_of}
-use Rattle.ev_fit.specs.Sheets.{AreTablesOf, IsTableOf}
+use Rattle.ev_fit.specs.Sheets.{AreTablesOf}
 use Rattle.ev_events.specs.Nodes.{node_name}
 use Rattle.ev_events.specs.Placed.{IsAmongNames}
 use Rattle.ev_inst.specs.Instances.{AreCandidatesOf, instances_of_all, skipped_of_all}
@@ -64,10 +63,10 @@ pub record ArePatternsKnown (topology : Topology) (nodes : List Node) (qs : List
       → slice_get (keys_of topology) at ≡ Some path → names_of path ≡ map name_of q.parts
       → IsAmongNames (map node_name nodes) (record { class = q.class; path = path })
 
--- the node of a number is there and passes a test
-abbrev pub is_given : (Node → Bool) → Option Node → Bool
+-- what stands at a place is there and passes a test
+abbrev pub is_given : {X : Type 0} → (X → Bool) → Option X → Bool
 is_given test None = false
-is_given test (Some node) = test node
+is_given test (Some x) = test x
 
 -- it is an event of one of the patterns
 abbrev pub is_event_number : Topology → List Node → List (List ℕ) → List ℕ → List Pattern → ℕ

@@ -1,6 +1,6 @@
--- Which links payloads can break.
-use Rattle.std.specs.Prelude.{◌≡◌, ℕ, Bool, true, false, ◌&&◌, List, [], ◌∷◌, Option, Some, None}
-use Rattle.std.specs.Prelude.{slice_get, not, if◌then◌else◌}
+-- Which links payloads can break, and which ones a payload breaks.
+use Rattle.std.specs.Prelude.{ℕ, Bool, true, false, ◌&&◌, List, [], ◌∷◌, ◌++◌, Option, Some}
+use Rattle.std.specs.Prelude.{None, not, if◌then◌else◌, map, filter}
 use Rattle.std.specs.List.{list_any, list_all}
 use Rattle.fm_topo.specs.Topology.{Topology}
 use Rattle.ev_tree.specs.Condition.{Condition}
@@ -11,21 +11,21 @@ use Rattle.ev_expr.specs.declared.settings.Prop.{Prop}
 use Rattle.ev_graph.specs.declared.nodes.Node.{Node}
 use Rattle.ev_fit.specs.Names.{iterators}
 use Rattle.ev_events.specs.Asking.{condition_names, asks_payload}
-use Rattle.ev_inst.specs.Outcomes.{is_event_of}
+use Rattle.ev_inst.specs.Outcomes.{is_event_among, is_event_of, is_made, numbers_with}
 
--- the pattern asks the payload
+-- the condition asks the payload, where there is one
 abbrev pub asks_if : Option Condition → Bool
 asks_if None = false
 asks_if (Some c) = asks_payload c
 
 -- a pattern that gives the node asks the payload, so far as it gives it
-abbrev pub is_guard : Topology → Linking → List ℕ → Node → Pattern → Bool
-is_guard topology l b node q =
-    if is_event_of topology (iterators l) b node q then asks_if q.cond else true
+abbrev pub is_guard : Topology → List (List ℕ) → List ℕ → Node → Pattern → Bool
+is_guard topology vs b node q =
+    if is_event_of topology vs b node q then asks_if q.cond else true
 
--- each right pattern that gives the effect asks the payload
-abbrev pub is_guarded_by : Topology → Linking → List ℕ → Node → Bool
-is_guarded_by topology l b node = list_all (is_guard topology l b node) l.right
+-- each of the patterns that gives the node asks the payload
+abbrev pub are_guards : Topology → List (List ℕ) → List ℕ → List Pattern → Node → Bool
+are_guards topology vs b qs node = list_all (is_guard topology vs b node) qs
 
 -- the condition of a pattern holds at the path of a node with the pairs of a payload
 abbrev pub holds_with : Topology → List (List ℕ) → List ℕ → List Prop → Node → Pattern
@@ -38,9 +38,53 @@ holds_with topology vs b props node q (Some c) = holds (record {
   props = props;
 }) c
 
--- a payload breaks a guarded link: with it none of the patterns that give the effect holds there
-abbrev pub is_broken_by : Topology → Linking → List ℕ → List Prop → Node → Bool
-is_broken_by topology l b props node =
-    is_guarded_by topology l b node
-    && not (list_any (λ q. is_event_of topology (iterators l) b node q
-    && holds_with topology (iterators l) b props node q q.cond) l.right)
+-- a pattern gives the node, and its condition holds there with the pairs of a payload
+abbrev pub shows_with : Topology → List (List ℕ) → List ℕ → List Prop → Node → Pattern → Bool
+shows_with topology vs b props node q =
+    is_event_of topology vs b node q && holds_with topology vs b props node q q.cond
+
+-- the link to a node that some patterns give is guarded: each that gives it asks the payload
+abbrev pub is_guarded_by : Topology → List (List ℕ) → List ℕ → List Pattern → Node → Bool
+is_guarded_by topology vs b qs node =
+    is_event_among topology vs b qs node && are_guards topology vs b qs node
+
+-- a payload breaks a guarded link: with it none of the patterns that give the node holds there
+abbrev pub is_broken_by : Topology → List (List ℕ) → List ℕ → List Prop → List Pattern → Node
+    → Bool
+is_broken_by topology vs b props qs node =
+    is_guarded_by topology vs b qs node
+    && not (list_any (shows_with topology vs b props node) qs)
+
+-- what an instance is made of: a propagation, and a binding of its iterators
+pub record Derivation : Type 0 where
+  pub linking : Linking
+  pub binding : List ℕ
+
+abbrev pub derivation : Linking → List ℕ → Derivation
+derivation l b = record { linking = l; binding = b }
+
+-- those of all instances, in their order
+abbrev pub derivations : Topology → List Node → List Linking → List (List (List ℕ))
+    → List Derivation
+derivations topology nodes (l ∷ ls) (bs ∷ more) =
+    map (derivation l) (filter (is_made topology nodes l) bs) ++ derivations topology nodes ls more
+derivations topology nodes _ _ = []
+
+-- the link of an instance and a node is guarded; a payload breaks it
+abbrev pub guards : Topology → Node → Derivation → Bool
+guards topology node d =
+    is_guarded_by topology (iterators d.linking) d.binding d.linking.right node
+
+abbrev pub breaks : Topology → List Prop → Node → Derivation → Bool
+breaks topology props node d =
+    is_broken_by topology (iterators d.linking) d.binding props d.linking.right node
+
+-- the instances whose links to a node are guarded, and those whose links to it a payload breaks,
+-- ascending
+abbrev pub guarded_at : Topology → List Derivation → Option Node → List ℕ
+guarded_at topology ds None = []
+guarded_at topology ds (Some node) = numbers_with (guards topology node) 0 ds
+
+abbrev pub broken_at : Topology → List Derivation → List Prop → Option Node → List ℕ
+broken_at topology ds props None = []
+broken_at topology ds props (Some node) = numbers_with (breaks topology props node) 0 ds

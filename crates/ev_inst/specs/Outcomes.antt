@@ -1,7 +1,7 @@
 -- What becomes of a candidate: it is dropped, skipped, or an instance.
-use Rattle.std.specs.Prelude.{ℕ, zero, suc, Bool, true, false, not, ◌&&◌, ◌||◌, ◌==◌, nat_lt}
+use Rattle.std.specs.Prelude.{ℕ, suc, Bool, true, false, not, ◌&&◌, ◌==◌, nat_lt}
 use Rattle.std.specs.Prelude.{nat_le}
-use Rattle.std.specs.Prelude.{List, [], ◌∷◌, ◌++◌, length, filter, Option, Some, None, slice_get}
+use Rattle.std.specs.Prelude.{List, [], ◌∷◌, length}
 use Rattle.std.specs.Prelude.{if◌then◌else◌}
 use Rattle.std.specs.List.{list_any}
 use Rattle.fm_topo.specs.Topology.{Topology}
@@ -27,11 +27,11 @@ is_event_of topology vs b node q =
 abbrev pub is_event_among : Topology → List (List ℕ) → List ℕ → List Pattern → Node → Bool
 is_event_among topology vs b qs node = list_any (is_event_of topology vs b node) qs
 
--- the numbers of the nodes that pass a test, where the first has a number
-abbrev pub numbers_with : (Node → Bool) → ℕ → List Node → List ℕ
+-- the numbers of the items that pass a test, where the first has a number
+abbrev pub numbers_with : {X : Type 0} → (X → Bool) → ℕ → List X → List ℕ
 numbers_with test at [] = []
-numbers_with test at (node ∷ more) =
-    if test node then at ∷ numbers_with test (suc at) more else numbers_with test (suc at) more
+numbers_with test at (x ∷ more) =
+    if test x then at ∷ numbers_with test (suc at) more else numbers_with test (suc at) more
 
 -- the events of patterns under a binding: the numbers of their nodes, ascending
 abbrev pub events_of : Topology → List Node → List (List ℕ) → List ℕ → List Pattern → List ℕ

@@ -17,8 +17,11 @@
 //! (`proofs/Buildable.antt`). Want of memory is the one other answer.
 #![tactic(auto)]
 
+mod asked;
 mod fault;
 mod gathered;
+mod guarding;
+mod guards;
 mod making;
 mod numbers;
 mod outcomes;
@@ -26,4 +29,6 @@ mod outcomes;
 pub use ev_file::Made;
 pub use fault::InstFault;
 pub use fm_bytes::NoMemory;
+pub use guarding::make_guards;
+pub use guards::{Guard, GuardedNode, Guards, Question};
 pub use making::instantiate;

@@ -53,7 +53,7 @@ pub(crate) fn node_number(nodes: &[Node], class: &Class, path: &Fmri) -> u32
 }
 
 /// Adds the numbers of the nodes of a class at the paths of these numbers.
-fn add_numbers(
+pub(crate) fn add_numbers(
     topo: &Topo,
     nodes: &[Node],
     class: &Class,
@@ -93,7 +93,7 @@ fn is_bare(pattern: &SidePattern, places: &[u32]) -> bool
 }
 
 /// The numbers, each once, ascending.
-fn set_of(numbers: Vec<u32>) -> Vec<u32>
+pub(crate) fn set_of(numbers: Vec<u32>) -> Vec<u32>
     ensures rises { RisesFrom 0 result.items }
     ensures members { (n : ℕ) → is_member result.items n ≡ is_member numbers.items n }
     ensures few { length result.items ≤ length numbers.items }

@@ -1,5 +1,5 @@
 -- The nodes are those that the patterns ask for.
-use Rattle.std.proofs.Common.{List, map, sym, ap, subst, refl}
+use Rattle.std.proofs.Common.{List, map, sym, ap, subst}
 use Rattle.ev_check.specs.CheckedFile.{Linking, view_prop}
 use Rattle.ev_graph.specs.declared.nodes.Node.{Node}
 use Rattle.ev_inst.specs.Gathering.{AreOrderedNodes, ArePropsKnown}

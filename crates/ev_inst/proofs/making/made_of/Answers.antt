@@ -1,5 +1,5 @@
 -- What is gathered can be built, and is the graph of the file.
-use Rattle.std.proofs.Common.{List, ℕ, refl, ap, arith}
+use Rattle.std.proofs.Common.{refl, ap, arith}
 use Rattle.ev_graph.specs.Lawful.{links}
 use Rattle.ev_events.proofs.Wholeness.{whole_file}
 use Rattle.ev_inst.proofs.Buildable.{buildable}

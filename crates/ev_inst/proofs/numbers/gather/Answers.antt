@@ -1,5 +1,5 @@
 -- The numbers of one pattern more.
-use Rattle.std.proofs.Common.{◌≡◌, ◌&&◌, ◌==◌, List, ℕ, Bool, not, length, map, sym, ap, ◌∙◌, subst}
+use Rattle.std.proofs.Common.{◌&&◌, ◌==◌, List, ℕ, not, length, map, sym, ap, ◌∙◌, subst}
 use Rattle.std.proofs.Common.{arith}
 use Rattle.ev_tree.specs.Pattern.{view_pattern}
 use Rattle.ev_fit.proofs.Joining.{pattern_there}

@@ -1,5 +1,5 @@
 -- The two sides of a candidate.
-use Rattle.std.proofs.Common.{List, map, length, sym, ap, ◌∙◌}
+use Rattle.std.proofs.Common.{map, ap}
 use Rattle.ev_tree.specs.Pattern.{view_pattern}
 use Rattle.ev_check.specs.CheckedFile.{view_prop}
 use Rattle.ev_inst.proofs.Gathering.{few_events, few_links, left_within, side_left, side_right}

@@ -1,0 +1,98 @@
+-- The guarded links of a graph, with what they ask of payloads.
+use Rattle.std.specs.Prelude.{◌≡◌, ◌≤◌, ℕ, suc, Bool, true, not, ◌==◌, List, [], ◌∷◌, ◌++◌, length}
+use Rattle.std.specs.Prelude.{Option, Some, None, slice_get, map, filter}
+use Rattle.std.specs.List.{list_any}
+use Rattle.fm_topo.specs.Topology.{Topology}
+use Rattle.ev_tree.specs.Condition.{view_cond}
+use Rattle.ev_check.specs.CheckedFile.{CheckedFile, view_prop}
+use Rattle.ev_expr.specs.Conditions.{holds}
+use Rattle.ev_expr.specs.declared.settings.Prop.{Prop}
+use Rattle.ev_graph.specs.Lawful.{GraphValue, links}
+use Rattle.ev_graph.specs.Sets.{is_member}
+use Rattle.ev_graph.specs.Wiring.{wiring}
+use Rattle.ev_graph.specs.declared.instances.Link.{Link}
+use Rattle.ev_inst.specs.Guarding.{broken_at, derivations, guarded_at}
+use Rattle.ev_inst.specs.Instances.{AreCandidatesOf, IsGraphOf, instances_of_all}
+use Rattle.ev_inst.specs.declared.guards.Question.{Question}
+use Rattle.ev_inst.specs.declared.guards.Guard.{Guard}
+use Rattle.ev_inst.specs.declared.guards.GuardedNode.{GuardedNode}
+
+-- the topology, and for each node its path and the guards of the links to it
+pub record GuardsValue : Type 0 where
+  pub topology : Topology
+  pub nodes : List GuardedNode
+
+-- the guards of the links to a node, where there is one
+abbrev pub guards_if_any : Option GuardedNode → List Guard
+guards_if_any None = []
+guards_if_any (Some n) = n.guards.items
+
+abbrev pub is_guard_of : ℕ → Guard → Bool
+is_guard_of i g = g.instance == i
+
+-- the link of an instance and an effect is guarded
+abbrev pub is_guarded : GuardsValue → ℕ → ℕ → Bool
+is_guarded v i e = list_any (is_guard_of i) (guards_if_any (slice_get v.nodes e))
+
+-- the guarded links to nodes, the first of which has a number; all guarded links
+abbrev pub link_to : ℕ → Guard → Link
+link_to e g = record { instance = g.instance; effect = e }
+
+abbrev pub links_to : ℕ → List GuardedNode → List Link
+links_to e [] = []
+links_to e (n ∷ ns) = map (link_to e) n.guards.items ++ links_to (suc e) ns
+
+abbrev pub guarded_links : GuardsValue → List Link
+guarded_links v = links_to 0 v.nodes
+
+-- the condition of a question holds at a path with the pairs of a payload
+abbrev pub is_met : Topology → List ℕ → List Prop → Question → Bool
+is_met topology path props q = holds (record {
+  names = q.names.items;
+  topology = topology;
+  path = path;
+  props = props;
+}) (view_cond q.cond)
+
+-- a payload breaks a link: none of the conditions that guard it holds
+abbrev pub is_broken : Topology → List ℕ → List Prop → Guard → Bool
+is_broken topology path props g = not (list_any (is_met topology path props) g.questions.items)
+
+abbrev pub guard_instance : Guard → ℕ
+guard_instance g = g.instance
+
+abbrev pub broken_of : Topology → List Prop → Option GuardedNode → List ℕ
+broken_of topology props None = []
+broken_of topology props (Some n) =
+    map guard_instance (filter (is_broken topology n.path props) n.guards.items)
+
+-- the instances whose link to a node a payload breaks
+abbrev pub broken_by : GuardsValue → ℕ → List Prop → List ℕ
+broken_by v e props = broken_of v.topology props (slice_get v.nodes e)
+
+-- Guards that a graph can have: what is guarded are links of it, each once.
+pub record AreGuardsFor (g : GraphValue) (v : GuardsValue) : Type 0 where
+  pub links_are : (i e : ℕ) → is_guarded v i e ≡ true
+      → is_member ((wiring g.instances).effects i) e ≡ true
+  pub few : length (guarded_links v) ≤ links g.instances
+
+-- The guards of the graph that a rule file comes to over a topology: just the guarded links, and
+-- for each payload just those that it breaks.
+pub record AreGuardsOf (f : CheckedFile) (topology : Topology) (g : GraphValue)
+    (v : GuardsValue) : Type 0 where
+  pub candidates : List (List (List ℕ))
+  pub all : AreCandidatesOf topology (map view_prop f.props) candidates
+  pub instances : g.instances
+      ≡ instances_of_all topology g.nodes (map view_prop f.props) candidates
+  pub guarded : (i e : ℕ) → is_guarded v i e ≡ is_member (guarded_at topology
+      (derivations topology g.nodes (map view_prop f.props) candidates)
+      (slice_get g.nodes e)) i
+  pub broken : (e : ℕ) (props : List Prop) → broken_by v e props ≡ broken_at topology
+      (derivations topology g.nodes (map view_prop f.props) candidates) props
+      (slice_get g.nodes e)
+  pub fits : AreGuardsFor g v
+
+-- the graph is that of the file over the topology
+pub record IsInstantiated (f : CheckedFile) (topology : Topology) (g : GraphValue) : Type 0 where
+  pub skipped : ℕ
+  pub is : IsGraphOf f topology g skipped
