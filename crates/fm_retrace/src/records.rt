@@ -1,0 +1,78 @@
+//! Modules that take entries again, along the records of a log.
+
+ghost use Rattle.std.specs.Prelude.{◌≡◌, ◌+◌, ◌<◌, ◌≤◌, ◌^◌, ℕ, List, [], ◌∷◌, ◌++◌, length, All};
+ghost use Rattle.std.specs.Prelude.{IfOk, OnOk, true, false};
+ghost use Rattle.fm_core.specs.Book.{Book};
+ghost use Rattle.fm_entry.specs.Entries.{IsSpelled};
+ghost use Rattle.fm_entry.specs.Words.{IsSpelledSpoken};
+ghost use Rattle.fm_entry.specs.declared.spoken.Spoken.{Spoken};
+ghost use Rattle.fm_retrace.specs.Retracing.{SayRecords, HasEntries, HaveRetraced, RetraceTo};
+ghost use Rattle.fm_retrace.specs.Retracing.{AreNumbered, meanings_of};
+
+use crate::logged::LoggedSpoken;
+use crate::retraced::Retraced;
+use fm_bytes::NoMemory;
+use fm_core::Module;
+use fm_entry::{Entry, Spoken};
+use std::alloc::Global;
+
+/// Whether the module at a place says the record next. Then it has come there.
+fn take_at<M: Module>(
+    alloc: Global,
+    base: u64,
+    entries: &[Entry],
+    modules: &mut Vec<Retraced<M>>,
+    record: &Spoken,
+) -> Result<bool, NoMemory>
+    requires few { base + length entries.now ≤ 2 ^ 46 }
+    requires entries { All IsSpelled entries.now }
+    requires spelled { IsSpelledSpoken record.now }
+    requires numbered { AreNumbered (meanings_of M.Module modules.old.items) }
+    ensures yes { IfOk result (λ says. says ≡ true → (k : Book) (records : List Spoken)
+        → HasEntries base entries.now k → SayRecords k records
+        → HaveRetraced M.Module k records modules.old.items
+        → SayRecords k (records ++ record.now ∷ [])
+        × HaveRetraced M.Module k (records ++ record.now ∷ []) modules.new.items) }
+    ensures no { IfOk result (λ says. says ≡ false → (k : Book) (records : List Spoken)
+        → HasEntries base entries.now k → SayRecords k records
+        → HaveRetraced M.Module k records modules.old.items
+        → SayRecords k (records ++ record.now ∷ []) → ⊥) }
+    ensures kept { meanings_of M.Module modules.new.items
+        ≡ meanings_of M.Module modules.old.items }
+{
+    let at = record.module as usize;
+    if at >= modules.len() {
+        return Ok(false);
+    }
+    let own = &mut modules[at];
+    own.take(alloc, base, entries, record)
+}
+
+/// Lets the modules take the entries from the base on again, as far as the records tell that they
+/// had come. The place of the first record that they don't say; `None` where they say all, and then
+/// each has come to its floor.
+pub fn retrace<M: Module>(
+    alloc: Global,
+    base: u64,
+    entries: &[Entry],
+    modules: &mut Vec<Retraced<M>>,
+    records: &[LoggedSpoken],
+) -> Result<Option<usize>, NoMemory>
+    requires few { base + length entries.now ≤ 2 ^ 46 }
+    requires entries { All IsSpelled entries.now }
+    requires numbered { AreNumbered (meanings_of M.Module modules.old.items) }
+    ensures retraces { IfOk result (λ stop. (k : Book) → HasEntries base entries.now k
+        → SayRecords k [] → HaveRetraced M.Module k [] modules.old.items
+        → RetraceTo M.Module k records.now modules.new.items stop) }
+    ensures kept { meanings_of M.Module modules.new.items
+        ≡ meanings_of M.Module modules.old.items }
+{
+    let mut place = 0;
+    'records: for record in records {
+        if !take_at(alloc, base, entries, modules, record.get())? {
+            return Ok(Some(place));
+        }
+        place += 1;
+    }
+    Ok(None)
+}
