@@ -1,5 +1,5 @@
 -- Modules that have come to their floors, with one record more.
-use Rattle.std.proofs.Common.{◌≡◌, ◌≢◌, inl, inr, ℕ, ◌+◌, ◌-◌, ◌<◌, ◌≤◌, max, List, [], ◌∷◌, ◌++◌}
+use Rattle.std.proofs.Common.{◌≡◌, inl, inr, ℕ, ◌+◌, ◌<◌, ◌≤◌, max, List, [], ◌∷◌, ◌++◌}
 use Rattle.std.proofs.Common.{length, take, get_or, Some, refl, sym, ◌∙◌, ap, subst, arith, slice_get}
 use Rattle.std.proofs.Common.{set, map, Bool, true, false, Result, Ok, Err, IfOk}
 use Rattle.std.proofs.lemmas.List.{map-set, set-get_or, take_all}
@@ -17,7 +17,7 @@ use Rattle.fm_core.proofs.Lists.{get_set_same, get_set_other, map_get, take_push
 use Rattle.fm_entry.specs.declared.entry.Entry.{Entry}
 use Rattle.fm_entry.specs.declared.spoken.Spoken.{Spoken}
 use Rattle.fm_retrace.specs.Retracing.{SayRecords, SaysNext, entries_between, HasRetraced}
-use Rattle.fm_retrace.specs.Retracing.{HaveRetraced, HasEntries, meanings_of, AreNumbered}
+use Rattle.fm_retrace.specs.Retracing.{HaveRetraced, IsBookOf, meanings_of, AreNumbered}
 use Rattle.fm_retrace.specs.declared.retraced.Retraced.{Retraced}
 use Rattle.fm_retrace.proofs.Next.{says_more, says_only, state_parts, past_push, of_same, of_others}
 use Rattle.fm_retrace.proofs.Next.{names_module}
@@ -36,7 +36,7 @@ same_next base b entries es m n s t past q r one two three four five next =
 
 module _ {M : Type 0} (g : Ghosts M) (base : ℕ) (entries : List Entry) (k : Book)
     (rs : List Spoken) (r : Spoken) (modules : List (Retraced M)) (own : Retraced M)
-    (has : HasEntries base entries k) (says : SayRecords k rs) (come : HaveRetraced g k rs modules)
+    (has : IsBookOf base entries k) (says : SayRecords k rs) (come : HaveRetraced g k rs modules)
     (there : slice_get modules r.«module» ≡ Some own) where
   abbrev p : ModuleState
   p = get_or k.modules r.«module» (record {
@@ -207,7 +207,7 @@ module _ {M : Type 0} (g : Ghosts M) (modules : List (Retraced M)) (at : ℕ) (o
         (entries_between base (max base own.past) (max base (r.number + 1)) entries))
         → g.meaning later.object ≡ g.meaning own.object
         → IfOk result (λ says. says ≡ true → (k : Book) (rs : List Spoken)
-        → HasEntries base entries k → SayRecords k rs → HaveRetraced g k rs modules
+        → IsBookOf base entries k → SayRecords k rs → HaveRetraced g k rs modules
         → SayRecords k (rs ++ r ∷ [])
         × HaveRetraced g k (rs ++ r ∷ []) (slice_set modules r.«module» later))
     take_yes (Ok says) next there_past taken kept = λ yes k rs has so_far come. (
@@ -221,7 +221,7 @@ module _ {M : Type 0} (g : Ghosts M) (modules : List (Retraced M)) (at : ℕ) (o
         → IfOk result (λ says. says ≡ false → SaysNext base entries (g.meaning own.object)
         (g.state own.object) own.past r → ⊥)
         → IfOk result (λ says. says ≡ false → (k : Book) (rs : List Spoken)
-        → HasEntries base entries k → SayRecords k rs → HaveRetraced g k rs modules
+        → IsBookOf base entries k → SayRecords k rs → HaveRetraced g k rs modules
         → SayRecords k (rs ++ r ∷ []) → ⊥)
     take_no (Ok says) next = λ no k rs has so_far come.
         say_only g base entries k rs r modules own has so_far come there (next no)

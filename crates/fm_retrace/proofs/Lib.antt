@@ -1,3 +1,4 @@
 pub mod Said
 pub mod Next
 pub mod Come
+pub mod Handed

@@ -1,6 +1,6 @@
 -- One record more: the modules of a book say it too exactly where it is what its module says next.
 use Rattle.std.proofs.Common.{◌≡◌, ◌≢◌, inl, inr, ℕ, ◌+◌, ◌-◌, ◌<◌, ◌≤◌, max, Bool, true, false}
-use Rattle.std.proofs.Common.{nat_le, ◌==◌, List, [], ◌∷◌, ◌++◌, length, take, drop, Some, refl, sym}
+use Rattle.std.proofs.Common.{nat_le, ◌==◌, List, [], ◌∷◌, ◌++◌, length, take, Some, refl, sym}
 use Rattle.std.proofs.Common.{◌∙◌, ap, subst, append-nil, arith, slice_get, take-add}
 use Rattle.std.proofs.lemmas.Bool.{cases_eq}
 use Rattle.std.proofs.lemmas.Bool.Decides.{nat_tests}
@@ -8,7 +8,7 @@ use Rattle.std.proofs.lemmas.List.{append_cancel_left, length-map, length-take-l
 use Rattle.std.proofs.lemmas.List.Elements.{filter-append}
 use Rattle.std.proofs.lemmas.Option.{slice_get_within, same_Some}
 use Rattle.std.specs.List.{AllByRecursion}
-use Rattle.fm_core.specs.Book.{Book, ModuleState, IsLawful, IsPlaced, floored, floor_of, state_at}
+use Rattle.fm_core.specs.Book.{Book, ModuleState, IsPlaced, floored, floor_of, state_at}
 use Rattle.fm_core.specs.Folds.{state_along, words_along}
 use Rattle.fm_core.specs.Meaning.{Meaning, State}
 use Rattle.fm_core.specs.Records.{of_module, numbered_from, IsAscending, past_all}

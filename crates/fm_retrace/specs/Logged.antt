@@ -1,5 +1,5 @@
 -- What a record of a log says of a number: what was said there.
-use Rattle.std.specs.Prelude.{ℕ, ◌+◌, List, [], ◌∷◌}
+use Rattle.std.specs.Prelude.{ℕ, List, [], ◌∷◌}
 use Rattle.fm_core.specs.Records.{numbered_before}
 use Rattle.fm_entry.specs.declared.spoken.Spoken.{Spoken}
 

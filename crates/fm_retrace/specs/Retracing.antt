@@ -5,6 +5,7 @@ use Rattle.std.specs.Prelude.{drop, slice_get, Some, None}
 use Rattle.std.specs.declared.option.Option.{Option}
 use Rattle.fm_core.specs.Book.{Book, ModuleState, IsLawful, floored, state_at}
 use Rattle.fm_core.specs.Folds.{words_along}
+use Rattle.fm_core.specs.Hands.{HandOf}
 use Rattle.fm_core.specs.Meaning.{Meaning, State}
 use Rattle.fm_core.specs.Records.{of_module, numbered_from, past_all}
 use Rattle.fm_core.specs.declared.module.Module.{Ghosts}
@@ -49,7 +50,7 @@ pub record HaveRetraced {M : Type 0} (g : Ghosts M) (k : Book) (records : List S
       → slice_get modules i ≡ Some own → HasRetraced g k records i p own
 
 -- the book has these entries from this base on
-pub record HasEntries (base : ℕ) (entries : List Entry) (k : Book) : Type 0 where
+pub record IsBookOf (base : ℕ) (entries : List Entry) (k : Book) : Type 0 where
   pub base_is : k.base ≡ base
   pub entries_are : k.entries ≡ entries
 
@@ -69,3 +70,14 @@ RetraceTo g k records modules None = SayRecords k records × HaveRetraced g k re
 RetraceTo g k records modules (Some at) =
     (at < length records) × SayRecords k (take at records)
     × (SayRecords k (take (at + 1) records) → ⊥)
+
+-- how far each module has come
+abbrev pub cursors_of : {M : Type 0} → ℕ → List (Retraced M) → List ℕ
+cursors_of base modules = map (λ own. max base own.past) modules
+
+-- the hands of the modules, numbered from n
+abbrev pub hands_from : {M : Type 0} → ℕ → ℕ → List (Retraced M) → List (HandOf M)
+hands_from base n [] = []
+hands_from base n (own ∷ modules) =
+    record { number = n; cursor = max base own.past; object = own.object }
+    ∷ hands_from base (n + 1) modules

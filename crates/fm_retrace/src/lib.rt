@@ -11,15 +11,17 @@
 //!
 //! **Promises.** `retrace` answers the place of the first record with which the modules no longer
 //! say what the log has, or brings each object to its module's floor; nothing but want of memory
-//! keeps it from that.
+//! keeps it from that. `hands_of` makes the modules' hands.
 #![tactic(auto)]
 
+mod hands;
 mod logged;
 mod records;
 mod retraced;
 mod words;
 
 pub use fm_bytes::NoMemory;
+pub use hands::hands_of;
 pub use logged::LoggedSpoken;
 pub use records::retrace;
 pub use retraced::Retraced;

@@ -6,7 +6,7 @@ ghost use Rattle.fm_core.specs.Book.{Book};
 ghost use Rattle.fm_entry.specs.Entries.{IsSpelled};
 ghost use Rattle.fm_entry.specs.Words.{IsSpelledSpoken};
 ghost use Rattle.fm_entry.specs.declared.spoken.Spoken.{Spoken};
-ghost use Rattle.fm_retrace.specs.Retracing.{SayRecords, HasEntries, HaveRetraced, RetraceTo};
+ghost use Rattle.fm_retrace.specs.Retracing.{SayRecords, IsBookOf, HaveRetraced, RetraceTo};
 ghost use Rattle.fm_retrace.specs.Retracing.{AreNumbered, meanings_of};
 
 use crate::logged::LoggedSpoken;
@@ -29,12 +29,12 @@ fn take_at<M: Module>(
     requires spelled { IsSpelledSpoken record.now }
     requires numbered { AreNumbered (meanings_of M.Module modules.old.items) }
     ensures yes { IfOk result (λ says. says ≡ true → (k : Book) (records : List Spoken)
-        → HasEntries base entries.now k → SayRecords k records
+        → IsBookOf base entries.now k → SayRecords k records
         → HaveRetraced M.Module k records modules.old.items
         → SayRecords k (records ++ record.now ∷ [])
         × HaveRetraced M.Module k (records ++ record.now ∷ []) modules.new.items) }
     ensures no { IfOk result (λ says. says ≡ false → (k : Book) (records : List Spoken)
-        → HasEntries base entries.now k → SayRecords k records
+        → IsBookOf base entries.now k → SayRecords k records
         → HaveRetraced M.Module k records modules.old.items
         → SayRecords k (records ++ record.now ∷ []) → ⊥) }
     ensures kept { meanings_of M.Module modules.new.items
@@ -61,7 +61,7 @@ pub fn retrace<M: Module>(
     requires few { base + length entries.now ≤ 2 ^ 46 }
     requires entries { All IsSpelled entries.now }
     requires numbered { AreNumbered (meanings_of M.Module modules.old.items) }
-    ensures retraces { IfOk result (λ stop. (k : Book) → HasEntries base entries.now k
+    ensures retraces { IfOk result (λ stop. (k : Book) → IsBookOf base entries.now k
         → SayRecords k [] → HaveRetraced M.Module k [] modules.old.items
         → RetraceTo M.Module k records.now modules.new.items stop) }
     ensures kept { meanings_of M.Module modules.new.items

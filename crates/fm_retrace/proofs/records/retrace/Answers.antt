@@ -1,5 +1,5 @@
 -- One record more, or the first that the modules don't say.
-use Rattle.std.proofs.Common.{◌≡◌, ◌∙◌, ◌+◌, arith, refl, length, take}
+use Rattle.std.proofs.Common.{◌∙◌, arith, refl, length, take}
 use Rattle.std.proofs.lemmas.Option.{slice_get_read}
 use Rattle.fm_retrace.proofs.Come.{stop_at, go_on, went_through}
 use Rattle.fm_retrace.proofs.records.retrace.Goals as goal

@@ -1,5 +1,5 @@
 -- The module of the record says it next, or it does not.
-use Rattle.std.proofs.Common.{◌≡◌, ◌∙◌, ◌<◌, ◌≤◌, sym, arith, refl, length, ap, subst}
+use Rattle.std.proofs.Common.{arith, refl}
 use Rattle.fm_retrace.proofs.Come.{own_number, meanings_kept, take_yes, take_no, take_none}
 use Rattle.fm_retrace.proofs.records.take_at.Goals as goal
 

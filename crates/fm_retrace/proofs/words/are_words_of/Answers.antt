@@ -1,6 +1,5 @@
 -- Words that are written as a record's are the record's.
-use Rattle.std.proofs.Common.{rules, ◌≡◌, ap, refl}
-use Rattle.fm_entry.specs.declared.spoken.Spoken.{Spoken}
+use Rattle.std.proofs.Common.{rules}
 use Rattle.fm_retrace.proofs.Said.{written_alike}
 use Rattle.fm_retrace.proofs.words.are_words_of.Goals as goal
 

@@ -1,5 +1,5 @@
 -- One entry more, and what is said at it.
-use Rattle.std.proofs.Common.{rules, ◌≡◌, ◌∙◌, ◌+◌, sym, arith, refl, length}
+use Rattle.std.proofs.Common.{◌∙◌, ◌+◌, sym, arith, refl, length}
 use Rattle.std.proofs.lemmas.Option.{slice_get_read}
 use Rattle.fm_retrace.proofs.Said.{none_below, said_other, said_next, state_next}
 use Rattle.fm_retrace.proofs.words.says_just.Goals as goal
