@@ -1,7 +1,7 @@
 //! A store: its logs, and what stands beside them.
 
 ghost use Rattle.std.specs.Prelude.{◌≡◌, ◌<◌, ◌^◌, ◌∷◌, [], List, length, slice_get, Some, All};
-ghost use Rattle.std.specs.Prelude.{◌↔◌, IsTrue};
+ghost use Rattle.std.specs.Prelude.{◌↔◌, ◌≤◌, IsTrue};
 ghost use Rattle.std.specs.Option.{option_map};
 ghost use Rattle.fm_core.specs.Book.{ModuleState, greatest_from};
 ghost use Rattle.fm_entry.specs.Entries.{IsSpelled};
@@ -10,7 +10,7 @@ ghost use Rattle.fm_logs.specs.LogsOf.{AcceptDoes, CommitDoes};
 ghost use Rattle.fm_logs.specs.StoreBook.{StoreBook, IsLawfulStore, store_accepted, force_along};
 ghost use Rattle.fm_store.specs.StoreOf.{StoreStandsFor, greatest_at, force_at};
 ghost use Rattle.fm_store.specs.StoreLeft.{AreSameStore, AreDisksOf};
-ghost use Rattle.fm_store.specs.StoreCalls.{AcceptsOnBook, AreAtEnd, CommitsOnBook};
+ghost use Rattle.fm_store.specs.StoreCalls.{AcceptsOnBook, AreAtEnd, CommitsOnBook, next_entry};
 
 use crate::entries::{force_after, force_of};
 use crate::store_base::StoreBase;
@@ -102,6 +102,14 @@ impl<D: Disk, M> Store<D, M> {
         ensures { result ≡ self.now.logs.base }
     {
         self.logs.base()
+    }
+
+    /// The number of the next entry, which is how many entries there ever were.
+    pub fn next_entry(&self) -> u64
+        ensures value { result ≡ next_entry self.now.logs }
+        ensures few { result ≤ 2 ^ 46 }
+    {
+        self.logs.next_entry()
     }
 
     /// How far the module has come: the number of the next entry that it takes.

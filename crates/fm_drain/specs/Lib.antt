@@ -1,0 +1,2 @@
+pub mod DrainCalls
+pub mod DrainSteps
