@@ -1,5 +1,5 @@
 use Rattle.ev_ways.proofs.Membership.{one_below}
-use Rattle.ev_ways.proofs.tests.drawn.Goals as goal
+use Rattle.test_language.proofs.arrows.drawn.Goals as goal
 
 pub push-requires-clause-causes : goal.push-requires-clause-causes
 push-requires-clause-causes c =

@@ -1,5 +1,5 @@
 use Rattle.std.proofs.Common.{◌≡◌, ◌≤◌, length}
-use Rattle.ev_ways.proofs.tests.drawn.Given as goal
+use Rattle.test_language.proofs.arrows.drawn.Given as goal
 
 abbrev pub invariant-loop-from : goal.invariant-loop-from
 invariant-loop-from l =
