@@ -157,9 +157,6 @@ fn fill_from(buf: &mut [u8], bytes: &[u8], at: usize)
     buf.copy_from_slice(&bytes[at..at + buf.len()]);
 }
 
-#[cfg(test)]
-mod tests;
-
 impl Disk for MemDisk {
     ghost seen = { λ d. Some (content d) };
 
