@@ -147,7 +147,7 @@ one_loaded f state p q fits made holds saved made' holds' saved' =
     of m s = record { meaning = m; state = s }
 
 -- states that are saved so are one
-same_loaded : (fresh : List ModuleState) (states : List (List ℕ)) (x y : List ModuleState)
+pub same_loaded : (fresh : List ModuleState) (states : List (List ℕ)) (x y : List ModuleState)
     → All FitsLongText states → AreLoaded fresh states x → AreLoaded fresh states y → x ≡ y
 same_loaded [] [] [] [] fit a b = refl
 same_loaded [] [] [] (q ∷ y) fit a b = absurd b

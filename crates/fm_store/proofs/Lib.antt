@@ -20,3 +20,9 @@ pub mod BaseReads
 pub mod EntryReads
 pub mod ActiveReads
 pub mod OpenReads
+pub mod Loads
+pub mod BaseSlots
+pub mod Retold
+pub mod FaultLogs
+pub mod Adopts
+pub mod Adopted

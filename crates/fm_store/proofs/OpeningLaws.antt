@@ -29,7 +29,7 @@ use Rattle.fm_store.proofs.Damages.{same_checkpoint, same_states}
 use Rattle.fm_store.proofs.Spelled.{conf_once, entry_once, spoken_once}
 
 -- what a slot, or the want of one, says of the base
-says_base : (fresh : List ModuleState) (known : ℕ) (found : Option (Bool × SlotOf))
+pub says_base : (fresh : List ModuleState) (known : ℕ) (found : Option (Bool × SlotOf))
     (checkpoint : Checkpoint) (modules : List ModuleState) → SaysCheckpoint known found checkpoint
     → LoadsStates fresh found checkpoint modules → SaysBase fresh found checkpoint modules
 says_base fresh known None checkpoint modules says loads = (

@@ -9,3 +9,7 @@ pub mod Looks
 pub mod Entries
 pub mod Bases
 pub mod Opened
+pub mod Loading
+pub mod FaultLog
+pub mod Adopting
+pub mod Beside

@@ -17,6 +17,10 @@
 //! image that reads as one. Contents read as one book at most (`looks_read_one_book`), and what is
 //! opened of them has what the book has (`an_opening_has_the_book`), however often it is opened.
 //!
+//! `Opened::adopt` loads the modules' states and lets each take entries again up to where the fault
+//! log says that it last spoke. After `Ok` the store stands for the book that all looks read, and
+//! the hands follow it; `Damaged` comes only where a look at the states or the records finds it.
+//!
 //! `accept`, `commit`, `checkpoint` and `rotate` have one clause each on what they make of the
 //! memory, by cases on the answer, and one on the book that the store stands for: after `Ok` it
 //! stands for the book after the move, and whatever is answered, each crash at a moment of the call
@@ -26,12 +30,15 @@
 //! store is closed: each later call answers `Closed` with the disk that failed and its count.
 #![tactic(auto)]
 
+mod adopting;
 mod base;
 mod checkpoints;
 mod confs;
 mod entries;
 mod entry_reader;
+mod fault_log;
 mod laws;
+mod loading;
 mod look;
 mod opened;
 mod opening;
