@@ -2,8 +2,10 @@
 
 ghost use Rattle.dx_case.specs.Cases.{IsCaseOf};
 
-use dx_case::{Case, Outcome};
+use crate::made::put;
+use dx_case::{Case, CaseFacts, Outcome};
 use ev_graph::{Graph, Link, is_report_node};
+use fm_entry::Broken;
 use std::alloc::Global;
 use std::process::Abort;
 
@@ -64,6 +66,57 @@ pub fn joins(
     }
 }
 
+/// An equal case.
+pub fn copied(rt: &impl Abort, alloc: Global, graph: &Graph, case: &Case) -> Case
+    requires { IsCaseOf graph.now case.now }
+    ensures { IsCaseOf graph.now result }
+{
+    let _graph = graph.node_count();
+    match case.copy(alloc) {
+        Ok(copy) => copy,
+        Err(_) => panic!(rt; "memory ran out"),
+    }
+}
+
+/// The case of these facts.
+pub fn case_of(
+    rt: &impl Abort,
+    alloc: Global,
+    graph: &Graph,
+    facts: &CaseFacts<'_>,
+    moment: u64,
+) -> Case
+    ensures { IsCaseOf graph.now result }
+{
+    if !facts.fit(graph, moment) {
+        panic!(rt; "no facts of a case");
+    }
+    match Case::restore(alloc, graph, facts, moment) {
+        Ok(case) => case,
+        Err(_) => panic!(rt; "memory ran out"),
+    }
+}
+
+/// The case made again from what is kept of it.
+pub fn restored(rt: &impl Abort, alloc: Global, graph: &Graph, case: &Case, moment: u64) -> Case
+    ensures { IsCaseOf graph.now result }
+{
+    let mut broken = Vec::new(alloc);
+    for link in case.broken() {
+        let instance = link.instance;
+        let effect = link.effect;
+        put(rt, &mut broken, Broken { instance, effect });
+    }
+    let facts = CaseFacts {
+        number: case.number(),
+        opened: case.opened(),
+        entries: case.reports(),
+        observed: case.observed(),
+        broken: broken.as_slice(),
+    };
+    case_of(rt, alloc, graph, &facts, moment)
+}
+
 /// What the case comes to.
 pub fn outcome_of(rt: &impl Abort, alloc: Global, graph: &Graph, case: &Case) -> Outcome
     requires { IsCaseOf graph.now case.now }
@@ -84,6 +137,16 @@ pub fn solved(rt: &impl Abort, alloc: Global, graph: &Graph, case: &Case, want: 
     match outcome_of(rt, alloc, graph, case) {
         Outcome::Solved(faults) => assert_eq!(rt; faults.as_slice(), want),
         _ => panic!(rt; "not solved"),
+    }
+}
+
+/// Asserts that these upsets explain the case.
+pub fn upset(rt: &impl Abort, alloc: Global, graph: &Graph, case: &Case, want: &[u32])
+    requires { IsCaseOf graph.now case.now }
+{
+    match outcome_of(rt, alloc, graph, case) {
+        Outcome::Upset(upsets) => assert_eq!(rt; upsets.as_slice(), want),
+        _ => panic!(rt; "no upset"),
     }
 }
 

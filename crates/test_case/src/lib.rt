@@ -3,8 +3,16 @@
 #![tactic(auto)]
 
 #[cfg(test)]
+mod broken;
+#[cfg(test)]
 mod decided;
 #[cfg(test)]
+mod drawn;
+#[cfg(test)]
 mod handled;
+#[cfg(test)]
+mod kept;
+#[cfg(test)]
+mod lived;
 #[cfg(test)]
 mod made;

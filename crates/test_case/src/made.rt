@@ -1,37 +1,9 @@
-//! Graphs of a few nodes. The node of a number stands at the chassis of that number, so numbers are
-//! in the order of events.
+//! Graphs made by hand.
 
-use ev_graph::{EngineSpec, Graph, Instance, Node, NodeKind};
-use fm_bytes::{Items, NoMemory};
-use fm_name::{EventName, read_class, read_fmri};
+use ev_graph::{Graph, Instance, NodeKind};
+use ev_small::{Wire, small_graph, wired_instances};
 use std::alloc::Global;
 use std::process::Abort;
-
-fn read_name(alloc: Global, class: &str, number: u32) -> Result<Option<EventName>, NoMemory> {
-    let text = format!(in alloc; "hc:///chassis={number}")?;
-    let class = read_class(alloc, class)?;
-    let path = read_fmri(alloc, text.as_str())?;
-    match (class, path) {
-        (Some(class), Some(path)) => Ok(Some(EventName { class, path })),
-        _ => Ok(None),
-    }
-}
-
-fn class_of(kind: NodeKind) -> &'static str {
-    match kind {
-        NodeKind::Report { .. } => "ereport.part.seen",
-        NodeKind::Inner => "error.part.off",
-        NodeKind::Upset { .. } => "upset.part.hit",
-        _ => "fault.part.dead",
-    }
-}
-
-fn node_at(rt: &impl Abort, alloc: Global, number: u32, kind: NodeKind) -> Node {
-    match read_name(alloc, class_of(kind), number) {
-        Ok(Some(name)) => Node { name, kind },
-        _ => panic!(rt; "no name at {number}"),
-    }
-}
 
 /// Puts an item at the end.
 pub fn put<T: Drop>(rt: &impl Abort, list: &mut Vec<T>, item: T) {
@@ -40,58 +12,40 @@ pub fn put<T: Drop>(rt: &impl Abort, list: &mut Vec<T>, item: T) {
     }
 }
 
-fn nodes_of(rt: &impl Abort, alloc: Global, kinds: &[NodeKind]) -> Vec<Node> {
-    let mut nodes = Vec::new(alloc);
-    let mut number = 0;
-    for kind in kinds {
-        put(rt, &mut nodes, node_at(rt, alloc, number, *kind));
-        if number < 1000 {
-            number += 1;
-        }
-    }
-    nodes
-}
-
-fn list_of(rt: &impl Abort, alloc: Global, numbers: &[u32]) -> Items<u32> {
-    match Vec::from_slice(alloc, numbers) {
-        Ok(list) => Items::new(list),
-        Err(_) => panic!(rt; "memory ran out"),
-    }
-}
-
-/// Puts an instance with these causes and effects at the end.
-pub fn put_instance(
-    rt: &impl Abort,
-    instances: &mut Vec<Instance>,
-    alloc: Global,
-    causes: &[u32],
-    effects: &[u32],
-    counts: (u32, u32),
-) {
-    let causes = list_of(rt, alloc, causes);
-    let effects = list_of(rt, alloc, effects);
-    let (n, k) = counts;
-    let instance = Instance {
+/// An instance that leads from causes to effects, of which a cause shows `n`; an effect needs one
+/// cause.
+pub fn leads<'a>(causes: &'a [u32], effects: &'a [u32], n: u32) -> Wire<'a> {
+    Wire {
         causes,
         effects,
         n,
-        k,
-    };
-    put(rt, instances, instance);
+        k: 1,
+    }
 }
 
-/// The graph of these without engines.
+/// The graph of nodes of these kinds and of these instances.
 pub fn graph_of(
     rt: &impl Abort,
     alloc: Global,
     kinds: &[NodeKind],
     instances: Vec<Instance>,
 ) -> Graph {
-    let nodes = nodes_of(rt, alloc, kinds);
-    let engines: Vec<EngineSpec> = Vec::new(alloc);
-    match Graph::build(alloc, nodes, engines, instances) {
-        Ok(graph) => graph,
-        Err(_) => panic!(rt; "no graph"),
+    match small_graph(alloc, kinds, instances) {
+        Ok(Some(graph)) => graph,
+        _ => panic!(rt; "no graph"),
+    }
+}
+
+/// The same of these wires.
+pub fn wired_graph(
+    rt: &impl Abort,
+    alloc: Global,
+    kinds: &[NodeKind],
+    wires: &[Wire<'_>],
+) -> Graph {
+    match wired_instances(alloc, wires) {
+        Ok(instances) => graph_of(rt, alloc, kinds, instances),
+        Err(_) => panic!(rt; "memory ran out"),
     }
 }
 
@@ -106,11 +60,18 @@ pub const DEAD: NodeKind = NodeKind::Fault {
     retire: true,
 };
 
+/// A defect.
+pub const FLAW: NodeKind = NodeKind::Defect {
+    fit: 1,
+    retire: false,
+};
+
+/// An upset of no engine.
+pub const HIT: NodeKind = NodeKind::Upset { engine: None };
+
 /// A cpu: the reports 0 ue and 1 wd, awaited for 5, the faults 2 cache and 3 core. The core leads
 /// to ue, and must show it; the cache leads to both, and must show n of them.
 pub fn cpu_graph(rt: &impl Abort, alloc: Global, n: u32) -> Graph {
-    let mut instances = Vec::new(alloc);
-    put_instance(rt, &mut instances, alloc, &[3], &[0], (1, 1));
-    put_instance(rt, &mut instances, alloc, &[2], &[0, 1], (n, 1));
-    graph_of(rt, alloc, &[seen(5), seen(5), DEAD, DEAD], instances)
+    let wires = [leads(&[3], &[0], 1), leads(&[2], &[0, 1], n)];
+    wired_graph(rt, alloc, &[seen(5), seen(5), DEAD, DEAD], &wires)
 }
