@@ -1,0 +1,12 @@
+pub mod Both
+pub mod Turned
+pub mod Places
+pub mod Tracking
+pub mod Settles
+pub mod Joins
+pub mod Rates
+pub mod Notes
+pub mod Moving
+pub mod Gone
+pub mod Passing
+pub mod Tripping

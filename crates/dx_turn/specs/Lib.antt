@@ -1,0 +1,5 @@
+pub mod Grounds
+pub mod Turning
+pub mod Tracking
+pub mod Settling
+pub mod Joining

@@ -1,0 +1,30 @@
+//! The turns of a diagnosis module, part by part.
+//!
+//! **Model.** What a turn has come to is seen as the `Turn` of dx_step (`turn_at`), over a `Ground`
+//! that stays as it is: the rulebook, the configuration in force and its graph, the time, and the
+//! engines and last words from before. Each call does what a part of the step is defined to do.
+//!
+//! **Promises.** [`settle_all`] decides each open case that waits for nothing any more at the time
+//! of the turn; [`join`] takes a report into the case that has it or waits for it, or into one that
+//! it opens; [`trips`] takes in what engines report that fired. No call changes a case as it was
+//! before the turn: what a turn makes of it stands beside it, and so want of memory in the midst of
+//! a turn leaves all that is needed to undo it. A case of which no window has ended and that no
+//! report joins costs one comparison.
+#![tactic(auto)]
+
+mod deciding;
+mod ground;
+mod joining;
+mod noting;
+mod settling;
+mod told;
+mod tracked;
+mod work;
+
+pub use ev_graph::NoMemory;
+pub use ground::Ground;
+pub use joining::{Incoming, join, trips};
+pub use settling::settle_all;
+pub use told::Told;
+pub use tracked::Tracked;
+pub use work::Work;

@@ -1,0 +1,86 @@
+//! Open cases as a turn changes them.
+
+ghost use Rattle.std.specs.Prelude.{◌≡◌, ◌∷◌, ℕ, [], Some, None, true, false};
+ghost use Rattle.std.specs.List.{list_any};
+ghost use Rattle.ev_graph.specs.Lawful.{GraphValue};
+ghost use Rattle.dx_words.specs.Cases.{takes_report};
+ghost use Rattle.dx_turn.specs.Tracking.{now_of, opens_of, IsTrackedAt, HasOpen};
+
+use dx_case::Case;
+
+/// An open case, as it is before the turn and as the turn has changed it. Nothing that was there
+/// before is changed, so that it can be left as it was.
+#[derive(Drop)]
+pub struct Tracked {
+    /// As it was before the turn; none where the turn opened it.
+    pub(crate) kept: Option<Case>,
+    /// As the turn has changed it.
+    changed: Option<Case>,
+    /// Whether the turn has decided it.
+    decided: bool,
+}
+
+impl Tracked {
+    /// An open case, before any turn.
+    pub fn new(case: Case) -> Tracked
+        ensures { result ≡ record { kept = Some case; changed = None; decided = false } }
+    {
+        Tracked {
+            kept: Some(case),
+            changed: None,
+            decided: false,
+        }
+    }
+
+    /// No case: one that the turn is about to open.
+    pub(crate) fn blank() -> Tracked
+        ensures { result ≡ record { kept = None; changed = None; decided = false } }
+    {
+        Tracked {
+            kept: None,
+            changed: None,
+            decided: false,
+        }
+    }
+
+    /// The turn has changed the case to this one.
+    pub(crate) fn change(&mut self, case: Case)
+        ensures { self.new ≡ record self.old { changed = Some case } }
+    {
+        self.changed = Some(case);
+    }
+
+    /// The turn has decided the case.
+    pub(crate) fn decide(&mut self)
+        ensures { self.new ≡ record self.old { decided = true } }
+    {
+        self.decided = true;
+    }
+
+    /// The case, as it is now.
+    pub(crate) fn current(&self) -> &Case
+        requires { HasOpen self.now }
+        ensures { now_of self.now ≡ result.now ∷ [] }
+    {
+        match (&self.changed, &self.kept) {
+            (Some(case), _) => case,
+            (None, Some(case)) => case,
+            (None, None) => unreachable!(),
+        }
+    }
+
+    /// Whether a report of the node joins it.
+    pub(crate) fn takes(&self, node: u32) -> bool
+        ensures { (g : GraphValue) (time : ℕ) → IsTrackedAt g time self.now
+            → result ≡ list_any (takes_report g time node) (opens_of self.now) }
+    {
+        if self.decided {
+            return false;
+        }
+        match (&self.changed, &self.kept) {
+            (Some(case), _) => case.fits(node),
+            (None, Some(case)) => case.fits(node),
+            (None, None) => false,
+        }
+    }
+}
