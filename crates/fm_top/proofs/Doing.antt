@@ -3,6 +3,7 @@ use Rattle.std.proofs.Common.{◌≡◌, ◌⊎◌, ℕ, ◌∷◌, List, Bool, 
 use Rattle.std.proofs.Common.{IfSome, OnOk, IfErr, MatchResult, map, refl, sym, ◌∙◌, ap, subst, inl}
 use Rattle.std.proofs.Common.{inr}
 use Rattle.std.specs.Io.KnownBytes.{Appends, Consumes, IsAtEnd}
+use Rattle.fm_logs.specs.declared.disks.DiskName.TheVariants.{ErrA}
 use Rattle.fm_top.specs.Accepting.{AcceptedAll, AcceptStops}
 use Rattle.fm_top.specs.Accounts.{Accounts}
 use Rattle.fm_top.specs.Calls.{IsCaused, Does, Handed, WorksOn}
@@ -51,25 +52,25 @@ run_ends taken puts is_told next consumes at_end (Full kind) ran = inr tt
 run_ends taken puts is_told next consumes at_end _ (inl ran) = absurd ran.why
 run_ends taken puts is_told next consumes at_end _ (inr ran) = absurd ran.stops
 
-opening_goes : (before : Outside) (stop : Stop) → OpeningStops before.disks.err_a.seen stop
-    → Goes (world_of before) (looks Accept) (Err stop)
-opening_goes before Disk why = inl tt
-opening_goes before (Damaged place) why =
+opening_goes : (before after : Outside) (stop : Stop) → OpeningStops before.disks.err_a.seen stop
+    → Goes (world_of before after) (looks Accept) (Err stop)
+opening_goes before after Disk why = inl tt
+opening_goes before after (Damaged ErrA place) why =
     inr (inl (inl (place, refl, if_told before.disks.err_a.seen _ why)))
-opening_goes before _ why = absurd why
+opening_goes before after _ why = absurd why
 
-accept_goes : (before : Outside) (new : List ℕ → Type 0) (puts consumes : List ℕ → Type 0)
+accept_goes : (before after : Outside) (new : List ℕ → Type 0) (puts consumes : List ℕ → Type 0)
     (at_end : Type 0)
     (ran : Result (Unit {0}) Stop)
     → OnOk ran (AcceptedAll before.disks.err_a.seen new puts consumes at_end)
     → IfErr ran (AcceptStops before.disks.err_a.seen before.disks.err_a.images new puts consumes
     at_end)
-    → Goes (world_of before) (looks Accept) ran
-accept_goes before new puts consumes at_end (Ok done) all until =
+    → Goes (world_of before after) (looks Accept) ran
+accept_goes before after new puts consumes at_end (Ok done) all until =
     (if_told before.disks.err_a.seen _ all.there, tt)
-accept_goes before new puts consumes at_end (Err stop) all (inl refused) =
-    opening_goes before stop refused.why
-accept_goes before new puts consumes at_end (Err stop) all (inr stopped) =
+accept_goes before after new puts consumes at_end (Err stop) all (inl refused) =
+    opening_goes before after stop refused.why
+accept_goes before after new puts consumes at_end (Err stop) all (inr stopped) =
     elim (run_ends _ _ _ _ _ _ stop stopped.ran) [
       | inl fault ↦ inl fault
       | inr limit ↦ inr (inr ((if_told before.disks.err_a.seen _ stopped.there, tt), limit))
@@ -132,7 +133,7 @@ does_accept before after middle ran result all until input out disk ends rests =
   ran,
   middle,
   record {
-    order = accept_goes before _ _ _ _ ran all until;
+    order = accept_goes before (record after { out = middle }) _ _ _ _ ran all until;
     cause = accept_caused before (record after { out = middle }) ran input out disk;
     quiet = accept_quiet before (record after { out = middle }) ran
         (record { rules = rests.rules; topo = rests.topo; acts = rests.acts; disks = rests.disks })
@@ -148,16 +149,16 @@ does_accept before after middle ran result all until input out disk ends rests =
   ends,
 )
 
-replay_goes : (before : Outside) (puts consumes : List ℕ → Type 0) (at_end : Type 0)
+replay_goes : (before after : Outside) (puts consumes : List ℕ → Type 0) (at_end : Type 0)
     (ran : Result (Unit {0}) Stop)
-    → IfErr ran (ReplayStops puts consumes at_end) → Goes (world_of before) (looks Replay) ran
-replay_goes before puts consumes at_end (Ok done) until = tt
-replay_goes before puts consumes at_end (Err stop) (inl stopped) =
+    → IfErr ran (ReplayStops puts consumes at_end) → Goes (world_of before after) (looks Replay) ran
+replay_goes before after puts consumes at_end (Ok done) until = tt
+replay_goes before after puts consumes at_end (Err stop) (inl stopped) =
     elim (run_ends _ _ _ _ _ _ stop stopped)
     [ inl fault ↦ inl fault | inr limit ↦ inr (inr (tt, limit)) ]
-replay_goes before puts consumes at_end (Err Write) (inr cut) = inl tt
-replay_goes before puts consumes at_end (Err Memory) (inr cut) = inl tt
-replay_goes before puts consumes at_end (Err _) (inr cut) = absurd cut.why
+replay_goes before after puts consumes at_end (Err Write) (inr cut) = inl tt
+replay_goes before after puts consumes at_end (Err Memory) (inr cut) = inl tt
+replay_goes before after puts consumes at_end (Err _) (inr cut) = absurd cut.why
 
 -- `replay` is stopped by no disk
 no_disk : (puts consumes : List ℕ → Type 0) (at_end : Type 0)
@@ -210,7 +211,7 @@ does_replay before after middle ran result all until input out ends rests disk =
   ran,
   middle,
   record {
-    order = replay_goes before _ _ _ ran until;
+    order = replay_goes before (record after { out = middle }) _ _ _ ran until;
     cause = replay_caused before (record after { out = middle }) _ _ _ ran until input out;
     quiet = replay_quiet before (record after { out = middle }) ran rests.rules rests.topo
         rests.acts

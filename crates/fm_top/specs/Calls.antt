@@ -1,22 +1,18 @@
 -- What a call of the fault manager does, by its command.
-use Rattle.std.specs.Prelude.{◌≡◌, ℕ, List, Option, None, Some, Result, Err, OnOk, IfErr, slice_get}
+use Rattle.std.specs.Prelude.{◌≡◌, ℕ, List, Option, None, Some, Result, Err, OnOk, IfErr}
 use Rattle.fm_outer.specs.Failures.{Rose}
 use Rattle.fm_top.specs.Accepting.{AcceptRan}
 use Rattle.fm_top.specs.Ending.{EndsAs}
 use Rattle.fm_top.specs.Order.{Goes, looks, world_of}
-use Rattle.fm_top.specs.Outside.{Outside, SinkAt, source_counts, disk_counts, counts_of}
+use Rattle.fm_top.specs.Init.{InitRan}
+use Rattle.fm_top.specs.Outside.{Outside, SinkAt, source_counts, disk_counts, counts_of, RoseAt}
 use Rattle.fm_top.specs.Replaying.{ReplayRan}
-use Rattle.fm_top.specs.declared.six_disks.Disks.{Disks}
+use Rattle.fm_logs.specs.declared.disks.Disks.{Disks}
 use Rattle.fm_top.specs.declared.status.ToolStatus.{ToolStatus}
 use Rattle.fm_top.specs.declared.stops.Stop.{Stop}
 use Rattle.fm_top.specs.declared.stops.Stop.TheVariants.{Usage, Read, Write, Disk}
 use Rattle.fm_top.specs.declared.words.Command.{Command}
-use Rattle.fm_top.specs.declared.words.Command.TheVariants.{Accept, Replay}
-
--- the count at a place rose
-abbrev pub RoseAt : List ℕ → List ℕ → ℕ → Type 0
-RoseAt before now at =
-    (a : ℕ) × (b : ℕ) × (slice_get before at ≡ Some a) × (slice_get now at ≡ Some b) × Rose a b
+use Rattle.fm_top.specs.declared.words.Command.TheVariants.{Accept, Replay, Init}
 
 -- EACH FAULT OF THE OUTSIDE, one line a fault: it comes only where a count of that kind rose
 abbrev pub IsCaused : Outside → Outside → Stop → Type 0
@@ -31,11 +27,12 @@ abbrev pub Did : Command → Outside → Outside → Result (Unit {0}) Stop → 
 Did Accept before after ran =
     AcceptRan before.input after.input before.out after.out before.disks.err_a after.disks.err_a ran
 Did Replay before after ran = ReplayRan before.input after.input before.out after.out ran
+Did (Init namespace) before after ran = InitRan namespace before after ran
 
 -- a command ran, up to its last line
 pub record Ran (command : Command) (before after : Outside) (ran : Result (Unit {0}) Stop) : Type 0
   where
-    pub order : Goes (world_of before) (looks command) ran
+    pub order : Goes (world_of before after) (looks command) ran
     pub cause : IfErr ran (IsCaused before after)
     pub quiet : OnOk ran (counts_of after ≡ counts_of before)
     pub did : Did command before after ran
@@ -66,6 +63,23 @@ WorksOn None old new = new ≡ old
 WorksOn (Some Accept) old new =
     new ≡ record old { input = new.input; disks = record old.disks { err_a = new.disks.err_a } }
 WorksOn (Some Replay) old new = new ≡ record old { input = new.input }
+WorksOn (Some (Init namespace)) old new =
+    new ≡ record old {
+      rules = new.rules;
+      topo = new.topo;
+      disks = record new.disks { err_b = old.disks.err_b };
+    }
+
+-- six disks
+abbrev pub six : {D : Type 0} → D → D → D → D → D → D → Disks D
+six conf err_a err_b slot_a slot_b flt = record {
+  conf = conf;
+  err_a = err_a;
+  err_b = err_b;
+  slot_a = slot_a;
+  slot_b = slot_b;
+  flt = flt;
+}
 
 -- the names of the disks
 abbrev pub names_of : {D : Type 0} → (D → ℕ) → Disks D → Disks ℕ

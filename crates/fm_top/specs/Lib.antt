@@ -6,6 +6,7 @@ pub mod Draining
 pub mod Ended
 pub mod Ending
 pub mod Halting
+pub mod Init
 pub mod Lending
 pub mod Opening
 pub mod Order

@@ -6,6 +6,7 @@ use Rattle.fm_journal.specs.Damage.{IsDamagedAt}
 use Rattle.fm_journal.specs.Format.{IsJournal}
 use Rattle.fm_journal.specs.declared.fault.JournalFault.{JournalFault}
 use Rattle.fm_journal.specs.declared.fault.JournalFault.TheVariants as fault
+use Rattle.fm_logs.specs.declared.disks.DiskName.TheVariants.{ErrA}
 use Rattle.fm_top.specs.declared.stops.Stop.{Stop}
 use Rattle.fm_top.specs.declared.stops.Stop.TheVariants.{Damaged, Disk}
 
@@ -35,7 +36,7 @@ OpeningCause seen before now _ = ⊥
 -- the same in the words of a run
 abbrev pub OpeningStops : Option (List ℕ) → Stop → Type 0
 OpeningStops seen Disk = Unit {0}
-OpeningStops seen (Damaged place) = IsDamaged seen place
+OpeningStops seen (Damaged ErrA place) = IsDamaged seen place
 OpeningStops seen _ = ⊥
 
 -- After an opening that was refused each image is one from before. Where the disk was empty, and a

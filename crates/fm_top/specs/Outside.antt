@@ -1,10 +1,15 @@
 -- What stands outside at one moment, as plain records: what each object tells, and its count of
 -- faults.
-use Rattle.std.specs.Prelude.{ℕ, List, [], ◌∷◌, map, Option}
+use Rattle.std.specs.Prelude.{◌≡◌, ℕ, List, [], ◌∷◌, map, slice_get, Option, Some}
+use Rattle.fm_logs.specs.Contents.{Contents, content_named}
+use Rattle.fm_logs.specs.declared.disks.DiskName.{DiskName}
+use Rattle.fm_logs.specs.declared.disks.DiskName.TheVariants.{Conf, ErrA, ErrB, SlotA, SlotB, Flt}
+use Rattle.fm_outer.specs.Failures.{Rose}
 use Rattle.fm_outer.specs.declared.source.Source.{Ghosts as SourceGhosts}
 use Rattle.fm_outer.specs.declared.sink.Sink.{Ghosts as SinkGhosts}
 use Rattle.fm_outer.specs.declared.disk.Disk.{Ghosts as DiskGhosts}
-use Rattle.fm_top.specs.declared.six_disks.Disks.{Disks}
+use Rattle.fm_logs.specs.declared.disks.Disks.{Disks}
+use Rattle.fm_sources.specs.Sources.{Given, given}
 
 -- the bytes that a source has left, where it tells them
 pub record SourceAt : Type 0 where
@@ -67,6 +72,31 @@ disks_at g disks = record {
   flt = disk_at g disks.flt;
 }
 
+-- the sources of the rule files and of the topology, as they stand
+abbrev pub given_of : Outside → Given SourceAt
+given_of o = given o.rules o.topo
+
+-- what such a source tells is what it has
+abbrev pub standing : SourceGhosts SourceAt
+standing = record { left = λ s. s.left; failures = λ s. s.failures }
+
+-- the disk of a name
+abbrev pub disk_by_name : DiskName → DisksAt → DiskAt
+disk_by_name Conf disks = disks.conf
+disk_by_name ErrA disks = disks.err_a
+disk_by_name ErrB disks = disks.err_b
+disk_by_name SlotA disks = disks.slot_a
+disk_by_name SlotB disks = disks.slot_b
+disk_by_name Flt disks = disks.flt
+
+-- all six disks tell these contents
+abbrev pub Tells : DisksAt → Contents → Type 0
+Tells disks c = (name : DiskName) → (disk_by_name name disks).seen ≡ Some (content_named name c)
+
+-- a crash now may leave these contents
+abbrev pub Leaves : DisksAt → Contents → Type 0
+Leaves disks c = (name : DiskName) → (disk_by_name name disks).images (content_named name c)
+
 -- the counts of faults of all sources, all disks and all actuators
 
 abbrev pub source_counts : Outside → List ℕ
@@ -79,6 +109,11 @@ disk_counts d =
 
 abbrev pub act_counts : Outside → List ℕ
 act_counts o = map (λ a. a.failures) o.acts
+
+-- the count at a place rose
+abbrev pub RoseAt : List ℕ → List ℕ → ℕ → Type 0
+RoseAt before now at =
+    (a : ℕ) × (b : ℕ) × (slice_get before at ≡ Some a) × (slice_get now at ≡ Some b) × Rose a b
 
 pub record Counts : Type 0 where
   pub sources : List ℕ

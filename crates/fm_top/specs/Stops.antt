@@ -1,23 +1,54 @@
 -- The status and the last line of each way to end before all is done.
-use Rattle.std.specs.Prelude.{ℕ, List, [], ◌++◌, codes, decimal}
+use Rattle.std.specs.Prelude.{ℕ, List, [], ◌++◌, codes, decimal, Result, Ok, Err}
 use Rattle.fm_journal.specs.declared.fault.FullKind.{FullKind}
 use Rattle.fm_journal.specs.declared.fault.FullKind.TheVariants.{Records, Numbers, Bytes, Payload}
 use Rattle.fm_journal.specs.declared.fault.FullKind.TheVariants.{Input}
+use Rattle.fm_logs.specs.declared.disks.DiskName.{DiskName}
+use Rattle.fm_logs.specs.declared.disks.DiskName.TheVariants.{Conf, ErrA, ErrB, SlotA, SlotB, Flt}
+use Rattle.fm_logs.specs.declared.fault.StoreFault.{StoreFault}
+use Rattle.fm_logs.specs.declared.fault.StoreFault.TheVariants as store
+use Rattle.fm_refusals.specs.Refusals.{rules_text, topology_text}
+use Rattle.fm_sources.specs.declared.faults.SourceFault.{SourceFault}
+use Rattle.fm_sources.specs.declared.faults.SourceFault.TheVariants as sources
 use Rattle.fm_top.specs.declared.status.ToolStatus.{ToolStatus}
 use Rattle.fm_top.specs.declared.status.ToolStatus.TheVariants as status
 use Rattle.fm_top.specs.declared.stops.Stop.{Stop}
-use Rattle.fm_top.specs.declared.stops.Stop.TheVariants.{Usage, Damaged, Read, Write, Disk, Memory}
-use Rattle.fm_top.specs.declared.stops.Stop.TheVariants.{Full}
+use Rattle.fm_top.specs.declared.stops.Stop.TheVariants.{Usage, Rules, Topology, Damaged, Read}
+use Rattle.fm_top.specs.declared.stops.Stop.TheVariants.{Write, Disk, Memory, Full, Exists}
 
 -- the status that tells it
 abbrev pub status_of : Stop → ToolStatus
 status_of Usage = status.Usage
-status_of (Damaged place) = status.Damaged
+status_of (Rules file place kind) = status.Rules
+status_of (Topology line kind) = status.Topology
+status_of (Damaged disk place) = status.Damaged
 status_of Read = status.ReadFault
 status_of Write = status.WriteFault
 status_of Disk = status.DiskFault
 status_of Memory = status.NoMemory
 status_of (Full kind) = status.Full
+status_of Exists = status.Exists
+
+-- what the sources were refused for
+abbrev pub of_sources : SourceFault → Stop
+of_sources sources.Read = Read
+of_sources (sources.Rules file place kind) = Rules file place kind
+of_sources (sources.Topology line kind) = Topology line kind
+of_sources sources.NoMemory = Memory
+
+-- what a call of the store did not do
+abbrev pub of_store : StoreFault → Stop
+of_store store.Disk = Disk
+of_store (store.Full kind) = Full kind
+of_store (store.Closed disk faults) = Disk
+of_store (store.Damaged disk place) = Damaged disk place
+of_store store.Exists = Exists
+of_store store.NoMemory = Memory
+
+-- how a call of the store ended, in the words of a command
+abbrev pub ran_store : {T : Type 0} → Result T StoreFault → Result T Stop
+ran_store (Ok done) = Ok done
+ran_store (Err fault) = Err (of_store fault)
 
 -- the word for a limit
 abbrev pub kind_text : FullKind → List ℕ
@@ -27,12 +58,25 @@ kind_text Bytes = codes "bytes"
 kind_text Payload = codes "payload"
 kind_text Input = codes "input"
 
+-- the name of a disk
+abbrev pub disk_text : DiskName → List ℕ
+disk_text Conf = codes "conf"
+disk_text ErrA = codes "err_a"
+disk_text ErrB = codes "err_b"
+disk_text SlotA = codes "slot_a"
+disk_text SlotB = codes "slot_b"
+disk_text Flt = codes "flt"
+
 -- the last line that is put, if there is one
 abbrev pub last_text : Stop → List ℕ
 last_text Usage = codes "usage\n"
-last_text (Damaged place) = codes "damaged err_a " ++ (decimal place ++ codes "\n")
+last_text (Rules file place kind) = rules_text file place kind
+last_text (Topology line kind) = topology_text line kind
+last_text (Damaged disk place) =
+    codes "damaged " ++ (disk_text disk ++ (codes " " ++ (decimal place ++ codes "\n")))
 last_text Read = codes "read fault\n"
 last_text Write = []
 last_text Disk = codes "disk fault\n"
 last_text Memory = []
 last_text (Full kind) = codes "full " ++ (kind_text kind ++ codes "\n")
+last_text Exists = codes "store exists\n"

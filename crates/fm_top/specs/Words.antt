@@ -1,16 +1,24 @@
 -- Which words are which command.
 use Rattle.std.specs.Prelude.{ℕ, List, [], ◌∷◌, Option, Some, None, codes, if◌then◌else◌}
+use Rattle.std.specs.Option.{option_map}
 use Rattle.std.specs.Str.{bytes_eq}
+use Rattle.uuid.specs.Text.{parsed}
 use Rattle.fm_top.specs.declared.words.Command.{Command}
-use Rattle.fm_top.specs.declared.words.Command.TheVariants.{Accept, Replay}
+use Rattle.fm_top.specs.declared.words.Command.TheVariants.{Accept, Replay, Init}
 
 -- the command of one word
 abbrev pub command_in : List ℕ → Option Command
 command_in word = if bytes_eq word (codes "accept") then Some Accept else if bytes_eq word
     (codes "replay") then Some Replay else None
 
--- the command of the words: there is just one word, and it names a command
+-- the command of two words: `init` and a namespace
+unfoldable pub command_with : List ℕ → List ℕ → Option Command
+command_with word second =
+    if bytes_eq word (codes "init") then option_map Init (parsed second) else None
+
+-- the command of the words: there are one or two, and they name a command
 abbrev pub command_of : List (List ℕ) → Option Command
 command_of [] = None
 command_of (word ∷ []) = command_in word
-command_of (word ∷ another ∷ more) = None
+command_of (word ∷ second ∷ []) = command_with word second
+command_of (word ∷ second ∷ third ∷ more) = None

@@ -1,17 +1,18 @@
 // The top call.
-ghost use Rattle.std.specs.Prelude.{◌≡◌, ◌<◌, ◌^◌, map};
+ghost use Rattle.std.specs.Prelude.{◌≡◌, ◌<◌, ◌≤◌, ◌^◌, length, map};
 ghost use Rattle.fm_top.specs.Calls.{Does, WorksOn, handed, names_of};
 ghost use Rattle.fm_top.specs.Outside.{Outside, source_at, sink_at, disks_at, act_at};
 ghost use Rattle.fm_top.specs.Words.{command_of};
 
 use crate::accept::accept;
+use crate::init::init;
 use crate::last::end;
 use crate::replaying::replay;
-use crate::six_disks::Disks;
 use crate::status::ToolStatus;
 use crate::stops::Stop;
 use crate::words::{Command, command_of};
 use fm_act::Actuator;
+use fm_init::Disks;
 use fm_outer::{Disk, Sink, Source};
 use fm_text::ArgText;
 use std::alloc::Global;
@@ -21,7 +22,9 @@ use std::alloc::Global;
 /// `accept` appends each line of the input that is an entry to the journal on the disk `err_a`,
 /// which is made where that disk is empty, and answers each line. `replay` takes the entries of the
 /// input into two counters in memory, answers the lines that are refused, and puts what the
-/// counters come to. Of a command that stops, the last line says why. Nothing else is touched.
+/// counters come to. `init` reads the rule files and the topology, of which at most eight are handed
+/// in, and makes a store of them and of the namespace. Of a command that stops, the last line says
+/// why. Nothing else is touched.
 /// `now` is the moment of the call, in nanoseconds since 1970; no command asks for it yet.
 pub fn tool<S: Source, K: Sink, D: Disk>(
     alloc: Global,
@@ -34,7 +37,8 @@ pub fn tool<S: Source, K: Sink, D: Disk>(
     acts: &mut [Box<dyn Actuator + Send>],
     now: u64,
 ) -> ToolStatus
-    requires { now < 2 ^ 62 }
+    requires moment { now < 2 ^ 62 }
+    requires few { length rules.old ≤ 8 }
     ensures does { let before : Outside = record {
       input = source_at S.Source input.old;
       rules = map (source_at S.Source) rules.old;
@@ -61,6 +65,10 @@ pub fn tool<S: Source, K: Sink, D: Disk>(
     match command_of(words) {
         Some(Command::Accept) => end(alloc, accept(alloc, input, out, &mut disks.err_a), out),
         Some(Command::Replay) => end(alloc, replay(alloc, input, out), out),
+        Some(Command::Init(namespace)) => {
+            let ran = init(alloc, namespace, rules, topo, disks);
+            end(alloc, ran, out)
+        }
         None => end(alloc, Err(Stop::Usage), out),
     }
 }

@@ -3,7 +3,7 @@ ghost use Rattle.std.specs.Prelude.{◌≡◌, ◌⊎◌, ◌≤◌, [], Ok, Err
 ghost use Rattle.std.specs.Io.KnownBytes.{Appends};
 ghost use Rattle.fm_journal.specs.declared.fault.FullKind.TheVariants as full;
 ghost use Rattle.fm_top.specs.Accounts.{Accounts};
-ghost use Rattle.fm_top.specs.Stops.{last_text, kind_text};
+ghost use Rattle.fm_top.specs.Stops.{last_text, kind_text, disk_text};
 ghost use Rattle.fm_top.specs.Outside.{sink_at};
 ghost use Rattle.fm_top.specs.Refusing.{PutCut};
 ghost use Rattle.fm_top.specs.Ending.{EndsAs};
@@ -11,8 +11,12 @@ ghost use Rattle.fm_top.specs.Ending.{EndsAs};
 use crate::answering::put_text;
 use crate::status::ToolStatus;
 use crate::stops::Stop;
+use fm_init::DiskName;
 use fm_journal::FullKind;
 use fm_outer::Sink;
+use fm_refusals::{rules_line, topology_line};
+use fm_sources::RulesKind;
+use fm_topo::TopoKind;
 use std::alloc::Global;
 
 /// Tells which limit is reached.
@@ -32,34 +36,89 @@ fn put_full<K: Sink>(kind: FullKind, out: &mut K) -> Result<(), Stop>
     }
 }
 
-/// Tells where the journal of reports is damaged.
+/// The name of a disk.
+fn disk_word(disk: DiskName) -> &'static str
+    ensures { result.now ≡ disk_text disk }
+{
+    match disk {
+        DiskName::Conf => "conf",
+        DiskName::ErrA => "err_a",
+        DiskName::ErrB => "err_b",
+        DiskName::SlotA => "slot_a",
+        DiskName::SlotB => "slot_b",
+        DiskName::Flt => "flt",
+    }
+}
+
+/// Tells where a disk is damaged.
 #[tactic(auto, using(crate::proofs::Sinks::appends_none))]
-fn put_damaged<K: Sink>(alloc: Global, place: u64, out: &mut K) -> Result<(), Stop>
+fn put_damaged<K: Sink>(alloc: Global, disk: DiskName, place: u64, out: &mut K) -> Result<(), Stop>
     ensures ok { OnOk result
-        (Appends (K.put_bytes out.old) (K.put_bytes out.new) (last_text (Stop.Damaged place))) }
+        (Appends (K.put_bytes out.old) (K.put_bytes out.new)
+        (last_text (Stop.Damaged disk place))) }
     ensures err { IfErr result
         (PutCut (sink_at K.Sink out.old) (sink_at K.Sink out.new)
-        (last_text (Stop.Damaged place))) }
+        (last_text (Stop.Damaged disk place))) }
     ensures counts { Accounts Stop.Write (K.failures out.old) (K.failures out.new) result }
 {
-    let text = format!(in alloc; "damaged err_a {place}\n")?;
+    let name = disk_word(disk);
+    let text = format!(in alloc; "damaged {name} {place}\n")?;
+    put_text(out, text.as_str())
+}
+
+/// Tells which rule file is refused, where and why.
+#[tactic(auto, using(crate::proofs::Sinks::appends_none))]
+fn put_rules<K: Sink>(
+    alloc: Global,
+    file: u32,
+    place: u32,
+    kind: &RulesKind,
+    out: &mut K,
+) -> Result<(), Stop>
+    ensures ok { OnOk result
+        (Appends (K.put_bytes out.old) (K.put_bytes out.new)
+        (last_text (Stop.Rules file place kind.now))) }
+    ensures err { IfErr result
+        (PutCut (sink_at K.Sink out.old) (sink_at K.Sink out.new)
+        (last_text (Stop.Rules file place kind.now))) }
+    ensures counts { Accounts Stop.Write (K.failures out.old) (K.failures out.new) result }
+{
+    let text = rules_line(alloc, file, place, kind)?;
+    put_text(out, text.as_str())
+}
+
+/// Tells which line of the topology is refused, and why.
+#[tactic(auto, using(crate::proofs::Sinks::appends_none))]
+fn put_topology<K: Sink>(alloc: Global, line: u32, kind: TopoKind, out: &mut K) -> Result<(), Stop>
+    ensures ok { OnOk result
+        (Appends (K.put_bytes out.old) (K.put_bytes out.new)
+        (last_text (Stop.Topology line kind))) }
+    ensures err { IfErr result
+        (PutCut (sink_at K.Sink out.old) (sink_at K.Sink out.new)
+        (last_text (Stop.Topology line kind))) }
+    ensures counts { Accounts Stop.Write (K.failures out.old) (K.failures out.new) result }
+{
+    let text = topology_line(alloc, line, kind)?;
     put_text(out, text.as_str())
 }
 
 /// Puts the last line, if there is one.
-fn put_last<K: Sink>(alloc: Global, stop: Stop, out: &mut K) -> Result<(), Stop>
+fn put_last<K: Sink>(alloc: Global, stop: &Stop, out: &mut K) -> Result<(), Stop>
     ensures ok { OnOk result
-        (Appends (K.put_bytes out.old) (K.put_bytes out.new) (last_text stop)) }
+        (Appends (K.put_bytes out.old) (K.put_bytes out.new) (last_text stop.now)) }
     ensures err { IfErr result
-        (PutCut (sink_at K.Sink out.old) (sink_at K.Sink out.new) (last_text stop)) }
+        (PutCut (sink_at K.Sink out.old) (sink_at K.Sink out.new) (last_text stop.now)) }
     ensures counts { Accounts Stop.Write (K.failures out.old) (K.failures out.new) result }
 {
     match stop {
         Stop::Usage => put_text(out, "usage\n"),
-        Stop::Damaged(place) => put_damaged(alloc, place, out),
+        Stop::Rules { file, place, kind } => put_rules(alloc, *file, *place, kind, out),
+        Stop::Topology { line, kind } => put_topology(alloc, *line, *kind, out),
+        Stop::Damaged { disk, place } => put_damaged(alloc, *disk, *place, out),
         Stop::Read => put_text(out, "read fault\n"),
         Stop::Disk => put_text(out, "disk fault\n"),
-        Stop::Full(kind) => put_full(kind, out),
+        Stop::Full(kind) => put_full(*kind, out),
+        Stop::Exists => put_text(out, "store exists\n"),
         Stop::Write | Stop::Memory => Ok(()),
     }
 }
@@ -71,7 +130,7 @@ pub(crate) fn end<K: Sink>(alloc: Global, ran: Result<(), Stop>, out: &mut K) ->
 {
     match ran {
         Ok(()) => ToolStatus::Done,
-        Err(stop) => match put_last(alloc, stop, out) {
+        Err(stop) => match put_last(alloc, &stop, out) {
             Ok(()) => stop.status(),
             Err(cut) => cut.status(),
         },

@@ -6,6 +6,7 @@ ghost use Rattle.fm_top.specs.Recorders.{FrameStops, stop_for};
 use crate::stops::Stop;
 use crate::takers::Taker;
 use fm_entry::{Entry, write_entry};
+use fm_init::DiskName;
 use fm_journal::{Frame, FrameFault, FullKind, Journal, JournalFault};
 use fm_outer::Disk;
 use std::alloc::Global;
@@ -17,7 +18,10 @@ pub(crate) fn stop_of(fault: JournalFault) -> Stop
     match fault {
         JournalFault::Disk | JournalFault::Closed { .. } => Stop::Disk,
         JournalFault::Full(kind) => Stop::Full(kind),
-        JournalFault::Damaged { place } => Stop::Damaged(place),
+        JournalFault::Damaged { place } => Stop::Damaged {
+            disk: DiskName::ErrA,
+            place,
+        },
     }
 }
 

@@ -1,9 +1,11 @@
 // The words of a command.
 ghost use Rattle.std.specs.Prelude.{◌≡◌};
 ghost use Rattle.std.specs.Str.{bytes_eq};
-ghost use Rattle.fm_top.specs.Words.{command_in, command_of};
+ghost use Rattle.uuid.specs.Text.{parsed};
+ghost use Rattle.fm_top.specs.Words.{command_in, command_with, command_of};
 
 use fm_text::ArgText;
+use uuid::Uuid;
 
 /// What is to be done.
 #[derive(Clone, Copy, Debug, PartialEq, Eq)]
@@ -12,6 +14,8 @@ pub enum Command {
     Accept,
     /// The input's entries go through two counters, whose counts are put.
     Replay,
+    /// A store is made of this namespace, the rule files and the topology.
+    Init([u8; 16]),
 }
 
 /// Whether the word is this text.
@@ -34,12 +38,37 @@ fn command_in(word: &ArgText) -> Option<Command>
     }
 }
 
+/// The UUID that a word is, as its bytes.
+fn parse_uuid(word: &ArgText) -> Option<[u8; 16]>
+    ensures { result ≡ parsed word.now }
+{
+    match Uuid::parse_str(word.get()) {
+        Ok(uuid) => Some(uuid.into_bytes()),
+        Err(_error) => None,
+    }
+}
+
+/// The command of two words.
+#[tactic(auto, unfolding(crate::specs::Words::command_with))]
+fn command_with(word: &ArgText, second: &ArgText) -> Option<Command>
+    ensures { result ≡ command_with word.now second.now }
+{
+    if !is_word(word, "init") {
+        return None;
+    }
+    match parse_uuid(second) {
+        Some(namespace) => Some(Command::Init(namespace)),
+        None => None,
+    }
+}
+
 /// The command of the words, if they are one. Words are compared as they stand.
 pub(crate) fn command_of(words: &[ArgText]) -> Option<Command>
     ensures { result ≡ command_of words.now }
 {
     match words {
         [word] => command_in(word),
+        [word, second] => command_with(word, second),
         _ => None,
     }
 }

@@ -1,4 +1,5 @@
 // The objects that the program hands in.
+ghost use Rattle.std.specs.Prelude.{◌≤◌, length, IfOk};
 
 use fm_files::{Input, Output, StoreFile, StoreFolder, Trouble};
 use fm_top::{Disks, ToolStatus};
@@ -35,9 +36,11 @@ impl Opener<'_> {
         }
     }
 
-    fn rules(&self) -> Result<Vec<Input>, AllocError> {
+    fn rules(&self) -> Result<Vec<Input>, AllocError>
+        ensures { IfOk result (λ rules. length rules.items ≤ 8) }
+    {
         let mut rules = Vec::new(self.rt.alloc());
-        for name in RULES {
+        'names: for name in RULES {
             if is_missing(self.rt, name) {
                 break;
             }
@@ -79,7 +82,9 @@ pub struct Objects {
 impl Objects {
     /// The objects over the standard streams and the files of the folder. Where there is a reason
     /// why no file may be opened, each that is over a file fails for it.
-    pub fn new(rt: &HostRuntime, barred: Option<Trouble>) -> Result<Objects, AllocError> {
+    pub fn new(rt: &HostRuntime, barred: Option<Trouble>) -> Result<Objects, AllocError>
+        ensures { IfOk result (λ objects. length objects.rules.items ≤ 8) }
+    {
         let opener = Opener { rt, barred };
         Ok(Objects {
             input: Input::standard(rt.stdin()),

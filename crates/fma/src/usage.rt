@@ -10,7 +10,11 @@ struct CommandHelp {
 }
 
 /// The commands that are built.
-const COMMANDS: [CommandHelp; 2] = [
+const COMMANDS: [CommandHelp; 3] = [
+    CommandHelp {
+        words: "init NAMESPACE",
+        does: "makes a store of dx0.esc and on, and of topology.txt; NAMESPACE is a UUID",
+    },
     CommandHelp {
         words: "accept",
         does: "keeps each report of standard input in the folder store, and answers it",

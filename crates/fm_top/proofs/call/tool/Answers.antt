@@ -1,7 +1,8 @@
 use Rattle.std.proofs.Common.{refl, rules, Some}
 use Rattle.fm_top.specs.Outside.{sink_at}
-use Rattle.fm_top.specs.declared.words.Command.TheVariants.{Accept, Replay}
+use Rattle.fm_top.specs.declared.words.Command.TheVariants.{Accept, Replay, Init}
 use Rattle.fm_top.proofs.Doing.{does_as, does_accept, does_replay}
+use Rattle.fm_top.proofs.Inits.{does_init, ends_standing}
 use Rattle.fm_top.proofs.call.tool.Goals as goal
 
 pub returns-in-Some-Accept-clause-does : goal.returns-in-Some-Accept-clause-does
@@ -20,3 +21,10 @@ returns-in-Some-Replay-clause-does g c =
     c.replay.ensures.counts_out
     c.end-in-Some-Replay.ensures
     (record { rules = refl; topo = refl; acts = refl; disks = λ n. refl }) refl)
+
+pub returns-in-Some-Init-clause-does : goal.returns-in-Some-Init-clause-does
+returns-in-Some-Init-clause-does g c =
+    does_as _ (Some (Init c.in-Some-Init.namespace)) _ _ _ (search rules)
+    (does_init _ _ _ c.init-ran.result _
+    (ends_standing g.S.Source _ _ _ _ _ _ _ c.init-ran.result c.init-ran.ensures.ends)
+    c.end-in-Some-Init.ensures refl refl)
