@@ -1,10 +1,10 @@
 -- Modules that have come to their floors, with one record more.
-use Rattle.std.proofs.Common.{◌≡◌, inl, inr, ℕ, ◌+◌, ◌<◌, ◌≤◌, max, List, [], ◌∷◌, ◌++◌}
+use Rattle.std.proofs.Common.{◌≡◌, inl, inr, ℕ, zero, suc, ◌+◌, ◌<◌, ◌≤◌, max, List, [], ◌∷◌, ◌++◌}
 use Rattle.std.proofs.Common.{length, take, get_or, Some, refl, sym, ◌∙◌, ap, subst, arith, slice_get}
 use Rattle.std.proofs.Common.{set, map, Bool, true, false, Result, Ok, Err, IfOk}
 use Rattle.std.proofs.lemmas.List.{map-set, set-get_or, take_all}
 use Rattle.std.proofs.lemmas.Option.{slice_get_read}
-use Rattle.std.specs.List.{slice_set}
+use Rattle.std.specs.List.{AllByRecursion, slice_set}
 use Rattle.std.proofs.lemmas.Bool.{cases_eq}
 use Rattle.std.proofs.lemmas.List.{length-set}
 use Rattle.std.proofs.lemmas.Option.{slice_get_within, slice_get-get_or, same_Some}
@@ -18,6 +18,7 @@ use Rattle.fm_entry.specs.declared.entry.Entry.{Entry}
 use Rattle.fm_entry.specs.declared.spoken.Spoken.{Spoken}
 use Rattle.fm_retrace.specs.Retracing.{SayRecords, SaysNext, entries_between, HasRetraced}
 use Rattle.fm_retrace.specs.Retracing.{HaveRetraced, IsBookOf, meanings_of, AreNumbered}
+use Rattle.fm_retrace.specs.Retracing.{AreWithin}
 use Rattle.fm_retrace.specs.declared.retraced.Retraced.{Retraced}
 use Rattle.fm_retrace.proofs.Next.{says_more, says_only, state_parts, past_push, of_same, of_others}
 use Rattle.fm_retrace.proofs.Next.{names_module}
@@ -168,6 +169,19 @@ module _ {M : Type 0} (g : Ghosts M) (base : ℕ) (entries : List Entry) (k : Bo
       ];
     }
 
+-- a fact of each element, at a place, and with another element there
+pub all_at : {X : Type 0} (P : X → Type 0) (xs : List X) (i : ℕ) (x : X) → AllByRecursion P xs
+    → slice_get xs i ≡ Some x → P x
+all_at P [] i x all there = absurd (let no : ⊥ = cc in no)
+all_at P (y ∷ xs) zero x all there = subst P (same_Some y x there) all.0
+all_at P (y ∷ xs) (suc i) x all there = all_at P xs i x all.1 there
+
+all_set : {X : Type 0} (P : X → Type 0) (xs : List X) (i : ℕ) (x : X) → AllByRecursion P xs → P x
+    → AllByRecursion P (set xs i x)
+all_set P [] i x all now = tt
+all_set P (y ∷ xs) zero x all now = (now, all.1)
+all_set P (y ∷ xs) (suc i) x all now = (all.0, all_set P xs i x all.1 now)
+
 -- the element that was read at a place
 read_at : {X : Type 0} (xs : List X) (i : ℕ) (x : X) → i < length xs → x ≡ get_or xs i x
     → slice_get xs i ≡ Some x
@@ -181,6 +195,14 @@ module _ {M : Type 0} (g : Ghosts M) (modules : List (Retraced M)) (at : ℕ) (o
       numbered at (g.meaning own.object)
       (map_get (λ (o : Retraced M). g.meaning o.object) modules at own
       (read_at modules at own inside read))
+
+  -- none spoke past a number, with another object in place of this one
+  pub within_set : (end : ℕ) (later : Retraced M) → (own.past ≤ end → later.past ≤ end)
+      → AreWithin end modules → AreWithin end (slice_set modules at later)
+  within_set end later kept all =
+      all_set (λ (o : Retraced M). o.past ≤ end) modules at later all
+      (kept (all_at (λ (o : Retraced M). o.past ≤ end) modules at own all
+      (read_at modules at own inside read)))
 
   -- no meaning changes
   pub meanings_kept : (later : Retraced M) → g.meaning later.object ≡ g.meaning own.object

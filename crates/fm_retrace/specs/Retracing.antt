@@ -2,6 +2,7 @@
 -- they had come.
 use Rattle.std.specs.Prelude.{◌≡◌, ℕ, ◌+◌, ◌-◌, ◌<◌, ◌≤◌, max, List, [], ◌∷◌, length, map, take}
 use Rattle.std.specs.Prelude.{drop, slice_get, Some, None}
+use Rattle.std.specs.List.{AllByRecursion}
 use Rattle.std.specs.declared.option.Option.{Option}
 use Rattle.fm_core.specs.Book.{Book, ModuleState, IsLawful, floored, state_at}
 use Rattle.fm_core.specs.Folds.{words_along}
@@ -70,6 +71,10 @@ RetraceTo g k records modules None = SayRecords k records × HaveRetraced g k re
 RetraceTo g k records modules (Some at) =
     (at < length records) × SayRecords k (take at records)
     × (SayRecords k (take (at + 1) records) → ⊥)
+
+-- no module has spoken past this number
+abbrev pub AreWithin : {M : Type 0} → ℕ → List (Retraced M) → Type 0
+AreWithin end modules = AllByRecursion (λ own. own.past ≤ end) modules
 
 -- how far each module has come
 abbrev pub cursors_of : {M : Type 0} → ℕ → List (Retraced M) → List ℕ

@@ -7,7 +7,7 @@ ghost use Rattle.fm_entry.specs.Entries.{IsSpelled};
 ghost use Rattle.fm_entry.specs.Words.{IsSpelledSpoken};
 ghost use Rattle.fm_entry.specs.declared.spoken.Spoken.{Spoken};
 ghost use Rattle.fm_retrace.specs.Retracing.{SayRecords, IsBookOf, HaveRetraced, RetraceTo};
-ghost use Rattle.fm_retrace.specs.Retracing.{AreNumbered, meanings_of};
+ghost use Rattle.fm_retrace.specs.Retracing.{AreNumbered, AreWithin, meanings_of};
 
 use crate::logged::LoggedSpoken;
 use crate::retraced::Retraced;
@@ -39,6 +39,8 @@ fn take_at<M: Module>(
         → SayRecords k (records ++ record.now ∷ []) → ⊥) }
     ensures kept { meanings_of M.Module modules.new.items
         ≡ meanings_of M.Module modules.old.items }
+    ensures within { AreWithin (base + length entries.now) modules.old.items
+        → AreWithin (base + length entries.now) modules.new.items }
 {
     let at = record.module as usize;
     if at >= modules.len() {
@@ -66,6 +68,8 @@ pub fn retrace<M: Module>(
         → RetraceTo M.Module k records.now modules.new.items stop) }
     ensures kept { meanings_of M.Module modules.new.items
         ≡ meanings_of M.Module modules.old.items }
+    ensures within { AreWithin (base + length entries.now) modules.old.items
+        → AreWithin (base + length entries.now) modules.new.items }
 {
     let mut place = 0;
     'records: for record in records {

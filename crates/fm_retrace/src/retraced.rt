@@ -46,6 +46,8 @@ impl<M: Module> Retraced<M> {
             (max base self.old.past) (entries_between base (max base self.old.past)
             (max base (record.now.number + 1)) entries.now)) }
         ensures kept { M.meaning self.new.object ≡ M.meaning self.old.object }
+        ensures within { self.old.past ≤ base + length entries.now
+            → self.new.past ≤ base + length entries.now }
     {
         if record.number < self.past {
             return Ok(false);

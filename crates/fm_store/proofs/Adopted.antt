@@ -1,13 +1,13 @@
 -- What an adopting hands back, in terms of the open store that it began with.
-use Rattle.std.proofs.Common.{◌≡◌, ℕ, List, [], length, map, Bool, true, false, None, refl}
-use Rattle.std.proofs.Common.{sym, ◌∙◌, ap, subst, Some, max}
+use Rattle.std.proofs.Common.{◌≡◌, ℕ, ◌+◌, ◌≤◌, List, [], length, map, Bool, true, false, None, refl}
+use Rattle.std.proofs.Common.{sym, ◌∙◌, ap, subst, arith, slice_get, Some, max}
 use Rattle.std.specs.Prelude.{if◌then◌else◌}
 use Rattle.std.proofs.lemmas.List.{length-map}
 use Rattle.fm_core.specs.Book.{Book, ModuleState}
 use Rattle.fm_core.specs.Hands.{HandOf}
 use Rattle.fm_core.specs.Meaning.{Meaning}
 use Rattle.fm_core.specs.declared.module.Module.{Ghosts as ModuleGhosts}
-use Rattle.fm_core.proofs.Lists.{map_get, map_got}
+use Rattle.fm_core.proofs.Lists.{all_map, map_get, map_got}
 use Rattle.fm_entry.specs.declared.entry.Entry.{Entry}
 use Rattle.fm_init.specs.Making.{AreFirstModules}
 use Rattle.fm_init.specs.declared.refused.StoreRefused.{StoreRefused}
@@ -22,9 +22,11 @@ use Rattle.fm_logs.specs.declared.fault.StoreFault.TheVariants.{NoMemory}
 use Rattle.fm_outer.specs.Moments.{OnlyRead}
 use Rattle.fm_outer.specs.declared.disk.Disk.{Ghosts}
 use Rattle.fm_outer.proofs.Moments.{OnlyNow, read-none}
-use Rattle.fm_retrace.specs.Retracing.{AreNumbered, cursors_of, hands_from, meanings_of}
+use Rattle.fm_retrace.specs.Retracing.{AreNumbered, AreWithin, cursors_of, hands_from}
+use Rattle.fm_retrace.specs.Retracing.{meanings_of}
+use Rattle.fm_retrace.proofs.Come.{all_at}
 use Rattle.fm_retrace.specs.declared.retraced.Retraced.{Retraced}
-use Rattle.fm_store.specs.Adopting.{Adopts, AdoptRefused, IsAdopted, KnowAll}
+use Rattle.fm_store.specs.Adopting.{Adopts, AdoptRefused, IsAdopted, IsHandOf, KnowAll}
 use Rattle.fm_store.specs.Beside.{beside_of}
 use Rattle.fm_store.specs.FaultLog.{BeginsAt, FaultsDamage, RecordsKept}
 use Rattle.fm_store.specs.Loading.{AreAtBase, AreSilent, BaseRefused, states_of}
@@ -38,7 +40,7 @@ use Rattle.fm_store.specs.declared.adopting.Beside.{Beside}
 use Rattle.fm_store.specs.declared.look.LookFault.{LookFault}
 use Rattle.fm_store.proofs.Adopts.{adopts, base_refused, begins, log_refused}
 use Rattle.fm_store.proofs.Loads.{loaded_back, loaded_length}
-use Rattle.fm_store.proofs.Retold.{hands_cursors, hands_length}
+use Rattle.fm_store.proofs.Retold.{hands_at, hands_cursors, hands_length}
 
 -- each object has the number of its place
 pub loaded_numbers : {M : Type 0} (m : ModuleGhosts M) (fresh : List ModuleState)
@@ -223,12 +225,48 @@ module _ {D M : Type 0} (o : OpenedOf D) (b : Beside D) (is : b ≡ beside_of o)
       each SlotB = read-none g only_now o.slot_b
       each Flt = still
 
+  -- each hand is that of its module
+  hand_of : (m : ModuleGhosts M) (modules later : List (Retraced M))
+      → AreLoaded (made_modules m kept) saves (states_of m modules)
+      → AreFirstModules (made_modules m kept) → meanings_of m later ≡ meanings_of m modules
+      → AreWithin (b.base + length entries) later → cursors ≡ cursors_of b.base later → (i : ℕ)
+      (h : HandOf M) → slice_get (hands_from b.base 0 later) i ≡ Some h
+      → IsHandOf m (store_over (beside_of o) flt o.entries cursors kept saves).logs i h
+  hand_of m modules later loaded first same within cursors_are i h there =
+      let found = hands_at b.base 0 later i h there in
+      let own : Retraced M = found.0 in
+      let numbered : AreNumbered (meanings_of m later) =
+      subst AreNumbered (sym same)
+      (loaded_numbers m (made_modules m kept) saves modules loaded first) in
+      let base : b.base ≡ o.checkpoint.base = ap (λ (x : Beside D). x.base) is in
+      let low : own.past ≤ b.base + length entries =
+      all_at (λ (x : Retraced M). x.past ≤ b.base + length entries) later i own within found.1 in
+      let at : h.cursor ≡ max b.base own.past = ap (λ (x : HandOf M). x.cursor) found.2 in
+      record {
+        number_is = omega (arith, ap (λ (x : HandOf M). x.number) found.2);
+        own_is = ap (λ (x : HandOf M). (m.meaning x.object).own) found.2
+            ∙ numbered i (m.meaning own.object)
+            (map_get (λ (x : Retraced M). m.meaning x.object) later i own found.1);
+        cursor_is = ap (λ (l : List ℕ). slice_get l i) cursors_are
+            ∙ map_get (λ (x : Retraced M). max b.base x.past) later i own found.1
+            ∙ ap Some (sym at);
+        from_base = omega (arith, at, base);
+        to_end =
+            omega (arith, at, base, low, ap (λ (l : List Entry). length l) entries_are);
+      }
+
   pub is_adopted : (m : ModuleGhosts M) (modules later : List (Retraced M))
       (hands : List (HandOf M)) → AreLoaded (made_modules m kept) saves (states_of m modules)
+      → AreFirstModules (made_modules m kept) → AreSilent modules
+      → (AreWithin (b.base + length entries) modules → AreWithin (b.base + length entries) later)
       → meanings_of m later ≡ meanings_of m modules → cursors ≡ cursors_of b.base later
-      → hands ≡ hands_from b.base 0 later → IsAdopted o kept store hands
-  is_adopted m modules later hands loaded same cursors_are hands_are =
-      subst (λ (s : StoreOf D M). IsAdopted o kept s hands) (sym whole_store) (record {
+      → hands ≡ hands_from b.base 0 later → IsAdopted m o kept store hands
+  is_adopted m modules later hands loaded first silent within same cursors_are hands_are =
+      let start : AreWithin (b.base + length entries) modules =
+      all_map (λ (x : Retraced M). x.past ≡ 0)
+      (λ (x : Retraced M). x.past ≤ b.base + length entries) modules
+      (λ x none. omega (arith, none)) silent in
+      subst (λ (s : StoreOf D M). IsAdopted m o kept s hands) (sym whole_store) (record {
         is_open = refl;
         second_is = refl;
         base_is = refl;
@@ -243,6 +281,9 @@ module _ {D M : Type 0} (o : OpenedOf D) (b : Beside D) (is : b ≡ beside_of o)
         as_many =
             ap (λ (l : List (HandOf M)). length l) hands_are ∙ hands_length b.base 0 later
             ∙ same_many m modules later same ∙ loaded_objects m kept saves modules loaded;
+        each = λ i h there.
+            hand_of m modules later loaded first same (within start) cursors_are i h
+            (ap (λ (l : List (HandOf M)). slice_get l i) (sym hands_are) ∙ there);
       })
 
   -- the store stands for the book that was read

@@ -1,7 +1,6 @@
 -- Modules at the base, and hands that have come to their floors.
 use Rattle.std.proofs.Common.{◌≡◌, ℕ, zero, suc, ◌+◌, ◌-◌, max, List, [], ◌∷◌, length, map, take}
 use Rattle.std.proofs.Common.{get_or, Some, refl, sym, ◌∙◌, ap, subst, arith, slice_get}
-use Rattle.std.specs.List.{AllByRecursion}
 use Rattle.std.proofs.lemmas.List.{length-map}
 use Rattle.std.proofs.lemmas.Option.{same_Some, slice_get_within, slice_get-get_or}
 use Rattle.fm_core.specs.Book.{Book, ModuleState, IsPlaced, floored, floor_of}
@@ -15,16 +14,11 @@ use Rattle.fm_entry.specs.declared.spoken.Spoken.{Spoken}
 use Rattle.fm_retrace.specs.Retracing.{HaveRetraced, SayRecords, cursors_of}
 use Rattle.fm_retrace.specs.Retracing.{hands_from}
 use Rattle.fm_retrace.specs.declared.retraced.Retraced.{Retraced}
+use Rattle.fm_retrace.proofs.Come.{all_at}
 use Rattle.fm_retrace.proofs.Next.{past_from}
 use Rattle.fm_store.specs.Adopting.{HandsFollow}
 use Rattle.fm_store.specs.FaultLog.{BeginsAt}
 use Rattle.fm_store.specs.Loading.{AreSilent, states_of}
-
-all_at : {A : Type 0} (P : A → Type 0) (xs : List A) (i : ℕ) (x : A) → AllByRecursion P xs
-    → slice_get xs i ≡ Some x → P x
-all_at P [] i x all there = absurd (let no : ⊥ = cc in no)
-all_at P (y ∷ xs) zero x all there = subst P (same_Some y x there) all.0
-all_at P (y ∷ xs) (suc i) x all there = all_at P xs i x all.1 there
 
 -- each module bears the number of its place
 abbrev pub BearNumbers : List ModuleState → Type 0
@@ -85,7 +79,7 @@ pub hands_length : {M : Type 0} (base n : ℕ) (modules : List (Retraced M))
 hands_length base n [] = refl
 hands_length base n (own ∷ modules) = ap suc (hands_length base (n + 1) modules)
 
-hands_at : {M : Type 0} (base n : ℕ) (modules : List (Retraced M)) (i : ℕ) (h : HandOf M)
+pub hands_at : {M : Type 0} (base n : ℕ) (modules : List (Retraced M)) (i : ℕ) (h : HandOf M)
     → slice_get (hands_from base n modules) i ≡ Some h → (own : Retraced M)
     × (slice_get modules i ≡ Some own)
     × (h ≡ record { number = n + i; cursor = max base own.past; object = own.object })

@@ -201,7 +201,7 @@ impl<D: Disk> Opened<D> {
             → AreTold D.Disk (disks_of self) c → Adopts D.Disk M.Module c
             (made_modules M.Module kept.items) store hands.items) }
         ensures is { IfOk result
-            (λ (store, hands). IsAdopted self kept.items store hands.items) }
+            (λ (store, hands). IsAdopted M.Module self kept.items store hands.items) }
         ensures read { IfOk result (λ (store, _). (name : DiskName) → OnlyRead D.Disk
             (disk_named name (disks_of self)) (store_disk name store)) }
         ensures refused { IfErr result (λ refused. AdoptRefused D.Disk

@@ -9,7 +9,7 @@ ghost use Rattle.fm_journal.specs.Damage.{IsDamagedAt};
 ghost use Rattle.fm_journal.specs.Format.{end_of};
 ghost use Rattle.fm_journal.specs.Keeps.{Keeps};
 ghost use Rattle.fm_logs.specs.ReadsAsBook.{SpellsSpoken};
-ghost use Rattle.fm_retrace.specs.Retracing.{AreNumbered, meanings_of};
+ghost use Rattle.fm_retrace.specs.Retracing.{AreNumbered, AreWithin, meanings_of};
 ghost use Rattle.fm_store.specs.FaultLog.{LogKept, BeginsAt, RecordsKept, FaultsDamage, read_disk};
 ghost use Rattle.fm_store.specs.FaultLog.{records_disk};
 ghost use Rattle.fm_store.specs.Looks.{LookCause};
@@ -108,6 +108,9 @@ pub(crate) fn open_records<D: Disk, M: Module>(
     ensures is_open { IfOk result (λ read. read.journal.closed ≡ None) }
     ensures kept { IfOk result (λ read. meanings_of M.Module read.modules.items
         ≡ meanings_of M.Module modules.items) }
+    ensures within { IfOk result
+        (λ read. AreWithin (base + length entries.now) modules.items
+        → AreWithin (base + length entries.now) read.modules.items) }
     ensures still { OnlyRead D.Disk disk (records_disk result) }
     ensures cause { IfErr result (λ refused. LookCause D.Disk
         (FaultsDamage M.Module base entries.now modules.items) disk refused.disk refused.fault) }

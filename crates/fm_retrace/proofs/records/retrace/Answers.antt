@@ -19,6 +19,7 @@ pub records-preserved : goal.records-preserved
 records-preserved g c = record {
   place_is = omega (arith, c.records.invariant.place_is);
   kept = c.take_at.ensures.kept ∙ c.records.invariant.kept;
+  within = λ all. c.take_at.ensures.within (c.records.invariant.within all);
   so_far = λ k has start begun.
       let so_far = c.records.invariant.so_far k has start begun in
       go_on g.M.Module k c.args.records.now c.records.record-index c.take_at.new.modules.items

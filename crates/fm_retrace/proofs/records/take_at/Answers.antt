@@ -1,6 +1,7 @@
 -- The module of the record says it next, or it does not.
-use Rattle.std.proofs.Common.{arith, refl}
+use Rattle.std.proofs.Common.{◌+◌, arith, length, refl}
 use Rattle.fm_retrace.proofs.Come.{own_number, meanings_kept, take_yes, take_no, take_none}
+use Rattle.fm_retrace.proofs.Come.{within_set}
 use Rattle.fm_retrace.proofs.records.take_at.Goals as goal
 
 pub returns-then-at-len-clause-no : goal.returns-then-at-len-clause-no
@@ -38,3 +39,11 @@ returns-clause-no g c =
     (omega (arith, c.if-at-len.false, c.len.ensures, c.args.modules.now.ok.0))
     c.index_mut-own.ensures.value c.args.base c.args.entries.now c.args.record.now refl
     c.take.new.self c.take.result c.take.ensures.no
+
+pub returns-clause-within : goal.returns-clause-within
+returns-clause-within g c =
+    within_set g.M.Module c.args.modules.now.items c.args.record.now.module
+    c.index_mut-own.result.now
+    (omega (arith, c.if-at-len.false, c.len.ensures, c.args.modules.now.ok.0))
+    c.index_mut-own.ensures.value (c.args.base + length c.args.entries.now) c.take.new.self
+    c.take.ensures.within

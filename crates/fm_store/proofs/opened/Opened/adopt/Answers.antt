@@ -1,11 +1,11 @@
 -- The store with its modules, or the disks and what was damaged.
-use Rattle.std.proofs.Common.{◌≡◌, List, ℕ, Some, All, sym, ap, subst, arith, length}
+use Rattle.std.proofs.Common.{◌≡◌, ◌+◌, List, ℕ, Some, All, sym, ap, subst, arith, length}
 use Rattle.fm_core.specs.Book.{Book}
 use Rattle.fm_entry.specs.Entries.{IsSpelled}
 use Rattle.fm_entry.specs.declared.entry.Entry.{Entry}
 use Rattle.fm_logs.specs.ReadsAsBook.{AreLoaded}
 use Rattle.fm_outer.specs.Moments.{OnlyRead}
-use Rattle.fm_retrace.specs.Retracing.{AreNumbered}
+use Rattle.fm_retrace.specs.Retracing.{AreNumbered, AreWithin}
 use Rattle.fm_store.specs.FaultLog.{BeginsAt, FaultsDamage, RecordsKept}
 use Rattle.fm_store.specs.Loading.{AreAtBase, BaseRefused, states_of}
 use Rattle.fm_store.specs.Looks.{LookCause}
@@ -132,7 +132,11 @@ returns-in-Ok-hands_of-clause-is g c =
     c.in-Ok-open_records.read.modules.items c.in-Ok-hands_of.hands.items
     (subst (λ l. AreLoaded (made_modules g.M.Module l) c.in-Ok.found.saves
     (states_of g.M.Module c.in-Ok.found.modules.items)) c.deref.ensures.value
-    c.in-Ok.ensures.loaded)
+    c.in-Ok.ensures.loaded) c.requires.made c.in-Ok.ensures.silent
+    (subst (λ (l : List Entry). AreWithin (apart.beside.base + length l)
+    c.in-Ok.found.modules.items → AreWithin (apart.beside.base + length l)
+    c.in-Ok-open_records.read.modules.items) c.deref-2.ensures.value
+    c.in-Ok-open_records.ensures.within)
     c.in-Ok-open_records.ensures.kept c.in-Ok-hands_of.ensures.cursors
     c.in-Ok-hands_of.ensures.hands
 
