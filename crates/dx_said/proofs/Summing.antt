@@ -1,7 +1,7 @@
 -- Sums of rates and of shares.
-use Rattle.std.proofs.Common.{◌≡◌, ℕ, zero, suc, ◌+◌, ◌-◌, ◌*◌, ◌<◌, ◌≤◌, List, [], ◌∷◌, length}
+use Rattle.std.proofs.Common.{◌≡◌, ℕ, suc, ◌+◌, ◌-◌, ◌<◌, ◌≤◌, List, [], ◌∷◌, length}
 use Rattle.std.proofs.Common.{drop}
-use Rattle.std.proofs.Common.{get_or, refl, sym, ap, ◌∙◌, arith, sum, drop-cons, add-one}
+use Rattle.std.proofs.Common.{get_or, sym, ap, ◌∙◌, arith, sum, drop-cons, add-one}
 use Rattle.std.proofs.lemmas.List.Sums.{sum_by-cons}
 use Rattle.std.proofs.Common.{map}
 use Rattle.dx_step.specs.Certainty.{share, shares, with_rest, certainties}

@@ -10,6 +10,7 @@
 #![tactic(auto)]
 
 mod certainty;
+mod marked;
 mod marking;
 mod naming;
 mod places;
@@ -17,9 +18,10 @@ mod suspecting;
 
 pub use certainty::certainties;
 pub use fm_bytes::NoMemory;
+pub use marked::{AfterMarks, mark_words, marks_any};
 pub use marking::{AtPath, Choice, OfCase, UnderPath, mark_word};
 pub use naming::names;
-pub use places::put_word;
+pub use places::{put_word, put_words};
 pub use suspecting::{suspects, upsets};
 
 #[cfg(test)]

@@ -93,7 +93,7 @@ pub fn mark_word<C: Choice>(
 }
 
 /// Whether some suspect of the word gets the mark.
-fn is_marked<C: Choice>(choice: &C, word: &ListEvent) -> bool
+pub(crate) fn is_marked<C: Choice>(choice: &C, word: &ListEvent) -> bool
     ensures { result ≡ is_marked_by (C.chosen choice.now) word.now }
 {
     word.suspects
@@ -166,7 +166,7 @@ fn mark_if(marked: bool, mark: Mark, before: Mark) -> Mark
 }
 
 /// Whether some suspect is present.
-fn has_present(suspects: &[Suspect]) -> bool
+pub(crate) fn has_present(suspects: &[Suspect]) -> bool
     ensures { result ≡ has_present suspects.now }
 {
     suspects.iter().any(|suspect| is_present(suspect.mark))

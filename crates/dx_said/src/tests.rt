@@ -2,7 +2,10 @@
 
 ghost use Rattle.std.specs.Prelude.{◌<◌, ◌^◌, length};
 
-use crate::{NoMemory, OfCase, certainties, mark_word, names, put_word, suspects, upsets};
+use crate::{
+    NoMemory, OfCase, certainties, mark_word, mark_words, marks_any, names, put_word, put_words,
+    suspects, upsets,
+};
 use ev_graph::Graph;
 use fm_bytes::Items;
 use fm_entry::{CaseName, ListEvent, ListKind, Mark};
@@ -69,5 +72,21 @@ fn words_are_put_and_marked(rt: HostRuntime) -> Result<(), Fail> {
     let choice = OfCase { case };
     let marked = mark_word(alloc, &choice, Mark::Repaired, 9, &words[0])?;
     assert!(rt; marked.is_none());
+    Ok(())
+}
+
+#[test]
+fn many_words_are_put_and_marked(rt: HostRuntime) -> Result<(), Fail> {
+    let alloc = rt.alloc();
+    let case = CaseName { module: 0, case: 5 };
+    let mut more = Vec::new(alloc);
+    more.push(word_of(alloc, case))?;
+    let mut words = Vec::new(alloc);
+    put_words(&mut words, Items::new(more))?;
+    assert!(rt; words.len() == 1);
+    let choice = OfCase { case };
+    assert!(rt; !marks_any(&choice, &words));
+    let marked = mark_words(alloc, &choice, Mark::Repaired, 9, &words)?;
+    assert!(rt; marked.left.len() == 1 && marked.said.len() == 0);
     Ok(())
 }

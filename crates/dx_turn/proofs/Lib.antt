@@ -10,3 +10,6 @@ pub mod Moving
 pub mod Gone
 pub mod Passing
 pub mod Tripping
+pub mod Names
+pub mod Marks
+pub mod Acts

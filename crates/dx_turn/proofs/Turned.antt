@@ -22,7 +22,8 @@ use Rattle.dx_step.specs.Turns.{Turn, say, note_all, solve, upset, give_up, deci
 use Rattle.dx_turn.specs.declared.ground.Ground.{Ground}
 use Rattle.dx_turn.specs.declared.told.Told.{Told}
 use Rattle.dx_turn.specs.Grounds.{IsGround, rules_on, own_of, state_on}
-use Rattle.dx_turn.specs.Turning.{with_words, made_or, turn_at, IsTold, HasTurned}
+use Rattle.dx_said.specs.Making.{with_words}
+use Rattle.dx_turn.specs.Turning.{made_or, turn_at, IsTold, HasTurned}
 
 -- one more word
 with_push : (more ws : List ListEvent) (w : ListEvent)

@@ -3,3 +3,4 @@ pub mod Turning
 pub mod Tracking
 pub mod Settling
 pub mod Joining
+pub mod Finding

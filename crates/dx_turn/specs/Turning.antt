@@ -7,16 +7,11 @@ use Rattle.fm_core.specs.Meaning.{OpenCase}
 use Rattle.ev_graph.specs.Kinds.{is_report_node}
 use Rattle.dx_serd.specs.Rates.{RateOf}
 use Rattle.dx_words.specs.Cases.{waits}
-use Rattle.dx_step.specs.Said.{with_last_word}
+use Rattle.dx_said.specs.Making.{with_words}
 use Rattle.dx_step.specs.Turns.{Turn, noted_at, decide}
 use Rattle.dx_turn.specs.declared.ground.Ground.{Ground}
 use Rattle.dx_turn.specs.declared.told.Told.{Told}
 use Rattle.dx_turn.specs.Grounds.{AreRates, rules_on}
-
--- last words of solved cases with some more
-abbrev pub with_words : List ListEvent → List ListEvent → List ListEvent
-with_words [] ws = ws
-with_words (w ∷ more) ws = with_words more (with_last_word w ws)
 
 -- a list that was made, or the one from before
 abbrev pub made_or : {A : Type 0} → Option (List A) → List A → List A

@@ -6,21 +6,26 @@
 //!
 //! **Promises.** [`settle_all`] decides each open case that waits for nothing any more at the time
 //! of the turn; [`join`] takes a report into the case that has it or waits for it, or into one that
-//! it opens; [`trips`] takes in what engines report that fired. No call changes a case as it was
-//! before the turn: what a turn makes of it stands beside it, and so want of memory in the midst of
-//! a turn leaves all that is needed to undo it. A case of which no window has ended and that no
-//! report joins costs one comparison.
+//! it opens; [`act`] does what an entry says, a report or a mark of suspects; [`trips`] takes in
+//! what engines report that fired. No call changes a case as it was before the turn: what a turn
+//! makes of it stands beside it, and so want of memory in the midst of a turn leaves all that is
+//! needed to undo it. A case of which no window has ended and that no report joins costs one
+//! comparison.
 #![tactic(auto)]
 
+mod acting;
 mod deciding;
+mod finding;
 mod ground;
 mod joining;
+mod marking;
 mod noting;
 mod settling;
 mod told;
 mod tracked;
 mod work;
 
+pub use acting::act;
 pub use ev_graph::NoMemory;
 pub use ground::Ground;
 pub use joining::{Incoming, join, trips};

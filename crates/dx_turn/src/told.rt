@@ -4,6 +4,7 @@ ghost use Rattle.std.specs.Prelude.{◌≡◌, ◌++◌, ◌∷◌, [], map, IfO
 ghost use Rattle.dx_words.specs.Cases.{broken_of};
 ghost use Rattle.dx_case.specs.Cases.{open_of};
 ghost use Rattle.dx_step.specs.Said.{word_on};
+ghost use Rattle.dx_step.specs.Reports.{unknown_word};
 ghost use Rattle.dx_turn.specs.Grounds.{own_of, state_on};
 
 use crate::ground::Ground;
@@ -13,6 +14,7 @@ use dx_serd::Engine;
 use ev_graph::{Link, NoMemory};
 use fm_bytes::{Copies, Items};
 use fm_entry::{Broken, CaseName, ListEvent, ListEvents, ListKind, Suspect};
+use fm_name::EventName;
 use std::alloc::Global;
 
 /// What a turn has said and solved so far.
@@ -111,5 +113,29 @@ pub(crate) fn word_on(
         observed: Items::new(observed),
         suspects: Items::new(suspects),
         broken: Items::new(broken),
+    })
+}
+
+/// The word on a case of this number, of an event that the graph does not have.
+pub(crate) fn unknown_word(
+    ground: &Ground<'_>,
+    number: u64,
+    name: EventName,
+) -> Result<ListEvent, NoMemory>
+    ensures { IfOk result (λ w. w ≡ unknown_word (own_of ground.now)
+        (record (state_on ground.now) { next = number }) name) }
+{
+    let observed = Vec::from_array(ground.alloc, [name])?;
+    Ok(ListEvent {
+        kind: ListKind::Undiagnosable,
+        case: CaseName {
+            module: ground.rules.own,
+            case: number,
+        },
+        moment: ground.time,
+        conf: ground.conf,
+        observed: Items::new(observed),
+        suspects: Items::new(Vec::new(ground.alloc)),
+        broken: Items::new(Vec::new(ground.alloc)),
     })
 }

@@ -1,4 +1,4 @@
-use Rattle.std.proofs.Common.{◌≤◌, sum, sym, ap, subst, arith, List}
+use Rattle.std.proofs.Common.{◌≤◌, sum, sym, ap, subst, arith}
 use Rattle.dx_said.proofs.Summing.{shares_low}
 use Rattle.dx_said.proofs.certainty.certainties.Goals as goal
 

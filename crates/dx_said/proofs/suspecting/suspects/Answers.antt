@@ -1,6 +1,5 @@
-use Rattle.std.proofs.Common.{◌≡◌, ◌∙◌, ap, subst, length, map, arith, sym, IsTrue, nat_le}
+use Rattle.std.proofs.Common.{◌∙◌, ap, subst, length, arith, sym, IsTrue, nat_le}
 use Rattle.std.specs.List.{list_all}
-use Rattle.dx_step.specs.Said.{nodes_of, failures_of}
 use Rattle.dx_step.proofs.Certain.{certain_low, certain_many}
 use Rattle.dx_said.proofs.Pushing.{rates_many}
 use Rattle.dx_said.proofs.suspecting.suspects.Goals as goal

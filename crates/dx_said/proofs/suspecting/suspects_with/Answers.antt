@@ -1,4 +1,4 @@
-use Rattle.std.proofs.Common.{arith, sym, ap, ◌∙◌}
+use Rattle.std.proofs.Common.{arith}
 use Rattle.dx_said.proofs.Pushing.{suspects_more}
 use Rattle.dx_said.proofs.suspecting.suspects_with.Goals as goal
 
