@@ -1,0 +1,61 @@
+//! Guarded links, and those that payloads break.
+
+use crate::inputs::{checked, topology};
+use ev_check::Checked;
+use ev_expr::Prop;
+use ev_inst::{Guards, instantiate, make_guards};
+use ev_tree::TreeText;
+use fm_topo::{Topo, TopoValue};
+use std::alloc::Global;
+use std::process::Abort;
+use std::test::Fail;
+
+/// A chassis with three processors. In event order the chassis is first.
+const PARTS: &str = "hc:///chassis=0\nhc:///chassis=0/cpu=0\nhc:///chassis=0/cpu=1\n\
+hc:///chassis=0/cpu=2\n";
+
+/// The nodes at a processor are in order ue, wd, cache, core. Three instances lead from a core, then
+/// three from a cache to ue; the link of instance 4 leads to node 4.
+const BOUND: &str = "event fault.cpu.cache@chassis/cpu; event fault.cpu.core@chassis/cpu;\
+event ereport.cpu.ue@chassis/cpu; event ereport.cpu.wd@chassis/cpu;\
+prop fault.cpu.core@chassis/cpu -> ereport.cpu.ue@chassis/cpu;\
+prop fault.cpu.cache@chassis/cpu -> \
+ereport.cpu.ue@chassis/cpu{payloadprop(\"bank\") == cpu + 2};\
+prop fault.cpu.cache@chassis/cpu (0)-> ereport.cpu.wd@chassis/cpu;";
+
+fn guards_of(alloc: Global, checked: &Checked, topo: Topo) -> Result<Guards, Fail> {
+    let Ok(made) = instantiate(alloc, checked, &topo) else {
+        return Err(Fail::new("no graph"));
+    };
+    match make_guards(alloc, checked, topo, &made.graph) {
+        Ok(guards) => Ok(guards),
+        Err(_) => Err(Fail::new("memory")),
+    }
+}
+
+/// How many links to node 4 a payload with this bank breaks.
+fn count_broken(alloc: Global, guards: &Guards, bank: u64) -> Result<usize, Fail> {
+    let Ok(name) = TreeText::new(alloc, "bank") else {
+        return Err(Fail::new("memory"));
+    };
+    let value = TopoValue::Number(bank);
+    let props = [Prop { name, value }];
+    match guards.broken_by(alloc, 4, &props) {
+        Ok(numbers) => Ok(numbers.len()),
+        Err(_) => Err(Fail::new("memory")),
+    }
+}
+
+#[test]
+fn a_payload_breaks_a_guarded_link(rt: HostRuntime) -> Result<(), Fail> {
+    let topo = topology(rt.alloc(), PARTS)?;
+    let checked = checked(rt.alloc(), BOUND)?;
+    let guards = guards_of(rt.alloc(), &checked, topo)?;
+    assert_eq!(rt; guards.is_guarded(4, 4), true);
+    assert_eq!(rt; guards.is_guarded(1, 4), false);
+    let kept = count_broken(rt.alloc(), &guards, 3)?;
+    assert_eq!(rt; kept, 0);
+    let broken = count_broken(rt.alloc(), &guards, 4)?;
+    assert_eq!(rt; broken, 1);
+    Ok(())
+}
