@@ -71,8 +71,10 @@ pub fn mark_words<C: Choice>(
     time: u64,
     words: &[ListEvent],
 ) -> Result<AfterMarks, NoMemory>
-    ensures left { IfOk result (λ m. m.left ≡ last_words time (C.chosen choice.now) mark words.now) }
-    ensures said { IfOk result (λ m. m.said ≡ mark_words time (C.chosen choice.now) mark words.now) }
+    ensures left { IfOk result
+        (λ m. m.left ≡ last_words time (C.chosen choice.now) mark words.now) }
+    ensures said { IfOk result
+        (λ m. m.said ≡ mark_words time (C.chosen choice.now) mark words.now) }
 {
     let mut marked = AfterMarks {
         left: Items::new(Vec::new(alloc)),

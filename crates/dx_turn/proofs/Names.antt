@@ -1,5 +1,6 @@
 -- Reports by their names, and how they act.
-use Rattle.std.proofs.Common.{◌≡◌, ℕ, zero, suc, ◌+◌, ◌<◌, Bool, true, false, not, ◌&&◌, ◌||◌, List, []}
+use Rattle.std.proofs.Common.{◌≡◌, ℕ, zero, suc, ◌+◌, ◌<◌, Bool}
+use Rattle.std.proofs.Common.{true, false, not, ◌&&◌, ◌||◌, List, []}
 use Rattle.std.proofs.Common.{◌∷◌, length, refl, sym, ap, ◌∙◌, arith, inl, inr, Option, Some}
 use Rattle.std.proofs.Common.{None, slice_get, cond, nat_lt, IsTrue, bytes_eq, if◌then◌else◌}
 use Rattle.std.specs.Prelude.{position}
@@ -62,7 +63,8 @@ one_passes p (y ∷ ys) zero x b e t u =
           ∙ (let n : 1 + position_or_len p ys ≡ suc (length ys) = omega (arith, rest) in n)
     ] here
 one_passes p (y ∷ ys) (suc at) x b e t u =
-    let rest = one_passes p ys at x b e t (λ i z f v. let l = u (suc i) z f v in omega (arith, l)) in
+    let rest = one_passes p ys at x b e t
+    (λ i z f v. let l = u (suc i) z f v in omega (arith, l)) in
     elim (p y) as (λ (c : Bool). p y ≡ c → cond (not c) (1 + position_or_len p ys) 0
     ≡ (if b then suc at else length (y ∷ ys))) [
       | true ↦ λ is. let l = u 0 y refl is in absurd (let never : ⊥ = omega (arith, l) in never)
