@@ -13,3 +13,5 @@ pub mod Tripping
 pub mod Names
 pub mod Marks
 pub mod Acts
+pub mod Reloads
+pub mod Ends

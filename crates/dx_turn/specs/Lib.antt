@@ -4,3 +4,5 @@ pub mod Tracking
 pub mod Settling
 pub mod Joining
 pub mod Finding
+pub mod Reloading
+pub mod Standing

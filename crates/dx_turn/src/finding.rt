@@ -9,7 +9,7 @@ use fm_name::{Class, EventName};
 
 /// Whether some report of the graph has the class. It looks at each node.
 #[tactic(auto, unfolding(dx_step::specs::Reports::declares))]
-pub(crate) fn declares(graph: &Graph, class: &Class) -> bool
+pub fn declares(graph: &Graph, class: &Class) -> bool
     ensures { result ≡ declares graph.now class.now }
 {
     graph

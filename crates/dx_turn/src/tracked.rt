@@ -1,10 +1,11 @@
 //! Open cases as a turn changes them.
 
-ghost use Rattle.std.specs.Prelude.{◌≡◌, ◌∷◌, ℕ, [], Some, None, true, false};
+ghost use Rattle.std.specs.Prelude.{◌≡◌, ◌∷◌, ℕ, [], Some, None, true, false, option_copied};
 ghost use Rattle.std.specs.List.{list_any};
 ghost use Rattle.ev_graph.specs.Lawful.{GraphValue};
 ghost use Rattle.dx_words.specs.Cases.{takes_report};
 ghost use Rattle.dx_turn.specs.Tracking.{now_of, opens_of, IsTrackedAt, HasOpen};
+ghost use Rattle.dx_turn.specs.Standing.{after_turn, before_turn, has_kept};
 
 use dx_case::Case;
 
@@ -30,6 +31,13 @@ impl Tracked {
             changed: None,
             decided: false,
         }
+    }
+
+    /// The case as it was before the turn; none where the turn opened it.
+    pub fn kept(&self) -> Option<&Case>
+        ensures { option_copied result ≡ self.now.kept }
+    {
+        self.kept.as_ref()
     }
 
     /// No case: one that the turn is about to open.
@@ -82,5 +90,48 @@ impl Tracked {
             (None, Some(case)) => case.fits(node),
             (None, None) => false,
         }
+    }
+
+    /// Whether it is open: whether there is a case, which the turn has not decided.
+    pub(crate) fn is_open(&self) -> bool
+        ensures open { result ≡ true → HasOpen self.now }
+        ensures none { result ≡ false → now_of self.now ≡ [] }
+    {
+        if self.decided {
+            return false;
+        }
+        match (&self.changed, &self.kept) {
+            (Some(_), _) => true,
+            (None, Some(_)) => true,
+            (None, None) => false,
+        }
+    }
+
+    /// The turn is over: the case is from now on as the turn has left it.
+    pub(crate) fn end_turn(&mut self)
+        ensures { self.new ≡ after_turn self.old }
+    {
+        if self.decided {
+            self.kept = None;
+            self.decided = false;
+        } else if let Some(case) = self.changed.take() {
+            self.kept = Some(case);
+        }
+        self.changed = None;
+    }
+
+    /// The turn is undone: the case is as it was before it.
+    pub(crate) fn undo_turn(&mut self)
+        ensures { self.new ≡ before_turn self.old }
+    {
+        self.changed = None;
+        self.decided = false;
+    }
+
+    /// Whether there was a case before the turn.
+    pub(crate) fn has_kept(&self) -> bool
+        ensures { result ≡ has_kept self.now }
+    {
+        self.kept.is_some()
     }
 }

@@ -1,0 +1,9 @@
+use Rattle.std.proofs.Common.{◌∙◌, ap}
+use Rattle.std.specs.List.{filter}
+use Rattle.dx_turn.specs.Standing.{has_kept}
+use Rattle.dx_turn.proofs.Ends.{left_cases}
+use Rattle.dx_turn.proofs.ending.end_turn.Goals as goal
+
+pub returns : goal.returns
+returns c =
+    c.drop_blank.ensures ∙ ap (filter has_kept) c.end_each.ensures ∙ left_cases c.args.cases.now.items
