@@ -70,7 +70,7 @@ mapped_long : (ms : List Made) → length (map sizes_of ms) ≡ length ms
 mapped_long [] = refl
 mapped_long (x ∷ ms) = ap suc (mapped_long ms)
 
-listing_push : (ms : List Made) (m : Made)
+pub listing_push : (ms : List Made) (m : Made)
     → listing (ms ++ m ∷ []) ≡ listing ms ++ listing_line (length ms) (sizes_of m)
 listing_push ms m =
     let same : 0 + length (map sizes_of ms) ≡ length ms =
@@ -79,7 +79,7 @@ listing_push ms m =
     ∙ lines_push 0 (map sizes_of ms) (sizes_of m)
     ∙ ap (λ (n : ℕ). listing ms ++ listing_line n (sizes_of m)) same
 
-files_push : (ms : List Made) (m : Made)
+pub files_push : (ms : List Made) (m : Made)
     → files_bytes (ms ++ m ∷ []) ≡ files_bytes ms ++ file_bytes m
 files_push [] m = append-nil (file_bytes m)
 files_push (x ∷ ms) m =

@@ -26,7 +26,8 @@ fn push_names(names: &[TreeText], line: &mut String) -> Result<(), NoMemory>
 
 /// Adds what a statement declares.
 fn push_declared(declared: &Declared, line: &mut String) -> Result<(), NoMemory>
-    ensures { OnOk result (string_bytes line.new ≡ string_bytes line.old ++ declared_text declared.now) }
+    ensures { OnOk result
+        (string_bytes line.new ≡ string_bytes line.old ++ declared_text declared.now) }
 {
     line.push_str(declared.class.text())?;
     line.push_str("@")?;
@@ -35,7 +36,8 @@ fn push_declared(declared: &Declared, line: &mut String) -> Result<(), NoMemory>
 
 /// Adds the members of a ring, a space before each.
 fn push_members(members: &[Declared], line: &mut String) -> Result<(), NoMemory>
-    ensures { OnOk result (string_bytes line.new ≡ string_bytes line.old ++ members_text members.now) }
+    ensures { OnOk result
+        (string_bytes line.new ≡ string_bytes line.old ++ members_text members.now) }
 {
     'members: for member in members {
         line.push_str(" ")?;

@@ -12,7 +12,8 @@ use std::alloc::Global;
 
 /// Adds what is wrong with a rule file.
 fn push_kind(kind: &RulesKind, line: &mut String) -> Result<(), NoMemory>
-    ensures { OnOk result (string_bytes line.new ≡ string_bytes line.old ++ rules_kind_text kind.now) }
+    ensures { OnOk result
+        (string_bytes line.new ≡ string_bytes line.old ++ rules_kind_text kind.now) }
 {
     let word = match kind {
         RulesKind::Length => "length",
