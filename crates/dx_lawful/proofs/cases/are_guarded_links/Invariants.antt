@@ -1,0 +1,10 @@
+-- Whether all are guarded links is whether the rest is.
+use Rattle.std.proofs.Common.{◌≡◌, drop}
+use Rattle.std.specs.List.{list_all}
+use Rattle.dx_lawful.specs.Trials.{is_guarded_link}
+use Rattle.dx_lawful.proofs.cases.are_guarded_links.Given as goal
+
+abbrev pub invariant-loop-link : goal.invariant-loop-link
+invariant-loop-link l =
+    list_all (is_guarded_link l.guarded.less.now l.observed) (drop l.link-index l.broken)
+    ≡ list_all (is_guarded_link l.guarded.less.now l.observed) l.broken
