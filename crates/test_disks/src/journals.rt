@@ -1,8 +1,10 @@
 // What no clause says: the bytes of the format, that calls succeed, and what a disk that fails or
 // stops leaves.
-use crate::made::{IMAGES, bytes_of, disk_of, many};
+ghost use Rattle.std.specs.Prelude.{◌<◌, ◌^◌};
+
+use crate::made::{IMAGES, bytes_of, crashed, disk_of, many};
 use fm_journal::{Frame, FrameFault, FullKind, Journal, JournalFault};
-use fm_outer::{Disk, MemDisk};
+use fm_outer::{Disk, Image, MemDisk};
 use std::alloc::Global;
 use std::test::Fail;
 
@@ -24,46 +26,84 @@ const THREE: [u8; 43] = *b"FMAJRNL1\0\0\0\0\0\0\0\0\x01\0\0\0\x09\x02\0\0\0\0\0\
 /// How many calls it takes to open the journal with two payloads: a sync, the length and one read.
 const OPENING: u64 = 3;
 
+/// The journal that is made on a disk.
+fn created(disk: MemDisk, first: u64) -> Result<Journal<MemDisk>, Fail>
+    requires { first < 2 ^ 46 }
+{
+    match Journal::create(disk, first) {
+        Ok(journal) => Ok(journal),
+        Err(_refused) => Err(Fail::new("not made")),
+    }
+}
+
+/// The journal on a disk.
+fn opened(disk: MemDisk) -> Result<Journal<MemDisk>, Fail> {
+    match Journal::open(disk) {
+        Ok(journal) => Ok(journal),
+        Err(_refused) => Err(Fail::new("not opened")),
+    }
+}
+
+/// The first number, how many payloads there are, and the place of the last gate.
+fn numbers_of(journal: &Journal<MemDisk>) -> (u64, u64, u64) {
+    (journal.first(), journal.count(), journal.end())
+}
+
+/// The disk of a journal to which a payload was added, and the answer to that.
+fn appended(
+    alloc: Global,
+    disk: MemDisk,
+    payload: &[u8],
+) -> Result<(MemDisk, Result<u64, JournalFault>), Fail> {
+    let frame = Frame::new(alloc, payload)?;
+    let mut journal = opened(disk)?;
+    let answer = journal.append(&frame);
+    Ok((journal.into_disk(), answer))
+}
+
 #[test]
-fn the_bytes_are_the_format(rt: HostRuntime) -> Result<(), Fail> {
+fn a_new_journal_is_the_format(rt: HostRuntime) -> Result<(), Fail> {
     let alloc = rt.alloc();
-    let journal = Journal::create(disk_of(alloc, b"left over", &[])?, 0)
-        .ok()
-        .ok_or("not made")?;
-    let mut disk = journal.into_disk();
-    assert_eq!(rt; disk.calls(), 4);
-    assert_eq!(rt; bytes_of(alloc, &mut disk)?.as_slice(), EMPTY.as_slice());
-    let mut journal = Journal::open(disk).ok().ok_or("not opened")?;
-    assert_eq!(rt;
-        (journal.first(), journal.count(), journal.end()),
-        (0, 0, 16)
-    );
-    assert_eq!(rt; journal.append(&Frame::new(alloc, &TICK)?), Ok(0));
-    assert_eq!(rt; journal.end(), 30);
-    assert_eq!(rt; journal.closed(), None);
-    let mut disk = journal.into_disk();
-    assert_eq!(rt; bytes_of(alloc, &mut disk)?.as_slice(), TICKED.as_slice());
-    let journal = Journal::open(disk).ok().ok_or("not opened")?;
-    assert_eq!(rt; (journal.first(), journal.count()), (0, 1));
+    let mut disk = created(disk_of(alloc, b"left over", &[])?, 0)?.into_disk();
+    assert!(rt; disk.calls() == 4);
+    assert!(rt; bytes_of(alloc, &mut disk)?.as_slice() == EMPTY.as_slice());
+    assert!(rt; numbers_of(&opened(disk)?) == (0, 0, 16));
     Ok(())
 }
+
+#[test]
+fn a_payload_is_the_format(rt: HostRuntime) -> Result<(), Fail> {
+    let alloc = rt.alloc();
+    let (mut disk, answer) = appended(alloc, disk_of(alloc, &EMPTY, &[])?, &TICK)?;
+    assert!(rt; answer == Ok(0));
+    assert!(rt; bytes_of(alloc, &mut disk)?.as_slice() == TICKED.as_slice());
+    assert!(rt; numbers_of(&opened(disk)?) == (0, 1, 30));
+    Ok(())
+}
+
+#[test]
+fn an_appended_payload_moves_the_end(rt: HostRuntime) -> Result<(), Fail> {
+    let alloc = rt.alloc();
+    let mut journal = opened(disk_of(alloc, &EMPTY, &[])?)?;
+    assert!(rt; journal.append(&Frame::new(alloc, &TICK)?).is_ok());
+    assert!(rt; numbers_of(&journal) == (0, 1, 30));
+    assert!(rt; journal.closed() == None);
+    Ok(())
+}
+
+/// The last number that a payload can have.
+const LAST: u64 = 70368744177663;
 
 #[test]
 fn numbers_run_out(rt: HostRuntime) -> Result<(), Fail> {
     let alloc = rt.alloc();
     let frame = Frame::new(alloc, b"x")?;
-    let mut journal = Journal::create(disk_of(alloc, b"", &[])?, 70368744177663)
-        .ok()
-        .ok_or("not made")?;
-    assert_eq!(rt; journal.append(&frame), Ok(70368744177663));
-    assert_eq!(rt;
-        journal.append(&frame),
-        Err(JournalFault::Full(FullKind::Numbers))
-    );
-    assert_eq!(rt;
-        (journal.first(), journal.count(), journal.closed()),
-        (70368744177663, 1, None)
-    );
+    let mut journal = created(disk_of(alloc, b"", &[])?, LAST)?;
+    let full = JournalFault::Full(FullKind::Numbers);
+    assert!(rt; journal.append(&frame) == Ok(LAST));
+    assert!(rt; journal.append(&frame) == Err(full));
+    assert!(rt; (journal.first(), journal.count()) == (LAST, 1));
+    assert!(rt; journal.closed() == None);
     Ok(())
 }
 
@@ -98,139 +138,184 @@ fn front(bytes: &[u8], length: usize) -> &[u8] {
     }
 }
 
-#[test]
-fn damage_has_its_place(rt: HostRuntime) -> Result<(), Fail> {
-    let alloc = rt.alloc();
-    // The length that is left, a byte that is changed and its new value, and what an opening
-    // answers.
-    let cases: [(usize, usize, u8, Result<u64, u64>); 16] = [
-        (37, 0, b'F', Ok(2)),
-        (10, 0, b'F', Err(0)),
-        (16, 0, b'F', Err(0)),
-        (17, 16, 0, Ok(0)),
-        (17, 16, 1, Err(16)),
-        (37, 0, b'f', Err(0)),
-        (37, 7, b'2', Err(0)),
-        (37, 10, 63, Ok(2)),
-        (37, 10, 64, Err(0)),
-        (37, 17, 255, Err(16)),
-        (37, 31, 255, Err(30)),
-        (36, 0, b'F', Err(30)),
-        (30, 0, b'F', Err(16)),
-        (37, 30, 2, Ok(1)),
-        (37, 36, 255, Ok(2)),
-        (37, 36, 1, Err(36)),
-    ];
-    for (length, at, byte, want) in cases {
-        let mut bytes = TWO;
-        bytes[at % 37] = byte;
-        let disk = disk_of(alloc, front(&bytes, length), &[])?;
-        let want = want.map_err(|place| JournalFault::Damaged { place });
-        assert_eq!(rt;
-            count_on(disk).1,
-            want,
-            "{length} bytes with {byte} at {at}"
-        );
+/// How many payloads there are in so many bytes of `TWO`, where one of them is this one; or the
+/// place of the damage.
+fn damaged(alloc: Global, length: usize, at: usize, byte: u8) -> Result<Result<u64, u64>, Fail> {
+    let mut bytes = TWO;
+    bytes[at % 37] = byte;
+    match count_on(disk_of(alloc, front(&bytes, length), &[])?).1 {
+        Ok(count) => Ok(Ok(count)),
+        Err(JournalFault::Damaged { place }) => Ok(Err(place)),
+        Err(_other) => Err(Fail::new("no damage")),
     }
+}
+
+#[test]
+fn a_damaged_header_has_its_place(rt: HostRuntime) -> Result<(), Fail> {
+    let alloc = rt.alloc();
+    assert!(rt; damaged(alloc, 37, 0, b'F')? == Ok(2));
+    assert!(rt; damaged(alloc, 10, 0, b'F')? == Err(0));
+    assert!(rt; damaged(alloc, 16, 0, b'F')? == Err(0));
+    assert!(rt; damaged(alloc, 37, 0, b'f')? == Err(0));
+    assert!(rt; damaged(alloc, 37, 7, b'2')? == Err(0));
+    assert!(rt; damaged(alloc, 37, 10, 63)? == Ok(2));
+    assert!(rt; damaged(alloc, 37, 10, 64)? == Err(0));
     Ok(())
+}
+
+#[test]
+fn a_damaged_payload_has_its_place(rt: HostRuntime) -> Result<(), Fail> {
+    let alloc = rt.alloc();
+    assert!(rt; damaged(alloc, 17, 16, 0)? == Ok(0));
+    assert!(rt; damaged(alloc, 17, 16, 1)? == Err(16));
+    assert!(rt; damaged(alloc, 37, 17, 255)? == Err(16));
+    assert!(rt; damaged(alloc, 37, 31, 255)? == Err(30));
+    assert!(rt; damaged(alloc, 36, 0, b'F')? == Err(30));
+    assert!(rt; damaged(alloc, 30, 0, b'F')? == Err(16));
+    assert!(rt; damaged(alloc, 37, 30, 2)? == Ok(1));
+    assert!(rt; damaged(alloc, 37, 36, 255)? == Ok(2));
+    assert!(rt; damaged(alloc, 37, 36, 1)? == Err(36));
+    Ok(())
+}
+
+/// Whether a disk of which this call fails refuses to be made a journal, and is told of it.
+fn fails_making(alloc: Global, call: u64) -> Result<bool, Fail> {
+    match Journal::create(disk_of(alloc, &TWO, &[call])?, 0) {
+        Ok(_journal) => Ok(false),
+        Err(refused) => {
+            let is_disk = refused.fault == JournalFault::Disk;
+            let disk = refused.into_disk();
+            Ok(is_disk && disk.calls() == call.saturating_add(1) && disk.faults() == 1)
+        }
+    }
+}
+
+/// Whether a disk of which this call fails can't be opened, and is told of it.
+fn fails_opening(alloc: Global, call: u64) -> Result<bool, Fail> {
+    let (disk, count) = count_on(disk_of(alloc, &TWO, &[call])?);
+    let is_told = count == Err(JournalFault::Disk);
+    Ok(is_told && disk.calls() == call.saturating_add(1) && disk.faults() == 1)
 }
 
 #[test]
 fn each_failing_call_is_told(rt: HostRuntime) -> Result<(), Fail> {
-    let alloc = rt.alloc();
     for call in 0..4 {
-        let refused = Journal::create(disk_of(alloc, &TWO, &[call])?, 0)
-            .err()
-            .ok_or("made")?;
-        assert_eq!(rt; refused.fault, JournalFault::Disk);
-        let disk = refused.into_disk();
-        assert_eq!(rt; (disk.calls(), disk.faults()), (call + 1, 1));
+        assert!(rt; fails_making(rt.alloc(), call)?, "call {call}");
     }
     for call in 0..OPENING {
-        let (disk, count) = count_on(disk_of(alloc, &TWO, &[call])?);
-        assert_eq!(rt; count, Err(JournalFault::Disk));
-        assert_eq!(rt; (disk.calls(), disk.faults()), (call + 1, 1));
-    }
-    let frame = Frame::new(alloc, b"z")?;
-    for (call, left) in [(3, 2), (4, 2), (5, 2), (6, 3)] {
-        let mut journal = Journal::open(disk_of(alloc, &TWO, &[call])?)
-            .ok()
-            .ok_or("not opened")?;
-        assert_eq!(rt; journal.append(&frame), Err(JournalFault::Disk));
-        assert_eq!(rt;
-            journal.append(&frame),
-            Err(JournalFault::Closed { faults: 1 })
-        );
-        assert_eq!(rt; (journal.closed(), journal.count()), (Some(1), 2));
-        let disk = journal.into_disk();
-        assert_eq!(rt; disk.calls(), call + 1);
-        assert_eq!(rt; count_on(disk).1, Ok(left), "call {call}");
+        assert!(rt; fails_opening(rt.alloc(), call)?, "call {call}");
     }
     Ok(())
 }
 
+/// What is left of a journal on a disk of which a call of an appending fails: its disk, where the
+/// faults are told, the journal is then closed, and the disk is not called again.
+fn closed_by(alloc: Global, call: u64) -> Result<MemDisk, Fail> {
+    let frame = Frame::new(alloc, b"z")?;
+    let mut journal = opened(disk_of(alloc, &TWO, &[call])?)?;
+    let is_told = journal.append(&frame) == Err(JournalFault::Disk);
+    let is_closed = journal.append(&frame) == Err(JournalFault::Closed { faults: 1 });
+    let is_kept = journal.closed() == Some(1) && journal.count() == 2;
+    let disk = journal.into_disk();
+    if is_told && is_closed && is_kept && disk.calls() == call.saturating_add(1) {
+        Ok(disk)
+    } else {
+        Err(Fail::new("not closed"))
+    }
+}
+
+/// How many payloads it is then found to have.
+fn left_by(alloc: Global, call: u64) -> Result<Result<u64, JournalFault>, Fail> {
+    Ok(count_on(closed_by(alloc, call)?).1)
+}
+
+#[test]
+fn a_failing_append_closes_the_journal(rt: HostRuntime) -> Result<(), Fail> {
+    let alloc = rt.alloc();
+    assert!(rt; left_by(alloc, 3)? == Ok(2));
+    assert!(rt; left_by(alloc, 4)? == Ok(2));
+    assert!(rt; left_by(alloc, 5)? == Ok(2));
+    assert!(rt; left_by(alloc, 6)? == Ok(3));
+    Ok(())
+}
+
+/// How many payloads a disk is found to have at a second opening, and its bytes; none where the
+/// first one found something else.
+fn twice_opened(
+    alloc: Global,
+    disk: MemDisk,
+) -> Result<(Result<u64, JournalFault>, Vec<u8>), Fail> {
+    let (disk, first) = count_on(disk);
+    let (mut disk, second) = count_on(disk);
+    if first != second {
+        return Err(Fail::new("opened otherwise"));
+    }
+    Ok((second, bytes_of(alloc, &mut disk)?))
+}
+
+/// The disk that a crash leaves of one that stops at a call, where a payload was being added; and
+/// whether it was.
+fn stopped_append(alloc: Global, stop: u64, image: Image) -> Result<(MemDisk, bool), Fail> {
+    let mut disk = disk_of(alloc, &TWO, &[])?;
+    disk.stop_at(stop);
+    let (disk, answer) = appended(alloc, disk, b"z")?;
+    Ok((crashed(alloc, disk, image)?, answer.is_ok()))
+}
+
+/// Whether the old list or the new one is left, and the new one where the adding was done.
+fn leaves_a_list(alloc: Global, stop: u64, image: Image) -> Result<bool, Fail> {
+    let (disk, done) = stopped_append(alloc, stop, image)?;
+    let (count, bytes) = twice_opened(alloc, disk)?;
+    let is_new = count == Ok(3) && bytes.starts_with(&THREE[..42]);
+    let is_old = count == Ok(2) && bytes.starts_with(&TWO[..36]) && !done;
+    Ok(done == (stop == OPENING + 4) && (is_new || is_old))
+}
+
 #[test]
 fn a_stopped_append_leaves_one_of_two_lists(rt: HostRuntime) -> Result<(), Fail> {
-    let alloc = rt.alloc();
-    let frame = Frame::new(alloc, b"z")?;
     for stop in OPENING..OPENING + 5 {
         for image in IMAGES {
-            let mut disk = disk_of(alloc, &TWO, &[])?;
-            disk.stop_at(stop);
-            let mut journal = Journal::open(disk).ok().ok_or("not opened")?;
-            let done = journal.append(&frame).is_ok();
-            assert_eq!(rt; done, stop == OPENING + 4);
-            let left = journal
-                .into_disk()
-                .crash(alloc, image)
-                .ok()
-                .ok_or("no memory")?;
-            let (disk, first) = count_on(left);
-            let (mut disk, second) = count_on(disk);
-            assert_eq!(rt; first, second);
-            let bytes = bytes_of(alloc, &mut disk)?;
-            if second == Ok(3) {
-                assert!(rt; bytes.starts_with(&THREE[..42]), "{stop} {image:?}");
-            } else {
-                assert_eq!(rt; second, Ok(2), "{stop} {image:?}");
-                assert!(rt; bytes.starts_with(&TWO[..36]), "{stop} {image:?}");
-                assert!(rt; !done, "{stop} {image:?}");
-            }
+            assert!(rt; leaves_a_list(rt.alloc(), stop, image)?, "{stop} {image:?}");
         }
     }
     Ok(())
 }
 
+/// The disk that a crash leaves of one that stops at a call, where a journal was being made on it;
+/// and whether it was.
+fn stopped_making(alloc: Global, stop: u64, image: Image) -> Result<(MemDisk, bool), Fail> {
+    let mut disk = disk_of(alloc, &TWO, &[])?;
+    disk.stop_at(stop);
+    let (disk, done) = match Journal::create(disk, 7) {
+        Ok(journal) => (journal.into_disk(), true),
+        Err(refused) => (refused.into_disk(), false),
+    };
+    Ok((crashed(alloc, disk, image)?, done))
+}
+
+/// Whether a front of the old bytes is left, or the new journal, or a disk that is empty or damaged
+/// in its header.
+fn leaves_a_front(alloc: Global, stop: u64, image: Image) -> Result<bool, Fail> {
+    let (disk, done) = stopped_making(alloc, stop, image)?;
+    let (count, bytes) = twice_opened(alloc, disk)?;
+    let is_left = if stop < 2 {
+        TWO.starts_with(&bytes)
+    } else if done {
+        bytes.as_slice() == b"FMAJRNL1\0\0\0\0\0\0\0\x07\0".as_slice()
+    } else {
+        count == Ok(0) || count == Err(JournalFault::Damaged { place: 0 })
+    };
+    Ok(is_left && done == (stop == 4))
+}
+
 #[test]
 fn a_stopped_making_leaves_a_front_or_nothing(rt: HostRuntime) -> Result<(), Fail> {
-    let alloc = rt.alloc();
     for stop in 0..5 {
         for image in IMAGES {
-            let mut disk = disk_of(alloc, &TWO, &[])?;
-            disk.stop_at(stop);
-            let (disk, done) = match Journal::create(disk, 7) {
-                Ok(journal) => (journal.into_disk(), true),
-                Err(refused) => (refused.into_disk(), false),
-            };
-            assert_eq!(rt; done, stop == 4);
-            let left = disk.crash(alloc, image).ok().ok_or("no memory")?;
-            let (disk, first) = count_on(left);
-            let (mut disk, second) = count_on(disk);
-            assert_eq!(rt; first, second);
-            let bytes = bytes_of(alloc, &mut disk)?;
-            if stop < 2 {
-                assert!(rt; TWO.starts_with(&bytes), "{stop} {image:?}");
-            } else if done {
-                assert_eq!(rt;
-                    bytes.as_slice(),
-                    b"FMAJRNL1\0\0\0\0\0\0\0\x07\0".as_slice()
-                );
-            } else {
-                assert!(rt;
-                    second == Ok(0) || second == Err(JournalFault::Damaged { place: 0 }),
-                    "{stop} {image:?}"
-                );
-            }
+            assert!(rt;
+                leaves_a_front(rt.alloc(), stop, image)?,
+                "{stop} {image:?}"
+            );
         }
     }
     Ok(())
@@ -238,11 +323,7 @@ fn a_stopped_making_leaves_a_front_or_nothing(rt: HostRuntime) -> Result<(), Fai
 
 /// The journal with two payloads, opened.
 fn two(alloc: Global, fails: &[u64]) -> Result<Journal<MemDisk>, Fail> {
-    Ok(
-        Journal::open(disk_of(alloc, &TWO, fails)?)
-            .ok()
-            .ok_or("not opened")?,
-    )
+    opened(disk_of(alloc, &TWO, fails)?)
 }
 
 #[test]
@@ -250,29 +331,34 @@ fn payloads_are_read_at_their_places(rt: HostRuntime) -> Result<(), Fail> {
     let mut journal = two(rt.alloc(), &[])?;
     let mut tick = [0; 9];
     let mut last = [0; 1];
-    assert_eq!(rt; journal.size(16), Ok(Some(9)));
-    assert_eq!(rt; journal.read(16, &mut tick), Ok(30));
-    assert_eq!(rt; tick, TICK);
-    assert_eq!(rt; journal.size(30), Ok(Some(1)));
-    assert_eq!(rt; journal.read(30, &mut last), Ok(36));
-    assert_eq!(rt; last, *b"y");
-    assert_eq!(rt; journal.size(36), Ok(None));
+    assert!(rt; journal.size(16) == Ok(Some(9)));
+    assert!(rt; journal.read(16, &mut tick) == Ok(30));
+    assert!(rt; tick == TICK);
+    assert!(rt; journal.size(30) == Ok(Some(1)));
+    assert!(rt; journal.read(30, &mut last) == Ok(36));
+    assert!(rt; last == *b"y");
+    assert!(rt; journal.size(36) == Ok(None));
     Ok(())
 }
 
+/// Whether there is damage at the place, where a size or so many bytes are read there.
+fn has_no_payload(journal: &mut Journal<MemDisk>, place: u64) -> bool {
+    journal.size(place) == Err(JournalFault::Damaged { place })
+}
+
+fn has_no_such_payload(journal: &mut Journal<MemDisk>, place: u64, into: &mut [u8]) -> bool {
+    journal.read(place, into) == Err(JournalFault::Damaged { place })
+}
+
 #[test]
-fn no_record_is_damage_at_its_place(rt: HostRuntime) -> Result<(), Fail> {
+fn no_payload_is_damage_at_its_place(rt: HostRuntime) -> Result<(), Fail> {
     let mut journal = two(rt.alloc(), &[])?;
     for place in [0, 17, 31, 35, 37, 100] {
-        assert_eq!(rt; journal.size(place), Err(JournalFault::Damaged { place }));
+        assert!(rt; has_no_payload(&mut journal, place), "{place}");
     }
-    let damaged = Err(JournalFault::Damaged { place: 16 });
-    assert_eq!(rt; journal.read(16, &mut [0; 8]), damaged);
-    assert_eq!(rt; journal.read(16, &mut [0; 10]), damaged);
-    assert_eq!(rt;
-        journal.read(36, &mut []),
-        Err(JournalFault::Damaged { place: 36 })
-    );
+    assert!(rt; has_no_such_payload(&mut journal, 16, &mut [0; 8]));
+    assert!(rt; has_no_such_payload(&mut journal, 16, &mut [0; 10]));
+    assert!(rt; has_no_such_payload(&mut journal, 36, &mut []));
     Ok(())
 }
 
@@ -280,31 +366,41 @@ fn no_record_is_damage_at_its_place(rt: HostRuntime) -> Result<(), Fail> {
 fn a_closed_journal_is_not_read(rt: HostRuntime) -> Result<(), Fail> {
     let alloc = rt.alloc();
     let mut journal = two(alloc, &[4])?;
-    let frame = Frame::new(alloc, b"z")?;
-    assert_eq!(rt; journal.append(&frame), Err(JournalFault::Disk));
     let closed = JournalFault::Closed { faults: 1 };
-    assert_eq!(rt; journal.size(36), Err(closed));
-    assert_eq!(rt; journal.read(30, &mut [0; 1]), Err(closed));
-    let mut failing = two(alloc, &[3])?;
-    assert_eq!(rt; failing.size(16), Err(JournalFault::Disk));
-    assert_eq!(rt; failing.size(16), Ok(Some(9)));
+    assert!(rt; journal.append(&Frame::new(alloc, b"z")?) == Err(JournalFault::Disk));
+    assert!(rt; journal.size(36) == Err(closed));
+    assert!(rt; journal.read(30, &mut [0; 1]) == Err(closed));
     Ok(())
+}
+
+#[test]
+fn a_failing_read_closes_nothing(rt: HostRuntime) -> Result<(), Fail> {
+    let mut journal = two(rt.alloc(), &[3])?;
+    assert!(rt; journal.size(16) == Err(JournalFault::Disk));
+    assert!(rt; journal.size(16) == Ok(Some(9)));
+    Ok(())
+}
+
+/// How many calls it takes to open a journal of so many payloads, each of so many bytes.
+fn opening_calls(alloc: Global, count: usize, length: u32) -> Result<u64, Fail> {
+    let bytes = many(alloc, count, length)?;
+    let room = bytes.len() as u64;
+    let (disk, found) = count_on(MemDisk::new(alloc, &bytes, room, 16, Vec::new(alloc))?);
+    if found == Ok(count as u64) {
+        Ok(disk.calls())
+    } else {
+        Err(Fail::new("not found"))
+    }
 }
 
 #[test]
 fn opening_reads_in_pieces(rt: HostRuntime) -> Result<(), Fail> {
     let alloc = rt.alloc();
-    // Payloads, the bytes of each, and how many calls the opening makes: a sync, the length, and
-    // one read for each piece of 65,536 bytes, or from one gate to the next where a payload is
-    // longer.
-    let cases: [(usize, u32, u64); 4] = [(0, 0, 3), (3639, 13, 3), (10000, 13, 5), (3, 70000, 6)];
-    for (count, length, calls) in cases {
-        let bytes = many(alloc, count, length)?;
-        let room = bytes.len() as u64;
-        let disk = MemDisk::new(alloc, &bytes, room, 16, Vec::new(alloc))?;
-        let (disk, found) = count_on(disk);
-        assert_eq!(rt; found, Ok(count as u64));
-        assert_eq!(rt; disk.calls(), calls);
-    }
+    // An opening makes a sync, asks the length, and reads once for each piece of 65,536 bytes, or
+    // from one gate to the next where a payload is longer.
+    assert!(rt; opening_calls(alloc, 0, 0)? == 3);
+    assert!(rt; opening_calls(alloc, 3639, 13)? == 3);
+    assert!(rt; opening_calls(alloc, 10000, 13)? == 5);
+    assert!(rt; opening_calls(alloc, 3, 70000)? == 6);
     Ok(())
 }

@@ -1,4 +1,4 @@
-//! Tests of disks, journals and slots: what no clause says of them.
+//! Tests of journals and slots: what no clause says of them.
 //! They stand in a crate of their own, so that the libraries are not proved again with them.
 #![tactic(auto)]
 
@@ -6,10 +6,6 @@
 mod journals;
 #[cfg(test)]
 mod made;
-#[cfg(test)]
-mod mem_disks;
-#[cfg(test)]
-mod objects;
 #[cfg(test)]
 mod payloads;
 #[cfg(test)]

@@ -39,3 +39,11 @@ pub(crate) fn many(alloc: Global, count: usize, length: u32) -> Result<Vec<u8>, 
     }
     Ok(bytes)
 }
+
+/// What a crash with this image leaves of a disk.
+pub(crate) fn crashed(alloc: Global, disk: MemDisk, image: Image) -> Result<MemDisk, Fail> {
+    match disk.crash(alloc, image) {
+        Ok(left) => Ok(left),
+        Err(_both) => Err(Fail::new("no memory")),
+    }
+}

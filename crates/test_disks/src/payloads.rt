@@ -64,11 +64,11 @@ fn place_in(
 fn values_are_read_up_to_the_first_bad_payload(rt: HostRuntime) -> Result<(), Fail> {
     let alloc = rt.alloc();
     let all = lengths(alloc, SHORT)?;
-    assert_eq!(rt; all.values.as_slice(), [1, 0, 3].as_slice());
-    assert_eq!(rt; all.stop, None);
+    assert!(rt; all.values.as_slice() == [1, 0, 3].as_slice());
+    assert!(rt; all.stop == None);
     let few = lengths(alloc, LONG)?;
-    assert_eq!(rt; few.values.as_slice(), [1, 0].as_slice());
-    assert_eq!(rt; few.stop, Some(27));
+    assert!(rt; few.values.as_slice() == [1, 0].as_slice());
+    assert!(rt; few.stop == Some(27));
     Ok(())
 }
 
@@ -76,7 +76,7 @@ fn values_are_read_up_to_the_first_bad_payload(rt: HostRuntime) -> Result<(), Fa
 fn payloads_have_their_places(rt: HostRuntime) -> Result<(), Fail> {
     let alloc = rt.alloc();
     for (before, place) in [(0, 16), (1, 22), (2, 27), (3, 35), (4, 35)] {
-        assert_eq!(rt; place_in(alloc, SHORT, &[], before)?.0, Ok(place));
+        assert!(rt; place_in(alloc, SHORT, &[], before)?.0 == Ok(place));
     }
     Ok(())
 }
@@ -85,31 +85,29 @@ fn payloads_have_their_places(rt: HostRuntime) -> Result<(), Fail> {
 fn a_failing_disk_is_told(rt: HostRuntime) -> Result<(), Fail> {
     let alloc = rt.alloc();
     // The journal is opened by a sync, the length and a read, and one read more gives its payloads.
-    assert_eq!(rt;
-        place_in(alloc, SHORT, &[3], 1)?,
-        (Err(ReadingFault::Disk), 4)
-    );
-    assert_eq!(rt; place_in(alloc, SHORT, &[4], 1)?, (Ok(22), 4));
+    assert!(rt; place_in(alloc, SHORT, &[3], 1)? == (Err(ReadingFault::Disk), 4));
+    assert!(rt; place_in(alloc, SHORT, &[4], 1)? == (Ok(22), 4));
     Ok(())
+}
+
+/// The same of the end of a journal of so many payloads, each of so many bytes.
+fn end_of(
+    alloc: Global,
+    count: usize,
+    length: u32,
+) -> Result<(Result<u64, ReadingFault>, u64), Fail> {
+    place_in(alloc, &many(alloc, count, length)?, &[], count as u64)
 }
 
 #[test]
 fn a_journal_is_read_in_pieces(rt: HostRuntime) -> Result<(), Fail> {
     let alloc = rt.alloc();
-    // Payloads, the bytes of each, the place of the end, and how many calls the opening and the
-    // reading make: a sync, the length, and then one for each piece of 65,536 bytes. An opening
-    // passes over what is behind a piece, and a reading takes the rest of a payload that is longer
-    // than a piece by one call.
-    let cases: [(usize, u32, u64, u64); 4] = [
-        (0, 0, 16, 3),
-        (10000, 13, 180016, 8),
-        (3, 70000, 210031, 10),
-        (1, 200000, 200021, 6),
-    ];
-    for (count, length, end, calls) in cases {
-        let bytes = many(alloc, count, length)?;
-        let found = place_in(alloc, &bytes, &[], count as u64)?;
-        assert_eq!(rt; found, (Ok(end), calls), "{count} of {length}");
-    }
+    // The place of the end, and how many calls the opening and the reading make: a sync, the
+    // length, and then one for each piece of 65,536 bytes. An opening passes over what is behind a
+    // piece, and a reading takes the rest of a payload that is longer than a piece by one call.
+    assert!(rt; end_of(alloc, 0, 0)? == (Ok(16), 3));
+    assert!(rt; end_of(alloc, 10000, 13)? == (Ok(180016), 8));
+    assert!(rt; end_of(alloc, 3, 70000)? == (Ok(210031), 10));
+    assert!(rt; end_of(alloc, 1, 200000)? == (Ok(200021), 6));
     Ok(())
 }

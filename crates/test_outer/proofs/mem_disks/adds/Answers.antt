@@ -1,5 +1,5 @@
 use Rattle.std.proofs.Common.{◌≡◌, ◌≤◌, List, ℕ, [], ◌∷◌, length, subst, lit≤}
-use Rattle.test_disks.proofs.mem_disks.adds.Goals as goal
+use Rattle.test_outer.proofs.mem_disks.adds.Goals as goal
 
 pub add-requires-clause-settled : goal.add-requires-clause-settled
 add-requires-clause-settled c = rw c.stop_at.ensures c.in_ok-disk.ensures.synced

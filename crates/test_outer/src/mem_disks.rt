@@ -1,8 +1,5 @@
 // Disks in memory: which calls fail, what the record takes, and what a crash leaves.
-ghost use Rattle.std.specs.Prelude.{◌≡◌, true};
-ghost use Rattle.fm_outer.specs.Bytes.{Inside};
-
-use crate::made::bytes_of;
+use crate::made::{bytes_of, is_within};
 use fm_outer::{Disk, Image, MemDisk, NoMemory, add};
 use std::alloc::Global;
 use std::test::Fail;
@@ -14,16 +11,6 @@ enum Call {
     Write(u64, &'static [u8]),
     Cut(u64),
     Sync,
-}
-
-// Whether the place is within the bytes, which takes a call.
-fn is_within<D: Disk>(disk: &mut D, place: u64) -> bool
-    ensures { result ≡ true → Inside place (D.seen disk.new) }
-{
-    match disk.len() {
-        Ok(count) => place <= count,
-        Err(_) => false,
-    }
 }
 
 // Makes the call, where its place is inside, and says whether it was done. A write and a cut take
@@ -81,12 +68,9 @@ fn failing(alloc: Global) -> Result<MemDisk, NoMemory> {
 fn fails_where_it_is_told_or_full(rt: HostRuntime) -> Result<(), Fail> {
     let alloc = rt.alloc();
     let mut disk = failing(alloc)?;
-    assert_eq!(rt; disk.calls(), 11);
-    assert_eq!(rt; disk.faults(), 4);
-    assert_eq!(rt;
-        bytes_of(alloc, &mut disk)?.as_slice(),
-        b"XYcdefg".as_slice()
-    );
+    assert!(rt; disk.calls() == 11);
+    assert!(rt; disk.faults() == 4);
+    assert!(rt; bytes_of(alloc, &mut disk)?.as_slice() == b"XYcdefg".as_slice());
     assert!(rt; leaves(alloc, disk, Image::Old, b"abcdef")?);
     assert!(rt; leaves(alloc, failing(alloc)?, Image::New, b"XYcdefghi")?);
     assert!(rt; leaves(alloc, failing(alloc)?, Image::Fill(b'.'), b"..cdef...")?);
@@ -129,24 +113,19 @@ fn adds(alloc: Global, stop: u64, how: Image, want: &[u8]) -> Result<bool, Fail>
     Ok(leaves(alloc, disk, how, want)? && done == (stop == 4))
 }
 
-const ADDED: [(u64, Image, &[u8]); 11] = [
-    (0, Image::Old, b"J\0"),
-    (0, Image::New, b"J\0hi"),
-    (1, Image::Old, b"J\0"),
-    (1, Image::Fill(9), b"J\0\x09\x09"),
-    (2, Image::Old, b"J\0hi"),
-    (2, Image::New, b"J\x01hi"),
-    (2, Image::Fill(7), b"J\x07hi"),
-    (3, Image::Old, b"J\0hi"),
-    (3, Image::New, b"J\x01hi"),
-    (4, Image::Old, b"J\x01hi"),
-    (4, Image::Fill(7), b"J\x01hi"),
-];
-
 #[test]
 fn an_added_body_stands_before_its_gate(rt: HostRuntime) -> Result<(), Fail> {
-    for (stop, how, want) in ADDED {
-        assert!(rt; adds(rt.alloc(), stop, how, want)?, "stop {stop}, {how:?}");
-    }
+    let alloc = rt.alloc();
+    assert!(rt; adds(alloc, 0, Image::Old, b"J\0")?);
+    assert!(rt; adds(alloc, 0, Image::New, b"J\0hi")?);
+    assert!(rt; adds(alloc, 1, Image::Old, b"J\0")?);
+    assert!(rt; adds(alloc, 1, Image::Fill(9), b"J\0\x09\x09")?);
+    assert!(rt; adds(alloc, 2, Image::Old, b"J\0hi")?);
+    assert!(rt; adds(alloc, 2, Image::New, b"J\x01hi")?);
+    assert!(rt; adds(alloc, 2, Image::Fill(7), b"J\x07hi")?);
+    assert!(rt; adds(alloc, 3, Image::Old, b"J\0hi")?);
+    assert!(rt; adds(alloc, 3, Image::New, b"J\x01hi")?);
+    assert!(rt; adds(alloc, 4, Image::Old, b"J\x01hi")?);
+    assert!(rt; adds(alloc, 4, Image::Fill(7), b"J\x01hi")?);
     Ok(())
 }
