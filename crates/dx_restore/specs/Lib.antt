@@ -1,0 +1,4 @@
+pub mod Parts
+pub mod Restoring
+pub mod Loading
+pub mod Saving
