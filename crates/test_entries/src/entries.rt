@@ -12,13 +12,15 @@ use std::test::Fail;
 /// with a payload.
 fn entries() -> [&'static [u8]; 7] {
     [
-        b"\x01\x00\x0eereport.cpu.ue\x00\x15hc:///chassis=0/cpu=1\x00\x00\x00\x02\x54\x0b\xe4\x00\x00\x00",
+        b"\x01\x00\x0eereport.cpu.ue\x00\x15hc:///chassis=0/cpu=1\
+          \x00\x00\x00\x02\x54\x0b\xe4\x00\x00\x00",
         b"\x02\x00\x00\x00\x00\x00\x00\x00\x05",
         b"\x03\x00\x10hc:///chassis=12\x00\x00\x00\x00\x00\x00\x00\x07",
         b"\x04\x00\x0fhc:///chassis=0\x00\x00\x00\x00\x00\x00\x00\x08",
         b"\x05\x00\x00\x00\x07\x00\x00\x00\x00\x00\x00\x00\x09\x00\x00\x00\x00\x00\x00\x00\x0a",
         b"\x06\x00\x00\x01\x02\x00\x00\x00\x00\x00\x00\x00\x0b",
-        b"\x01\x00\x09ereport.a\x00\x09hc:///a=0\x00\x00\x00\x00\x00\x00\x00\x01\x00\x01\x01a\x02\x00\x00\x00\x00\x00\x00\x00\x01",
+        b"\x01\x00\x09ereport.a\x00\x09hc:///a=0\x00\x00\x00\x00\x00\x00\x00\x01\
+          \x00\x01\x01a\x02\x00\x00\x00\x00\x00\x00\x00\x01",
     ]
 }
 
@@ -89,98 +91,129 @@ fn changed(alloc: Global, at: usize, byte: u8) -> Result<Vec<u8>, Fail> {
     Ok(bytes)
 }
 
-#[test]
-fn an_entry_is_read_and_written_again(rt: HostRuntime) -> Result<(), Fail> {
-    let alloc = rt.alloc();
-    for bytes in entries() {
-        let again = entry_again(alloc, bytes)?.ok_or("no entry")?;
-        assert_eq!(rt; again.as_slice(), bytes);
-        for end in 0..bytes.len() {
-            assert!(rt;
-                entry_again(alloc, &bytes[..end])?.is_none(),
-                "cut at {end}"
-            );
+/// Whether the bytes spell an entry, and no part of them does.
+fn is_entry(alloc: Global, bytes: &[u8]) -> Result<bool, Fail> {
+    let again = entry_again(alloc, bytes)?.ok_or("no entry")?;
+    for end in 0..bytes.len() {
+        if entry_again(alloc, &bytes[..end])?.is_some() {
+            return Ok(false);
         }
     }
-    for bytes in no_entries() {
-        assert!(rt; entry_again(alloc, bytes)?.is_none(), "{bytes:?}");
+    Ok(again.as_slice() == bytes)
+}
+
+#[test]
+fn an_entry_is_read_and_written_again(rt: HostRuntime) -> Result<(), Fail> {
+    for bytes in entries() {
+        assert!(rt; is_entry(rt.alloc(), bytes)?, "{bytes:?}");
     }
     Ok(())
+}
+
+#[test]
+fn other_bytes_are_no_entry(rt: HostRuntime) -> Result<(), Fail> {
+    for bytes in no_entries() {
+        assert!(rt; entry_again(rt.alloc(), bytes)?.is_none(), "{bytes:?}");
+    }
+    Ok(())
+}
+
+/// Whether the bytes spell a record.
+fn is_record(alloc: Global, bytes: &[u8]) -> Result<bool, Fail> {
+    match spoken_again(alloc, bytes)? {
+        Some(again) => Ok(again.as_slice() == bytes),
+        None => Ok(false),
+    }
+}
+
+/// Whether no front of the bytes spells a record, of those that are so long at the least.
+fn is_no_front(alloc: Global, bytes: &[u8], least: usize) -> Result<bool, Fail> {
+    for end in least..bytes.len() {
+        if spoken_again(alloc, &bytes[..end])?.is_some() {
+            return Ok(false);
+        }
+    }
+    Ok(true)
 }
 
 #[test]
 fn a_word_of_each_kind_is_read_and_written_again(rt: HostRuntime) -> Result<(), Fail> {
     let alloc = rt.alloc();
     let bytes = record(alloc, 0, b"")?;
-    let again = spoken_again(alloc, &bytes)?.ok_or("no record")?;
-    assert_eq!(rt; again.as_slice(), bytes.as_slice());
-    for end in 0..bytes.len() {
-        assert!(rt;
-            spoken_again(alloc, &bytes[..end])?.is_none(),
-            "cut at {end}"
-        );
-    }
-    // a module of 8, a number of 2^46, other counts, no kind, another module, a case of 2^63, a
-    // moment of 2^62
-    let wrong = [
-        (3, 8),
-        (6, 64),
-        (15, 4),
-        (15, 6),
-        (16, 0),
-        (16, 6),
-        (16, 8),
-        (16, 9),
-        (20, 2),
-        (21, 128),
-        (29, 64),
-    ];
-    for (at, byte) in wrong {
-        assert!(rt;
-            spoken_again(alloc, &changed(alloc, at, byte)?)?.is_none(),
-            "{byte} at {at}"
-        );
-    }
-    // the certainty, whether to retire, and the mark of the last suspect
-    for (behind, byte) in [(3, 101), (2, 2), (1, 4)] {
-        let at = bytes.len().saturating_sub(behind);
-        assert!(rt;
-            spoken_again(alloc, &changed(alloc, at, byte)?)?.is_none(),
-            "{byte} at {at}"
-        );
-    }
+    assert!(rt; is_record(alloc, &bytes)?);
+    assert!(rt; is_no_front(alloc, &bytes, 0)?);
+    Ok(())
+}
+
+/// Whether the bytes are no record where one byte is another.
+fn spoils(alloc: Global, at: usize, byte: u8) -> Result<bool, Fail> {
+    Ok(spoken_again(alloc, &changed(alloc, at, byte)?)?.is_none())
+}
+
+#[test]
+fn a_record_has_its_number_and_counts(rt: HostRuntime) -> Result<(), Fail> {
+    let alloc = rt.alloc();
+    // a module of 8, a number of 2^46, and other counts
+    assert!(rt; spoils(alloc, 3, 8)?);
+    assert!(rt; spoils(alloc, 6, 64)?);
+    assert!(rt; spoils(alloc, 15, 4)?);
+    assert!(rt; spoils(alloc, 15, 6)?);
     Ok(())
 }
 
 #[test]
+fn a_word_has_its_kind_and_case(rt: HostRuntime) -> Result<(), Fail> {
+    let alloc = rt.alloc();
+    // no kind, another module, a case of 2^63, a moment of 2^62
+    assert!(rt; spoils(alloc, 16, 0)?);
+    assert!(rt; spoils(alloc, 16, 6)?);
+    assert!(rt; spoils(alloc, 16, 8)?);
+    assert!(rt; spoils(alloc, 16, 9)?);
+    assert!(rt; spoils(alloc, 20, 2)?);
+    assert!(rt; spoils(alloc, 21, 128)?);
+    assert!(rt; spoils(alloc, 29, 64)?);
+    Ok(())
+}
+
+#[test]
+fn a_suspect_has_its_numbers(rt: HostRuntime) -> Result<(), Fail> {
+    let alloc = rt.alloc();
+    // the certainty, whether to retire, and the mark of the last suspect
+    let length = record(alloc, 0, b"")?.len();
+    assert!(rt; spoils(alloc, length.saturating_sub(3), 101)?);
+    assert!(rt; spoils(alloc, length.saturating_sub(2), 2)?);
+    assert!(rt; spoils(alloc, length.saturating_sub(1), 4)?);
+    Ok(())
+}
+
+/// Three broken links of a word.
+const LINKS: &[u8] = b"\x00\x00\x00\x03\x00\x00\x00\x01\x00\x00\x00\x07\
+    \x00\x00\x00\x01\x00\x00\x00\x09\x00\x00\x00\x04\x00\x00\x00\x00";
+
+#[test]
 fn broken_links_are_read_and_written_again(rt: HostRuntime) -> Result<(), Fail> {
     let alloc = rt.alloc();
-    let links =
-        b"\x00\x00\x00\x03\x00\x00\x00\x01\x00\x00\x00\x07\x00\x00\x00\x01\x00\x00\x00\x09\x00\x00\x00\x04\x00\x00\x00\x00";
-    let bytes = record(alloc, 8, links)?;
-    let again = spoken_again(alloc, &bytes)?.ok_or("no record")?;
-    assert_eq!(rt; again.as_slice(), bytes.as_slice());
-    for end in bytes.len().saturating_sub(links.len())..bytes.len() {
-        assert!(rt;
-            spoken_again(alloc, &bytes[..end])?.is_none(),
-            "cut at {end}"
-        );
-    }
-    // no link, one link twice, effects that fall, instances that fall, and links of a word without
-    // any
-    let wrong: [&[u8]; 4] = [
-        b"\x00\x00\x00\x00",
-        b"\x00\x00\x00\x02\x00\x00\x00\x01\x00\x00\x00\x07\x00\x00\x00\x01\x00\x00\x00\x07",
-        b"\x00\x00\x00\x02\x00\x00\x00\x01\x00\x00\x00\x07\x00\x00\x00\x01\x00\x00\x00\x06",
-        b"\x00\x00\x00\x02\x00\x00\x00\x02\x00\x00\x00\x01\x00\x00\x00\x01\x00\x00\x00\x07",
-    ];
-    for bytes in wrong {
-        assert!(rt;
-            spoken_again(alloc, &record(alloc, 8, bytes)?)?.is_none(),
-            "{bytes:?}"
-        );
-    }
-    assert!(rt; spoken_again(alloc, &record(alloc, 0, links)?)?.is_none());
+    let bytes = record(alloc, 8, LINKS)?;
+    assert!(rt; is_record(alloc, &bytes)?);
+    assert!(rt; is_no_front(alloc, &bytes, bytes.len().saturating_sub(LINKS.len()))?);
+    // links of a word without any
+    assert!(rt; spoken_again(alloc, &record(alloc, 0, LINKS)?)?.is_none());
+    Ok(())
+}
+
+/// Whether these are no broken links of a word.
+fn are_no_links(alloc: Global, links: &[u8]) -> Result<bool, Fail> {
+    Ok(spoken_again(alloc, &record(alloc, 8, links)?)?.is_none())
+}
+
+#[test]
+fn broken_links_ascend(rt: HostRuntime) -> Result<(), Fail> {
+    let alloc = rt.alloc();
+    // no link, one link twice, effects that fall, and instances that fall
+    assert!(rt; are_no_links(alloc, b"\0\0\0\0")?);
+    assert!(rt; are_no_links(alloc, b"\0\0\0\x02\0\0\0\x01\0\0\0\x07\0\0\0\x01\0\0\0\x07")?);
+    assert!(rt; are_no_links(alloc, b"\0\0\0\x02\0\0\0\x01\0\0\0\x07\0\0\0\x01\0\0\0\x06")?);
+    assert!(rt; are_no_links(alloc, b"\0\0\0\x02\0\0\0\x02\0\0\0\x01\0\0\0\x01\0\0\0\x07")?);
     Ok(())
 }
 
@@ -190,29 +223,26 @@ fn a_case_name_is_read(rt: HostRuntime) {
         module: 7,
         case: 9223372036854775807,
     };
-    assert_eq!(rt; read_case_name("dx7/9223372036854775807"), Some(last));
-    assert_eq!(rt;
-        read_case_name("dx0/0"),
-        Some(CaseName { module: 0, case: 0 })
-    );
+    assert!(rt; read_case_name("dx7/9223372036854775807") == Some(last));
+    assert!(rt; read_case_name("dx0/0") == Some(CaseName { module: 0, case: 0 }));
     for text in [
         "", "dx", "dx1", "dx1/", "dx/1", "dx8/0", "dx01/0", "dx1/00", "dy1/0", "dx1/0/0", "dx1/0 ",
     ] {
-        assert_eq!(rt; read_case_name(text), None, "{text}");
+        assert!(rt; read_case_name(text) == None, "{text}");
     }
-    assert_eq!(rt; read_case_name("dx1/9223372036854775808"), None);
+    assert!(rt; read_case_name("dx1/9223372036854775808") == None);
 }
 
 #[test]
 fn copies_names_kinds_and_marks(rt: HostRuntime) -> Result<(), Fail> {
     let case = CaseName { module: 7, case: 5 };
-    assert_eq!(rt; case.copy()?, case);
+    assert!(rt; case.copy()? == case);
     let link = Broken {
         instance: 4,
         effect: 7,
     };
-    assert_eq!(rt; link.copy(rt.alloc())?, link);
-    assert_eq!(rt; ListKind::Updated.copy()?, ListKind::Updated);
-    assert_eq!(rt; Mark::Replaced.copy()?, Mark::Replaced);
+    assert!(rt; link.copy(rt.alloc())? == link);
+    assert!(rt; ListKind::Updated.copy()? == ListKind::Updated);
+    assert!(rt; Mark::Replaced.copy()? == Mark::Replaced);
     Ok(())
 }

@@ -2,6 +2,7 @@
 
 use fm_name::{Category, Class, EventName, Fmri, Pattern, read_class, read_fmri, read_pattern};
 use std::alloc::Global;
+use std::cmp::Ordering;
 use std::test::Fail;
 
 fn class(alloc: Global, text: &str) -> Result<Class, Fail> {
@@ -25,6 +26,12 @@ fn event(alloc: Global, name: &str, place: &str) -> Result<EventName, Fail> {
     Ok(EventName { class, path })
 }
 
+/// Whether the text is that of the class that it spells, and of a copy of it.
+fn is_class(alloc: Global, text: &str) -> Result<bool, Fail> {
+    let found = class(alloc, text)?;
+    Ok(found.text() == text && found.copy()?.to_string(alloc)?.as_str() == text)
+}
+
 #[test]
 fn reads_classes(rt: HostRuntime) -> Result<(), Fail> {
     for text in [
@@ -38,9 +45,7 @@ fn reads_classes(rt: HostRuntime) -> Result<(), Fail> {
          1234567890b.a123456789012345678901234567890b.a123456789012345678901234567890b.a12345678\
          9012345678901234567890b.a123456789012345678901234567890b.a23456789012345678901234",
     ] {
-        let found = class(rt.alloc(), text)?;
-        assert!(rt; found.text() == text);
-        assert!(rt; found.copy()?.to_string(rt.alloc())?.as_str() == text);
+        assert!(rt; is_class(rt.alloc(), text)?, "{text}");
     }
     Ok(())
 }
@@ -73,49 +78,69 @@ fn refuses_what_is_no_class(rt: HostRuntime) -> Result<(), Fail> {
     Ok(())
 }
 
+/// Whether a class is of this category.
+fn is_of(alloc: Global, text: &str, category: Option<Category>) -> Result<bool, Fail> {
+    let found = class(alloc, text)?;
+    let is_ereport = found.is_ereport() == (category == Some(Category::Ereport));
+    Ok(is_ereport && found.category() == category)
+}
+
 #[test]
 fn tells_categories(rt: HostRuntime) -> Result<(), Fail> {
-    let table = [
-        ("ereport.a", Some(Category::Ereport)),
-        ("error.a.b", Some(Category::Error)),
-        ("fault.cpu", Some(Category::Fault)),
-        ("defect.x", Some(Category::Defect)),
-        ("upset.x", Some(Category::Upset)),
-        ("list.suspect", Some(Category::List)),
-        ("serd.cpu", Some(Category::Serd)),
-        ("ereports.a", None),
-        ("erepor.t", None),
-        ("Fault.a", None),
-    ];
-    for (text, category) in table {
-        let found = class(rt.alloc(), text)?;
-        assert!(rt; found.category().map(|category| category.copy()) == category);
-        assert!(rt; found.is_ereport() == (category == Some(Category::Ereport)));
-    }
+    let alloc = rt.alloc();
+    assert!(rt; is_of(alloc, "ereport.a", Some(Category::Ereport))?);
+    assert!(rt; is_of(alloc, "error.a.b", Some(Category::Error))?);
+    assert!(rt; is_of(alloc, "fault.cpu", Some(Category::Fault))?);
+    assert!(rt; is_of(alloc, "defect.x", Some(Category::Defect))?);
+    assert!(rt; is_of(alloc, "upset.x", Some(Category::Upset))?);
+    assert!(rt; is_of(alloc, "list.suspect", Some(Category::List))?);
+    assert!(rt; is_of(alloc, "serd.cpu", Some(Category::Serd))?);
     Ok(())
 }
 
 #[test]
-fn patterns_match(rt: HostRuntime) -> Result<(), Fail> {
-    let table = [
-        ("ereport.cpu.*", "ereport.cpu.ue", true),
-        ("ereport.cpu.*", "ereport.cpu.ue.b", true),
-        ("ereport.cpu.*", "ereport.cpu", false),
-        ("ereport.cpu.*", "ereport.cpux.y", false),
-        ("ereport.*", "ereport.cpu", true),
-        ("ereport.*", "fault.cpu", false),
-        ("*", "fault.cpu", true),
-        ("fault.cpu", "fault.cpu", true),
-        ("fault.cpu", "fault.cpu.a", false),
-        ("fault.cpu.a", "fault.cpu", false),
-        ("fault.cpu", "fault.cpv", false),
-    ];
-    for (text, name, answer) in table {
-        let found = pattern(rt.alloc(), text)?;
-        let name = class(rt.alloc(), name)?;
-        assert!(rt; found.matches(&name) == answer);
-    }
+fn other_classes_have_no_category(rt: HostRuntime) -> Result<(), Fail> {
+    let alloc = rt.alloc();
+    assert!(rt; is_of(alloc, "ereports.a", None)?);
+    assert!(rt; is_of(alloc, "erepor.t", None)?);
+    assert!(rt; is_of(alloc, "Fault.a", None)?);
     Ok(())
+}
+
+/// Whether a pattern matches a class.
+fn matches(alloc: Global, text: &str, name: &str) -> Result<bool, Fail> {
+    let found = pattern(alloc, text)?;
+    let name = class(alloc, name)?;
+    Ok(found.matches(&name))
+}
+
+#[test]
+fn patterns_match_what_is_within(rt: HostRuntime) -> Result<(), Fail> {
+    let alloc = rt.alloc();
+    assert!(rt; matches(alloc, "ereport.cpu.*", "ereport.cpu.ue")?);
+    assert!(rt; matches(alloc, "ereport.cpu.*", "ereport.cpu.ue.b")?);
+    assert!(rt; !matches(alloc, "ereport.cpu.*", "ereport.cpu")?);
+    assert!(rt; !matches(alloc, "ereport.cpu.*", "ereport.cpux.y")?);
+    assert!(rt; matches(alloc, "ereport.*", "ereport.cpu")?);
+    assert!(rt; !matches(alloc, "ereport.*", "fault.cpu")?);
+    assert!(rt; matches(alloc, "*", "fault.cpu")?);
+    Ok(())
+}
+
+#[test]
+fn a_class_as_a_pattern_matches_itself(rt: HostRuntime) -> Result<(), Fail> {
+    let alloc = rt.alloc();
+    assert!(rt; matches(alloc, "fault.cpu", "fault.cpu")?);
+    assert!(rt; !matches(alloc, "fault.cpu", "fault.cpu.a")?);
+    assert!(rt; !matches(alloc, "fault.cpu.a", "fault.cpu")?);
+    assert!(rt; !matches(alloc, "fault.cpu", "fault.cpv")?);
+    Ok(())
+}
+
+/// Whether the text is that of the pattern that it spells, and of a copy of it.
+fn is_pattern(alloc: Global, text: &str) -> Result<bool, Fail> {
+    let found = pattern(alloc, text)?;
+    Ok(found.text() == text && found.copy()?.to_string(alloc)?.as_str() == text)
 }
 
 #[test]
@@ -130,10 +155,13 @@ fn reads_patterns(rt: HostRuntime) -> Result<(), Fail> {
          1234567890b.a123456789012345678901234567890b.a123456789012345678901234567890b.a12345678\
          9012345678901234567890b.a123456789012345678901234567890b.a234567890123456789012345.*",
     ] {
-        let found = pattern(rt.alloc(), text)?;
-        assert!(rt; found.text() == text);
-        assert!(rt; found.copy()?.to_string(rt.alloc())?.as_str() == text);
+        assert!(rt; is_pattern(rt.alloc(), text)?, "{text}");
     }
+    Ok(())
+}
+
+#[test]
+fn refuses_what_is_no_pattern(rt: HostRuntime) -> Result<(), Fail> {
     for text in [
         "", ".*", "a", "a*", "a.**", "*.*", "**", "a..*", "a-.*", "a.*.b", "a. *",
     ] {
@@ -142,55 +170,57 @@ fn reads_patterns(rt: HostRuntime) -> Result<(), Fail> {
     Ok(())
 }
 
-#[test]
-fn reads_parts_of_a_path(rt: HostRuntime) -> Result<(), Fail> {
-    let found = path(rt.alloc(), "hc:///chassis=0/cpu-core=4294967295/z_9=10")?;
-    let parts = [("chassis", 0), ("cpu-core", 4294967295), ("z_9", 10)];
-    assert!(rt; found.depth() == parts.len());
-    let names = found.names();
-    assert!(rt; names.as_slice() == ["chassis", "cpu-core", "z_9"].as_slice());
-    let instances = found.instances();
-    assert!(rt; instances.as_slice() == [0, 4294967295, 10].as_slice());
-    for (at, (name, instance)) in parts.into_iter().enumerate() {
-        assert!(rt; at < found.depth());
-        assert!(rt; found.name(at) == name);
-        assert!(rt; found.instance(at) == instance);
-    }
-    Ok(())
+/// Whether a part of a path has this name and instance.
+fn has_part(found: &Fmri, at: usize, name: &str, instance: u32) -> bool {
+    at < found.depth() && found.name(at) == name && found.instance(at) == instance
 }
 
 #[test]
+fn reads_parts_of_a_path(rt: HostRuntime) -> Result<(), Fail> {
+    let found = path(rt.alloc(), "hc:///chassis=0/cpu-core=4294967295/z_9=10")?;
+    assert!(rt; found.depth() == 3);
+    assert!(rt; has_part(&found, 0, "chassis", 0));
+    assert!(rt; has_part(&found, 1, "cpu-core", 4294967295));
+    assert!(rt; has_part(&found, 2, "z_9", 10));
+    assert!(rt; found.names().as_slice() == ["chassis", "cpu-core", "z_9"].as_slice());
+    assert!(rt; found.instances().as_slice() == [0, 4294967295, 10].as_slice());
+    Ok(())
+}
+
+/// Whether the text is that of the path that it spells, and of a copy of it, with so many parts.
+fn is_path(alloc: Global, text: &str, depth: usize) -> Result<bool, Fail> {
+    let found = path(alloc, text)?;
+    let lists = (found.names().len(), found.instances().len());
+    let is_deep = found.depth() == depth && lists == (depth, depth);
+    let is_text = found.text() == text;
+    Ok(is_deep && is_text && found.copy()?.to_string(alloc)?.as_str() == text)
+}
+
+/// Sixteen parts whose names and instances are as long as can be.
+const LONGEST: &str =
+    "hc:///a123456789012345678901234567890b=4294967295/a123456789012345678901234567890b=\
+     4294967295/a123456789012345678901234567890b=4294967295/a123456789012345678901234567\
+     890b=4294967295/a123456789012345678901234567890b=4294967295/a1234567890123456789012\
+     34567890b=4294967295/a123456789012345678901234567890b=4294967295/a12345678901234567\
+     8901234567890b=4294967295/a123456789012345678901234567890b=4294967295/a123456789012\
+     345678901234567890b=4294967295/a123456789012345678901234567890b=4294967295/a1234567\
+     89012345678901234567890b=4294967295/a123456789012345678901234567890b=4294967295/a12\
+     3456789012345678901234567890b=4294967295/a123456789012345678901234567890b=429496729\
+     5/a123456789012345678901234567890b=4294967295";
+
+/// Sixteen short parts.
+const SIXTEEN: &str = "hc:///a=0/a=1/a=2/a=3/a=4/a=5/a=6/a=7/a=8/a=9/a=10/a=11/a=12/a=13/a=14/a=15";
+
+#[test]
 fn reads_paths(rt: HostRuntime) -> Result<(), Fail> {
-    for (text, depth) in [
-        (
-            "hc:///a=0/a=1/a=2/a=3/a=4/a=5/a=6/a=7/a=8/a=9/a=10/a=11/a=12/a=13/a=14/a=15",
-            16,
-        ),
-        ("hc:///a123456789012345678901234567890b=1", 1),
-        ("hc:///a-1-2-3-4-5-6-7-8-9-0-1-2-3-4-56=1/b=0", 2),
-        ("hc:///c=0", 1),
-        ("hc:///c=4294967295", 1),
-        ("hc:///c=4294967295/d-0=1000000000/Z__=9", 3),
-        (
-            "hc:///a123456789012345678901234567890b=4294967295/a123456789012345678901234567890b=\
-             4294967295/a123456789012345678901234567890b=4294967295/a123456789012345678901234567\
-             890b=4294967295/a123456789012345678901234567890b=4294967295/a1234567890123456789012\
-             34567890b=4294967295/a123456789012345678901234567890b=4294967295/a12345678901234567\
-             8901234567890b=4294967295/a123456789012345678901234567890b=4294967295/a123456789012\
-             345678901234567890b=4294967295/a123456789012345678901234567890b=4294967295/a1234567\
-             89012345678901234567890b=4294967295/a123456789012345678901234567890b=4294967295/a12\
-             3456789012345678901234567890b=4294967295/a123456789012345678901234567890b=429496729\
-             5/a123456789012345678901234567890b=4294967295",
-            16,
-        ),
-    ] {
-        let found = path(rt.alloc(), text)?;
-        assert!(rt; found.depth() == depth);
-        assert!(rt; found.names().len() == depth);
-        assert!(rt; found.instances().len() == depth);
-        assert!(rt; found.text() == text);
-        assert!(rt; found.copy()?.to_string(rt.alloc())?.as_str() == text);
-    }
+    let alloc = rt.alloc();
+    assert!(rt; is_path(alloc, SIXTEEN, 16)?);
+    assert!(rt; is_path(alloc, "hc:///a123456789012345678901234567890b=1", 1)?);
+    assert!(rt; is_path(alloc, "hc:///a-1-2-3-4-5-6-7-8-9-0-1-2-3-4-56=1/b=0", 2)?);
+    assert!(rt; is_path(alloc, "hc:///c=0", 1)?);
+    assert!(rt; is_path(alloc, "hc:///c=4294967295", 1)?);
+    assert!(rt; is_path(alloc, "hc:///c=4294967295/d-0=1000000000/Z__=9", 3)?);
+    assert!(rt; is_path(alloc, LONGEST, 16)?);
     Ok(())
 }
 
@@ -249,6 +279,13 @@ fn refuses_what_is_no_path(rt: HostRuntime) -> Result<(), Fail> {
     Ok(())
 }
 
+/// The order of two paths.
+fn path_order(alloc: Global, ours: &str, theirs: &str) -> Result<Ordering, Fail> {
+    let ours = path(alloc, ours)?;
+    let theirs = path(alloc, theirs)?;
+    Ok(ours.cmp(&theirs))
+}
+
 #[test]
 fn orders_paths(rt: HostRuntime) -> Result<(), Fail> {
     let ascending = [
@@ -269,76 +306,106 @@ fn orders_paths(rt: HostRuntime) -> Result<(), Fail> {
     ];
     for (at, text) in ascending.iter().enumerate() {
         for (other_at, other) in ascending.iter().enumerate() {
-            let ours = path(rt.alloc(), text)?;
-            let theirs = path(rt.alloc(), other)?;
-            assert!(rt; ours.cmp(&theirs) == at.cmp(&other_at));
+            assert!(rt; path_order(rt.alloc(), text, other)? == at.cmp(&other_at));
         }
     }
     Ok(())
+}
+
+/// Whether a path is another one, or within it.
+fn is_under(alloc: Global, text: &str, above: &str) -> Result<bool, Fail> {
+    let ours = path(alloc, text)?;
+    let theirs = path(alloc, above)?;
+    Ok(ours.is_under(&theirs))
 }
 
 #[test]
 fn tells_what_is_under(rt: HostRuntime) -> Result<(), Fail> {
-    let table = [
-        ("hc:///c=1", "hc:///c=1", true),
-        ("hc:///c=1/d=2", "hc:///c=1", true),
-        ("hc:///c=1/d=2/e=3", "hc:///c=1", true),
-        ("hc:///c=1", "hc:///c=1/d=2", false),
-        ("hc:///c=10/d=2", "hc:///c=1", false),
-        ("hc:///c=1/d=2", "hc:///c=2", false),
-        ("hc:///cc=1/d=2", "hc:///c=1", false),
+    let alloc = rt.alloc();
+    assert!(rt; is_under(alloc, "hc:///c=1", "hc:///c=1")?);
+    assert!(rt; is_under(alloc, "hc:///c=1/d=2", "hc:///c=1")?);
+    assert!(rt; is_under(alloc, "hc:///c=1/d=2/e=3", "hc:///c=1")?);
+    assert!(rt; !is_under(alloc, "hc:///c=1", "hc:///c=1/d=2")?);
+    assert!(rt; !is_under(alloc, "hc:///c=10/d=2", "hc:///c=1")?);
+    assert!(rt; !is_under(alloc, "hc:///c=1/d=2", "hc:///c=2")?);
+    assert!(rt; !is_under(alloc, "hc:///cc=1/d=2", "hc:///c=1")?);
+    Ok(())
+}
+
+/// Events whose classes and whose paths ascend.
+const ASCENDING: [(&str, &str); 5] = [
+    ("ereport.cpu", "hc:///chassis=0"),
+    ("ereport.cpu.l2-cache.ce", "hc:///chassis=0/cpu=123"),
+    ("ereport.cpu.l2-cache.ce1", "hc:///chassis=0/cpu=1234"),
+    ("ereport.cpu.l2-cache.ce1x", "hc:///chassis=0/cpu=12345"),
+    (
+        "ereport.cpu.l2-cache.correctable",
+        "hc:///chassis=0/cpu=123456/core=17/strand=3",
+    ),
+];
+
+/// Whether an event of a report has these texts.
+fn has_texts(event: &EventName, name: &str, place: &str) -> bool {
+    let is_ereport = event.class.category() == Some(Category::Ereport);
+    is_ereport && event.class.text() == name && event.path.text() == place
+}
+
+/// Whether the event of these texts and a copy of it have them.
+fn is_event(alloc: Global, name: &str, place: &str) -> Result<bool, Fail> {
+    let read = event(alloc, name, place)?;
+    Ok(has_texts(&read, name, place) && has_texts(&read.copy()?, name, place))
+}
+
+/// The orders of the classes, of the paths and of the events, the first of them copied; and whether
+/// the events are equal.
+fn event_orders(
+    alloc: Global,
+    ours: (&str, &str),
+    theirs: (&str, &str),
+) -> Result<([Ordering; 3], bool), Fail> {
+    let ours = event(alloc, ours.0, ours.1)?.copy()?;
+    let theirs = event(alloc, theirs.0, theirs.1)?;
+    let orders = [
+        ours.class.cmp(&theirs.class),
+        ours.path.cmp(&theirs.path),
+        ours.cmp(&theirs),
     ];
-    for (text, above, answer) in table {
-        let ours = path(rt.alloc(), text)?;
-        let theirs = path(rt.alloc(), above)?;
-        assert!(rt; ours.is_under(&theirs) == answer);
+    Ok((orders, ours == theirs))
+}
+
+#[test]
+fn keeps_texts_of_each_length(rt: HostRuntime) -> Result<(), Fail> {
+    for (name, place) in ASCENDING {
+        assert!(rt; is_event(rt.alloc(), name, place)?, "{name}");
     }
     Ok(())
 }
 
 #[test]
-fn keeps_texts_of_each_length(rt: HostRuntime) -> Result<(), Fail> {
-    let ascending = [
-        ("ereport.cpu", "hc:///chassis=0"),
-        ("ereport.cpu.l2-cache.ce", "hc:///chassis=0/cpu=123"),
-        ("ereport.cpu.l2-cache.ce1", "hc:///chassis=0/cpu=1234"),
-        ("ereport.cpu.l2-cache.ce1x", "hc:///chassis=0/cpu=12345"),
-        (
-            "ereport.cpu.l2-cache.correctable",
-            "hc:///chassis=0/cpu=123456/core=17/strand=3",
-        ),
-    ];
-    for (at, (name, place)) in ascending.into_iter().enumerate() {
-        let read = event(rt.alloc(), name, place)?;
-        assert!(rt; read.class.text() == name);
-        assert!(rt; read.path.text() == place);
-        assert!(rt; read.class.category() == Some(Category::Ereport));
-        let copied = read.copy()?;
-        assert!(rt; copied.class.text() == name);
-        assert!(rt; copied.path.text() == place);
-        for (other_at, (other_name, other_place)) in ascending.into_iter().enumerate() {
-            let other = event(rt.alloc(), other_name, other_place)?;
-            assert!(rt; copied.class.cmp(&other.class) == at.cmp(&other_at));
-            assert!(rt; copied.path.cmp(&other.path) == at.cmp(&other_at));
-            assert!(rt; (copied == other) == (at == other_at));
+fn orders_texts_of_each_length(rt: HostRuntime) -> Result<(), Fail> {
+    for (at, ours) in ASCENDING.into_iter().enumerate() {
+        for (other_at, theirs) in ASCENDING.into_iter().enumerate() {
+            let (orders, equal) = event_orders(rt.alloc(), ours, theirs)?;
+            assert!(rt; orders == [at.cmp(&other_at); 3]);
+            assert!(rt; equal == (at == other_at));
         }
     }
     Ok(())
 }
 
+const EVENTS: [(&str, &str); 3] = [
+    ("fault.a", "hc:///c=9"),
+    ("fault.b", "hc:///c=9"),
+    ("fault.a", "hc:///c=10"),
+];
+
 #[test]
 fn orders_events(rt: HostRuntime) -> Result<(), Fail> {
-    let events = [
-        ("fault.a", "hc:///c=9"),
-        ("fault.b", "hc:///c=9"),
-        ("fault.a", "hc:///c=10"),
-    ];
-    for (at, (name, place)) in events.into_iter().enumerate() {
-        for (other_at, (other_name, other_place)) in events.into_iter().enumerate() {
-            let ours = event(rt.alloc(), name, place)?;
-            let theirs = event(rt.alloc(), other_name, other_place)?;
-            assert!(rt; ours.cmp(&theirs) == at.cmp(&other_at));
-            assert!(rt; (ours.copy()? == theirs) == (at == other_at));
+    for (at, ours) in EVENTS.into_iter().enumerate() {
+        for (other_at, theirs) in EVENTS.into_iter().enumerate() {
+            let (orders, equal) = event_orders(rt.alloc(), ours, theirs)?;
+            assert!(rt; orders[2] == at.cmp(&other_at));
+            assert!(rt; equal == (at == other_at));
         }
     }
     Ok(())

@@ -46,9 +46,9 @@ fn checkpoint_again(alloc: Global, bytes: &[u8]) -> Result<Option<Vec<u8>>, Fail
 fn configurations_are_read_and_written(rt: HostRuntime) -> Result<(), Fail> {
     let alloc = rt.alloc();
     let again = conf_again(alloc, &CONF)?.ok_or("none")?;
-    assert_eq!(rt; again.as_slice(), CONF.as_slice());
+    assert!(rt; again.as_slice() == CONF.as_slice());
     let bare = conf_again(alloc, &BARE)?.ok_or("none")?;
-    assert_eq!(rt; bare.as_slice(), BARE.as_slice());
+    assert!(rt; bare.as_slice() == BARE.as_slice());
     Ok(())
 }
 
@@ -69,12 +69,12 @@ fn other_bytes_are_no_configuration(rt: HostRuntime) -> Result<(), Fail> {
 fn checkpoints_are_read_and_written(rt: HostRuntime) -> Result<(), Fail> {
     let alloc = rt.alloc();
     let again = checkpoint_again(alloc, &NUMBERED)?.ok_or("none")?;
-    assert_eq!(rt; again.as_slice(), NUMBERED.as_slice());
+    assert!(rt; again.as_slice() == NUMBERED.as_slice());
     // The older spelling is of the configuration 0, and is written in the newer one.
     let newer = checkpoint_again(alloc, &UNNUMBERED)?.ok_or("none")?;
     let mut first = NUMBERED;
     first[20] = 0;
-    assert_eq!(rt; newer.as_slice(), first.as_slice());
+    assert!(rt; newer.as_slice() == first.as_slice());
     Ok(())
 }
 
