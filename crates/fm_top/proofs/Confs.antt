@@ -1,6 +1,6 @@
 -- What is read of sources has a spelling as a configuration.
 use Rattle.std.proofs.Common.{◌≡◌, ◌<◌, ◌≤◌, ◌+◌, ◌-◌, ℕ, Bool, true, false, ◌||◌, ◌==◌, List}
-use Rattle.std.proofs.Common.{suc, [], ◌∷◌, length, take, refl, arith, ap, ◌∙◌, Ok}
+use Rattle.std.proofs.Common.{[], ◌∷◌, length, take, refl, arith, ap, ◌∙◌, Ok}
 use Rattle.std.proofs.Common.{Option, Some, None, slice_get, unwrap_or, nat_lt, sum_by, cond}
 use Rattle.std.specs.Prelude.{if◌then◌else◌, All, not}
 use Rattle.std.specs.List.{onto_first, list_all}
@@ -11,6 +11,7 @@ use Rattle.std.proofs.lemmas.Grind.{common_steps}
 use Rattle.std.proofs.lemmas.List.Splits.{length-slice_split}
 use Rattle.std.proofs.lemmas.List.Sums.{sum_by-cons}
 use Rattle.fm_topo.proofs.Maps.{total}
+use Rattle.fm_esc.proofs.Reading.{files_count}
 use Rattle.fm_outer.specs.declared.source.Source.{Ghosts}
 use Rattle.fm_saved.specs.Confs.{IsSpelledConf}
 use Rattle.fm_saved.specs.Saved.{FitsLongText}
@@ -85,13 +86,6 @@ topology_within text clean =
     omega (arith, within, sum)
 
 -- ---- the rule files
-files_count : {S : Type 0} (g : Ghosts S) (olds news : List S) (files : List RuleFile)
-    → FilesGave g olds news files → length files ≡ length olds
-files_count g [] [] [] gave = refl
-files_count g (old ∷ olds) (new ∷ news) (file ∷ files) gave =
-    ap suc (files_count g olds news files gave.1)
-files_count g _ _ _ gave = absurd gave
-
 files_fit : {S : Type 0} (g : Ghosts S) (olds news : List S) (files : List RuleFile)
     → FilesGave g olds news files → All (λ (f : RuleFile). FitsLongText f.text.items) files
 files_fit g [] [] [] gave = All-nil (λ (f : RuleFile). FitsLongText f.text.items)

@@ -22,7 +22,8 @@ use Rattle.fm_top.specs.Calls.{IsCaused, Does, WorksOn, handed}
 use Rattle.fm_top.specs.Ending.{EndsAs}
 use Rattle.fm_top.specs.Init.{InitEnds, MakingEnds, SourcesRefused, AreUnwritten}
 use Rattle.fm_top.specs.Init.{HasNoStore, conf_with}
-use Rattle.fm_top.specs.Order.{Goes, World, Passes, at_rules, at_topology, looks, world_of}
+use Rattle.fm_top.specs.Order.{Goes, World, Look, Passes, at_rules, at_topology, at_no_store}
+use Rattle.fm_top.specs.Order.{looks, world_of}
 use Rattle.fm_top.specs.Outside.{Outside, SourceAt, DisksAt, Tells, Leaves, RoseAt, standing}
 use Rattle.fm_top.specs.Outside.{given_of, source_at, source_counts, disk_counts, counts_of}
 use Rattle.fm_top.specs.Stops.{of_sources}
@@ -43,17 +44,18 @@ no_topology number (suc at) (old ∷ olds) (new ∷ news) line kind refused =
     no_topology (suc number) at olds news line kind refused.1
 no_topology _ _ _ _ _ _ refused = absurd refused
 
-refused_goes : (w : World) (namespace : List ℕ) (fault : SourceFault)
+-- sources that are refused, of a command that looks at them first
+pub refused_goes : (w : World) (more : List Look) (fault : SourceFault)
     → ReadsSources standing w.sources w.sources_now (Err fault)
-    → Goes w (looks (Init namespace)) (Err (of_sources fault))
-refused_goes w namespace faults.Read read = inl tt
-refused_goes w namespace faults.NoMemory read = inl tt
-refused_goes w namespace (faults.Rules file place kind) (inl (refused, rest)) =
+    → Goes w (at_rules ∷ at_topology ∷ more) (Err (of_sources fault))
+refused_goes w more faults.Read read = inl tt
+refused_goes w more faults.NoMemory read = inl tt
+refused_goes w more (faults.Rules file place kind) (inl (refused, rest)) =
     inr (inl (inl (file, place, kind, refl, refused)))
-refused_goes w namespace (faults.Rules file place kind) (inr (files, refused)) = absurd refused
-refused_goes w namespace (faults.Topology line kind) (inl ((at, refused), rest)) =
+refused_goes w more (faults.Rules file place kind) (inr (files, refused)) = absurd refused
+refused_goes w more (faults.Topology line kind) (inl ((at, refused), rest)) =
     absurd (no_topology 0 at _ _ line kind refused)
-refused_goes w namespace (faults.Topology line kind) (inr (files, refused)) =
+refused_goes w more (faults.Topology line kind) (inr (files, refused)) =
     inr (inl (inr (files, inl (line, kind, refl, refused))))
 
 made_goes : (before after : Outside) (namespace : List ℕ) (conf : Conf)
@@ -83,7 +85,7 @@ init_goes before after namespace ran (Ok got) (files, topology) went =
     (got.topo_text.items, got.topo, topology) went
 init_goes before after namespace ran (Err fault) read went =
     subst (Goes (world_of before after) (looks (Init namespace))) (sym went.told)
-    (refused_goes (world_of before after) namespace fault read)
+    (refused_goes (world_of before after) (at_no_store ∷ []) fault read)
 
 -- ---- the causes
 
@@ -105,7 +107,7 @@ source_rose before after (inl ((at, refused), rest)) =
     (suc (suc at), rule_rose 0 at before.rules after.rules refused)
 source_rose before after (inr (files, rose)) = (1, (_, _, refl, refl, rose))
 
-refused_caused : (before after : Outside) (fault : SourceFault)
+pub refused_caused : (before after : Outside) (fault : SourceFault)
     → ReadsSources standing (given_of before) (given_of after) (Err fault)
     → IsCaused before after (of_sources fault)
 refused_caused before after faults.Read read = source_rose before after read
@@ -144,18 +146,19 @@ rules_quiet (old ∷ olds) (new ∷ news) (file ∷ files) (one, more) =
     λ i. one.gave.quiet i ∷ rules_quiet olds news files more i
 rules_quiet _ _ _ gave = absurd gave
 
-done_quiet : (before after : Outside) (files : List RuleFile) (text : List ℕ)
+-- what was read left its counts, and so did the rest
+pub done_quiet : (before after : Outside) (files : List RuleFile) (text : List ℕ)
     (topo : Topology)
     → FilesGave standing before.rules after.rules files
     → GaveTopology standing before.topo after.topo text topo
-    → after.input ≡ before.input → after.out ≡ before.out → after.acts ≡ before.acts
-    → disk_counts after.disks ≡ disk_counts before.disks
+    → after.input ≡ before.input → after.out.failures ≡ before.out.failures
+    → after.acts ≡ before.acts → disk_counts after.disks ≡ disk_counts before.disks
     → counts_of after ≡ counts_of before
 done_quiet before after files text topo rules topology input out acts disks =
     let from_rules = rules_quiet before.rules after.rules files rules in
     λ i. record {
       sources = (input i).failures ∷ topology.gave.quiet i ∷ from_rules i;
-      out = (out i).failures;
+      out = out i;
       disks = disks i;
       acts = map (λ a. a.failures) (acts i);
     }
@@ -170,8 +173,8 @@ init_quiet : (before after : Outside) (namespace : List ℕ) (ran : Result (Unit
     → OnOk ran (counts_of after ≡ counts_of before)
 init_quiet before after namespace (Err stop) got read went input out acts = tt
 init_quiet before after namespace (Ok done) (Ok got) (files, topology) made input out acts =
-    done_quiet before after got.files.items got.topo_text.items got.topo files topology input out
-    acts made.quiet
+    done_quiet before after got.files.items got.topo_text.items got.topo files topology input
+    (λ i. (out i).failures) acts made.quiet
 init_quiet before after namespace (Ok done) (Err fault) read went input out acts =
     absurd (ok_no_err done (of_sources fault) went.told)
   where

@@ -5,6 +5,7 @@ pub mod Confs
 pub mod CountLines
 pub mod Cuts
 pub mod Doing
+pub mod Escs
 pub mod Feeding
 pub mod Halts
 pub mod Inits

@@ -18,7 +18,7 @@ use Rattle.fm_top.specs.Refusing.{PutCut}
 use Rattle.fm_top.specs.Replaying.{fresh_book, replayed, replay_text, ReplayTaken, ReplayedAll}
 use Rattle.fm_top.specs.Replaying.{ReplayStops, IsPartOf}
 use Rattle.fm_top.specs.Running.{RanAll, RanUntil}
-use Rattle.fm_top.specs.Tallied.{sum_of, sum_with, count_of, Tallied, TallyLast}
+use Rattle.fm_top.specs.Tallied.{sum_of, sum_with, entry_count, Tallied, TallyLast}
 use Rattle.fm_top.specs.declared.stops.Stop.{Stop}
 use Rattle.fm_top.specs.declared.stops.Stop.TheVariants.{Write, Memory, Full}
 use Rattle.fm_top.specs.TallyLaws.{tallied_numbers}
@@ -42,26 +42,26 @@ last_taken count es _ same refused = absurd refused
 abbrev IsFresh : Tally → Type 0
 IsFresh t = (core_book t.core ≡ fresh_book) × (t.spoken ≡ 0)
 
-count_none : (a : Tally) → IsFresh a → count_of a ≡ 0
+count_none : (a : Tally) → IsFresh a → entry_count a ≡ 0
 count_none a (book, spoken) = ap next_number book
 
 tallied_taken : (a b : Tally) → IsFresh a → (es : List Entry) (last : Option (Stop × Entry))
     → Tallied a b es last → ReplayTaken es last
 tallied_taken a b fresh es last tallied =
-    let count : count_of b ≡ count_of a + length es =
+    let count : entry_count b ≡ entry_count a + length es =
     tallied_numbers a b es (record { same = tallied.same; refused = tt }) in
-    let none : count_of a ≡ 0 = count_none a fresh in
-    last_taken (count_of b) es last
-    (let all : count_of b ≡ length es = omega (arith, count, none) in all) tallied.refused
+    let none : entry_count a ≡ 0 = count_none a fresh in
+    last_taken (entry_count b) es last
+    (let all : entry_count b ≡ length es = omega (arith, count, none) in all) tallied.refused
 
 -- the run over the input stopped
 pub replay_until : (a b : Tally) (puts consumes : List ℕ → Type 0) (at_end : Type 0) (stop : Stop)
     → IsFresh a
-    → RanUntil (Tallied a b) puts false (count_of a) consumes at_end stop
+    → RanUntil (Tallied a b) puts false (entry_count a) consumes at_end stop
     → ReplayStops puts consumes at_end stop
 replay_until a b puts consumes at_end stop fresh ran =
     inl (subst (λ n. RanUntil ReplayTaken puts false n consumes at_end stop) (count_none a fresh)
-    (until_weaker (Tallied a b) ReplayTaken puts false (count_of a) consumes at_end stop
+    (until_weaker (Tallied a b) ReplayTaken puts false (entry_count a) consumes at_end stop
     (tallied_taken a b fresh) ran))
 
 -- what a tally comes to that took these entries
@@ -84,7 +84,7 @@ part_of_put out out_now text _ cut = absurd cut
 -- the refusals, where the tally was fresh
 refusals_put : (a b : Tally) (p q : Option (List ℕ)) (consumes : List ℕ → Type 0) (at_end : Type 0)
     → IsFresh a
-    → (ran : RanAll (Tallied a b) (Appends p q) false (count_of a) consumes at_end)
+    → (ran : RanAll (Tallied a b) (Appends p q) false (entry_count a) consumes at_end)
     → Appends p q (answers false 1 0 (lines_of ran.read))
 refusals_put a b p q consumes at_end fresh ran =
     subst (λ n. Appends p q (answers false 1 n (lines_of ran.read))) (count_none a fresh) ran.put
@@ -92,7 +92,7 @@ refusals_put a b p q consumes at_end fresh ran =
 -- the whole command
 pub replay_all : {E : Type 0} (a b : Tally) (p q r : Option (List ℕ)) (consumes : List ℕ → Type 0)
     (at_end : Type 0) (result : Result E Stop)
-    → IsFresh a → RanAll (Tallied a b) (Appends p q) false (count_of a) consumes at_end
+    → IsFresh a → RanAll (Tallied a b) (Appends p q) false (entry_count a) consumes at_end
     → OnOk result ((entries : List Entry) → sum_with b [] ≡ sum_of 0 (replayed entries)
     → Appends q r (replay_text entries))
     → OnOk result (ReplayedAll (Appends p r) consumes at_end)
@@ -112,7 +112,7 @@ replay_all a b p q r consumes at_end result fresh ran put =
 
 pub replay_cut : {E : Type 0} (a b : Tally) (p : Option (List ℕ)) (out out_now : SinkAt)
     (consumes : List ℕ → Type 0) (at_end : Type 0) (result : Result E Stop)
-    → IsFresh a → RanAll (Tallied a b) (Appends p out.bytes) false (count_of a) consumes at_end
+    → IsFresh a → RanAll (Tallied a b) (Appends p out.bytes) false (entry_count a) consumes at_end
     → IfErr result (λ stop. (entries : List Entry) → sum_with b [] ≡ sum_of 0 (replayed entries)
     → PutCut out out_now (replay_text entries) stop)
     → IfErr result (ReplayStops (Appends p out_now.bytes) consumes at_end)

@@ -14,7 +14,7 @@ use Rattle.fm_topo.specs.Topology.{Topology}
 use Rattle.fm_top.specs.Outside.{source_at, standing}
 
 module _ {S : Type 0} (g : Ghosts S) where
-  gave_text : (limit : ℕ) (old new : S) (text : List ℕ) → GaveText g limit old new text
+  pub gave_text : (limit : ℕ) (old new : S) (text : List ℕ) → GaveText g limit old new text
       → GaveText standing limit (source_at g old) (source_at g new) text
   gave_text limit old new text gave =
       record { consumed = gave.consumed; whole = gave.whole; quiet = gave.quiet }

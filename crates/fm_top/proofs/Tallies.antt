@@ -26,7 +26,7 @@ use Rattle.fm_core.proofs.Runs.{with_none}
 use Rattle.fm_top.specs.Draining.{core_book, hand_at, moved_to, IsInOrder, IsNext}
 use Rattle.fm_top.specs.Replaying.{spoken_by, counts_in, first_counts, replayed, replay_text}
 use Rattle.fm_top.specs.Replaying.{summary_text}
-use Rattle.fm_top.specs.Tallied.{Sum, sum_of, sum_text, sum_with, count_of, Tallied, IsTally}
+use Rattle.fm_top.specs.Tallied.{Sum, sum_of, sum_text, sum_with, entry_count, Tallied, IsTally}
 use Rattle.fm_top.specs.TallyLaws.{tallied_numbers}
 use Rattle.fm_top.specs.declared.tally.Tally.{Tally}
 use Rattle.fm_top.proofs.Summaries.{two_modules, Two, two_of, many_parts, stands_at, done_sum}
@@ -187,12 +187,12 @@ accepted_same old new e book spoken = record {
   refused = tt;
 }
 
-pub accepted_ready : (old new : Tally) (e : Entry) → IsTally old → count_of old < 2 ^ 46
+pub accepted_ready : (old new : Tally) (e : Entry) → IsTally old → entry_count old < 2 ^ 46
     → IsInOrder new.core → new.core ≡ record old.core { entries = old.core.entries ++ e ∷ [] }
     → Tallied old new (e ∷ []) None → IsTally new
 accepted_ready old new e ready room order is took =
     let k : Book = core_book old.core in
-    let count : count_of new ≡ count_of old + 1 = tallied_numbers old new (e ∷ []) took in
+    let count : entry_count new ≡ entry_count old + 1 = tallied_numbers old new (e ∷ []) took in
     let parts : length k.modules ≡ 2 = many_parts old.core ready.order ready.two in
     let now : (sum_with new []).spoken
     ≡ old.spoken + spoken_by (map (ended (with_entries k (e ∷ []))) k.modules) =
@@ -226,7 +226,7 @@ same_hands old new worked two =
 still_ready : (old new : Tally) → IsTally old → IsInOrder new.core → length new.core.hands ≡ 2
     → Tallied old new [] None → IsTally new
 still_ready old new ready order two same =
-    let count : count_of new ≡ count_of old + 0 = tallied_numbers old new [] same in
+    let count : entry_count new ≡ entry_count old + 0 = tallied_numbers old new [] same in
     let spoken : (sum_with new []).spoken ≡ (sum_with old []).spoken =
     ap (λ s. s.spoken) (same.same []) in
     record {
@@ -351,7 +351,7 @@ pub text_is : (old new : Tally) (entries : List Entry) (text : List ℕ) → IsT
     → OnlyWorked (seen counters old.core) (seen counters new.core) → new.spoken ≡ old.spoken
     → is_done (core_book new.core) ≡ true
     → ((h : HandOf CounterOf) → slice_get new.core.hands 0 ≡ Some h
-    → text ≡ summary_text (count_of new) (new.spoken + length new.core.records) h.object.counts)
+    → text ≡ summary_text (entry_count new) (new.spoken + length new.core.records) h.object.counts)
     → sum_with old [] ≡ sum_of 0 (replayed entries) → text ≡ replay_text entries
 text_is old new entries text ready worked spoken done is sum =
     let hands : Two new.core.hands =

@@ -3,16 +3,18 @@ use Rattle.std.specs.Prelude.{◌≡◌, ℕ, List, Option, None, Some, Result, 
 use Rattle.fm_outer.specs.Failures.{Rose}
 use Rattle.fm_top.specs.Accepting.{AcceptRan}
 use Rattle.fm_top.specs.Ending.{EndsAs}
+use Rattle.fm_top.specs.Esc.{EscEnds, EscInputEnds}
 use Rattle.fm_top.specs.Order.{Goes, looks, world_of}
 use Rattle.fm_top.specs.Init.{InitRan}
 use Rattle.fm_top.specs.Outside.{Outside, SinkAt, source_counts, disk_counts, counts_of, RoseAt}
+use Rattle.fm_top.specs.Outside.{given_of, standing}
 use Rattle.fm_top.specs.Replaying.{ReplayRan}
 use Rattle.fm_logs.specs.declared.disks.Disks.{Disks}
 use Rattle.fm_top.specs.declared.status.ToolStatus.{ToolStatus}
 use Rattle.fm_top.specs.declared.stops.Stop.{Stop}
 use Rattle.fm_top.specs.declared.stops.Stop.TheVariants.{Usage, Read, Write, Disk}
 use Rattle.fm_top.specs.declared.words.Command.{Command}
-use Rattle.fm_top.specs.declared.words.Command.TheVariants.{Accept, Replay, Init}
+use Rattle.fm_top.specs.declared.words.Command.TheVariants.{Accept, Replay, Init, Esc, EscInput}
 
 -- EACH FAULT OF THE OUTSIDE, one line a fault: it comes only where a count of that kind rose
 abbrev pub IsCaused : Outside → Outside → Stop → Type 0
@@ -28,6 +30,10 @@ Did Accept before after ran =
     AcceptRan before.input after.input before.out after.out before.disks.err_a after.disks.err_a ran
 Did Replay before after ran = ReplayRan before.input after.input before.out after.out ran
 Did (Init namespace) before after ran = InitRan namespace before after ran
+Did (Esc form) before after ran =
+    EscEnds standing form (given_of before) (given_of after) before.out after.out ran
+Did EscInput before after ran =
+    EscInputEnds standing before.input after.input before.out after.out ran
 
 -- a command ran, up to its last line
 pub record Ran (command : Command) (before after : Outside) (ran : Result (Unit {0}) Stop) : Type 0
@@ -63,6 +69,8 @@ WorksOn None old new = new ≡ old
 WorksOn (Some Accept) old new =
     new ≡ record old { input = new.input; disks = record old.disks { err_a = new.disks.err_a } }
 WorksOn (Some Replay) old new = new ≡ record old { input = new.input }
+WorksOn (Some (Esc form)) old new = new ≡ record old { rules = new.rules; topo = new.topo }
+WorksOn (Some EscInput) old new = new ≡ record old { input = new.input }
 WorksOn (Some (Init namespace)) old new =
     new ≡ record old {
       rules = new.rules;

@@ -5,6 +5,7 @@ pub mod Calls
 pub mod Draining
 pub mod Ended
 pub mod Ending
+pub mod Esc
 pub mod Halting
 pub mod Init
 pub mod Lending

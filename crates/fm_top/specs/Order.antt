@@ -1,28 +1,38 @@
 -- The order of refusals of each command: what it looks at before it works, what ends it there, and
 -- what stands where it goes on.
 use Rattle.std.specs.Prelude.{◌≡◌, ◌⊎◌, ℕ, ◌<◌, List, [], ◌∷◌, length, Option, IfSome, Result}
-use Rattle.std.specs.Prelude.{MatchResult}
+use Rattle.std.specs.Prelude.{MatchResult, Some, None, Ok}
+use Rattle.ev_file.specs.declared.made.Made.{Made}
+use Rattle.fm_esc.specs.Compiling.{AreGraphs, IsFirstPast}
+use Rattle.fm_esc.specs.InputListing.{InputCause, IsListed}
+use Rattle.fm_esc.specs.declared.faults.GraphLimit.{GraphLimit}
+use Rattle.fm_esc.specs.declared.faults.InputFault.TheVariants as inputs
 use Rattle.fm_journal.specs.Crash.{IsEmptyOrNone}
 use Rattle.fm_journal.specs.Damage.{IsDamagedAt}
 use Rattle.fm_logs.specs.declared.disks.DiskName.TheVariants.{ErrA}
 use Rattle.fm_sources.specs.Sources.{Given, FilesGave, FilesRefused, GaveTopology, TopologyRefused}
+use Rattle.fm_sources.specs.Sources.{ReadsSources}
 use Rattle.fm_sources.specs.declared.faults.RulesKind.{RulesKind}
 use Rattle.fm_sources.specs.declared.faults.SourceFault.TheVariants as faults
 use Rattle.fm_sources.specs.declared.files.RuleFile.{RuleFile}
+use Rattle.fm_sources.specs.declared.sources.Sources.{Sources}
 use Rattle.fm_init.specs.Making.{HasStore}
 use Rattle.fm_topo.specs.Topology.{Topology as PartSet}
 use Rattle.fm_topo.specs.declared.faults.TopoKind.{TopoKind}
 use Rattle.fm_top.specs.declared.stops.Stop.{Stop}
 use Rattle.fm_top.specs.declared.stops.Stop.TheVariants.{Rules, Topology, Damaged, Read, Write}
 use Rattle.fm_top.specs.declared.stops.Stop.TheVariants.{Disk, Memory, Full, Exists}
+use Rattle.fm_top.specs.declared.stops.Stop.TheVariants.{Graph, DamagedInput}
 use Rattle.fm_top.specs.declared.words.Command.{Command}
-use Rattle.fm_top.specs.declared.words.Command.TheVariants.{Accept, Replay, Init}
+use Rattle.fm_top.specs.declared.words.Command.TheVariants.{Accept, Replay, Init, Esc, EscInput}
 use Rattle.fm_top.specs.Opening.{Stood}
 use Rattle.fm_top.specs.Outside.{Outside, SourceAt, given_of, standing}
 
--- what the looks depend on: what the sources have, and have left behind the looks; and the bytes
--- that a disk reads as, where it tells them
+-- what the looks depend on: what the input and the sources have, and have left behind the looks;
+-- and the bytes that a disk reads as, where it tells them
 pub record World : Type 0 where
+  pub input : SourceAt
+  pub input_now : SourceAt
   pub sources : Given SourceAt
   pub sources_now : Given SourceAt
   pub conf : Option (List ℕ)
@@ -30,17 +40,21 @@ pub record World : Type 0 where
 
 abbrev pub world_of : Outside → Outside → World
 world_of before after = record {
+  input = before.input;
+  input_now = after.input;
   sources = given_of before;
   sources_now = given_of after;
   conf = before.disks.conf.seen;
   err_a = before.disks.err_a.seen;
 }
 
--- a look: at the rule files, at the topology, whether there is a store, and at the journal of
--- reports
+-- a look: at the rule files, at the topology, at what the files come to over it, at the compiled
+-- files of the input, whether there is a store, and at the journal of reports
 pub data Look : Type 0 where
   at_rules : Look
   at_topology : Look
+  at_graphs : Look
+  at_files : Look
   at_no_store : Look
   at_reports : Look
 
@@ -49,6 +63,8 @@ abbrev pub looks : Command → List Look
 looks Accept = at_reports ∷ []
 looks Replay = []
 looks (Init namespace) = at_rules ∷ at_topology ∷ at_no_store ∷ []
+looks (Esc form) = at_rules ∷ at_topology ∷ at_graphs ∷ []
+looks EscInput = at_files ∷ []
 
 -- how a look ends the command
 abbrev pub Finds : World → Look → Stop → Type 0
@@ -58,17 +74,31 @@ Finds w at_rules stop =
 Finds w at_topology stop =
     (line : ℕ) × (kind : TopoKind) × (stop ≡ Topology line kind)
     × TopologyRefused standing w.sources.topo w.sources_now.topo (faults.Topology line kind)
+Finds w at_graphs stop =
+    (file : ℕ) × (limit : GraphLimit) × (stop ≡ Graph file limit)
+    × ((got : Sources) × ReadsSources standing w.sources w.sources_now (Ok got)
+    × IsFirstPast got.topo got.files.items file limit)
+Finds w at_files stop =
+    (place : ℕ) × (stop ≡ DamagedInput place)
+    × ((text : List ℕ) × IsListed standing w.input w.input_now text (Some place))
 Finds w at_no_store stop = (stop ≡ Exists) × IfSome w.conf HasStore
 Finds w at_reports stop =
     (place : ℕ) × (stop ≡ Damaged ErrA place)
     × IfSome w.err_a (λ bytes. IsDamagedAt bytes place × (0 < length bytes))
 
--- what stands where the command goes on
+-- what stands where the command goes on; where the input has more bytes than are taken, it is not
+-- looked at as files
 abbrev pub Passes : World → Look → Type 0
 Passes w at_rules =
     (files : List RuleFile) × FilesGave standing w.sources.rules w.sources_now.rules files
 Passes w at_topology = (text : List ℕ) × (parts : PartSet)
     × GaveTopology standing w.sources.topo w.sources_now.topo text parts
+Passes w at_graphs =
+    (got : Sources) × ReadsSources standing w.sources w.sources_now (Ok got)
+    × ((mades : List Made) × AreGraphs got.topo got.files.items mades)
+Passes w at_files =
+    ((text : List ℕ) × IsListed standing w.input w.input_now text None)
+    ⊎ InputCause standing w.input w.input_now inputs.Full
 Passes w at_no_store = IfSome w.conf IsEmptyOrNone
 Passes w at_reports =
     IfSome w.err_a (λ bytes. (first : ℕ) × (payloads : List (List ℕ)) × Stood bytes first payloads)

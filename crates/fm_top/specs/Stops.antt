@@ -1,5 +1,11 @@
 -- The status and the last line of each way to end before all is done.
 use Rattle.std.specs.Prelude.{ℕ, List, [], ◌++◌, codes, decimal, Result, Ok, Err}
+use Rattle.fm_esc.specs.declared.faults.CompileFault.{CompileFault}
+use Rattle.fm_esc.specs.declared.faults.CompileFault.TheVariants as compiling
+use Rattle.fm_esc.specs.declared.faults.GraphLimit.{GraphLimit}
+use Rattle.fm_esc.specs.declared.faults.GraphLimit.TheVariants.{Nodes, Links}
+use Rattle.fm_esc.specs.declared.faults.InputFault.{InputFault}
+use Rattle.fm_esc.specs.declared.faults.InputFault.TheVariants as input
 use Rattle.fm_journal.specs.declared.fault.FullKind.{FullKind}
 use Rattle.fm_journal.specs.declared.fault.FullKind.TheVariants.{Records, Numbers, Bytes, Payload}
 use Rattle.fm_journal.specs.declared.fault.FullKind.TheVariants.{Input}
@@ -15,12 +21,15 @@ use Rattle.fm_top.specs.declared.status.ToolStatus.TheVariants as status
 use Rattle.fm_top.specs.declared.stops.Stop.{Stop}
 use Rattle.fm_top.specs.declared.stops.Stop.TheVariants.{Usage, Rules, Topology, Damaged, Read}
 use Rattle.fm_top.specs.declared.stops.Stop.TheVariants.{Write, Disk, Memory, Full, Exists}
+use Rattle.fm_top.specs.declared.stops.Stop.TheVariants.{Graph, DamagedInput}
 
 -- the status that tells it
 abbrev pub status_of : Stop → ToolStatus
 status_of Usage = status.Usage
 status_of (Rules file place kind) = status.Rules
 status_of (Topology line kind) = status.Topology
+status_of (Graph file limit) = status.Graph
+status_of (DamagedInput place) = status.Damaged
 status_of (Damaged disk place) = status.Damaged
 status_of Read = status.ReadFault
 status_of Write = status.WriteFault
@@ -35,6 +44,18 @@ of_sources sources.Read = Read
 of_sources (sources.Rules file place kind) = Rules file place kind
 of_sources (sources.Topology line kind) = Topology line kind
 of_sources sources.NoMemory = Memory
+
+-- what rule files were not compiled for
+abbrev pub of_compiling : CompileFault → Stop
+of_compiling (compiling.Sources fault) = of_sources fault
+of_compiling (compiling.Graph file limit) = Graph file limit
+of_compiling compiling.NoMemory = Memory
+
+-- what compiled files were not listed for
+abbrev pub of_input : InputFault → Stop
+of_input input.Read = Read
+of_input input.Full = Full Input
+of_input input.NoMemory = Memory
 
 -- what a call of the store did not do
 abbrev pub of_store : StoreFault → Stop
@@ -58,6 +79,11 @@ kind_text Bytes = codes "bytes"
 kind_text Payload = codes "payload"
 kind_text Input = codes "input"
 
+-- the word for a limit of graphs
+abbrev pub limit_text : GraphLimit → List ℕ
+limit_text Nodes = codes "nodes"
+limit_text Links = codes "links"
+
 -- the name of a disk
 abbrev pub disk_text : DiskName → List ℕ
 disk_text Conf = codes "conf"
@@ -74,6 +100,9 @@ last_text (Rules file place kind) = rules_text file place kind
 last_text (Topology line kind) = topology_text line kind
 last_text (Damaged disk place) =
     codes "damaged " ++ (disk_text disk ++ (codes " " ++ (decimal place ++ codes "\n")))
+last_text (Graph file limit) =
+    codes "graph " ++ (decimal file ++ (codes " " ++ (limit_text limit ++ codes "\n")))
+last_text (DamagedInput place) = codes "damaged input " ++ (decimal place ++ codes "\n")
 last_text Read = codes "read fault\n"
 last_text Write = []
 last_text Disk = codes "disk fault\n"

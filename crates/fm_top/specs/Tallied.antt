@@ -37,8 +37,8 @@ abbrev pub sum_with : Tally → List Entry → Sum
 sum_with t more = sum_of t.spoken (drained (with_entries (core_book t.core) more))
 
 -- how many entries a tally has taken
-abbrev pub count_of : Tally → ℕ
-count_of t = t.core.base + length t.core.entries
+abbrev pub entry_count : Tally → ℕ
+entry_count t = t.core.base + length t.core.entries
 
 -- why an entry was refused: there are 2^46
 abbrev pub TallyLast : ℕ → Option (Stop × Entry) → Type 0
@@ -51,12 +51,12 @@ TallyLast count _ = ⊥
 pub record Tallied (old new : Tally) (entries : List Entry) (last : Option (Stop × Entry)) : Type 0
   where
     pub same : (more : List Entry) → sum_with new more ≡ sum_with old (entries ++ more)
-    pub refused : TallyLast (count_of new) last
+    pub refused : TallyLast (entry_count new) last
 
 -- A tally in order: its core is, with two modules, there are no more entries than have numbers, and
 -- no more than two records were spoken at each.
 pub record IsTally (t : Tally) : Type 0 where
   pub order : IsInOrder t.core
   pub two : length t.core.hands ≡ 2
-  pub numbered : count_of t ≤ 2 ^ 46
-  pub few : (sum_with t []).spoken ≤ 2 * count_of t
+  pub numbered : entry_count t ≤ 2 ^ 46
+  pub few : (sum_with t []).spoken ≤ 2 * entry_count t

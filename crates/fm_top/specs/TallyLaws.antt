@@ -4,7 +4,7 @@ use Rattle.std.proofs.Common.{refl, sym, ◌∙◌, ap, arith, append_assoc, len
 use Rattle.fm_entry.specs.declared.entry.Entry.{Entry}
 use Rattle.fm_top.specs.declared.stops.Stop.{Stop}
 use Rattle.fm_top.specs.declared.tally.Tally.{Tally}
-use Rattle.fm_top.specs.Tallied.{Tallied, sum_with, count_of}
+use Rattle.fm_top.specs.Tallied.{Tallied, sum_with, entry_count}
 
 pub tallied_none : (a : Tally) → Tallied a a [] None
 tallied_none a = record { same = λ more. refl; refused = tt }
@@ -18,7 +18,7 @@ tallied_on a b c es fs last first then = record {
 }
 
 pub tallied_numbers : (a b : Tally) (es : List Entry) → Tallied a b es None
-    → count_of b ≡ count_of a + length es
+    → entry_count b ≡ entry_count a + length es
 tallied_numbers a b es tallied =
     let counts : b.core.base + length (b.core.entries ++ [])
     ≡ a.core.base + length (a.core.entries ++ (es ++ [])) =

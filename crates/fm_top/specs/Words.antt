@@ -4,17 +4,27 @@ use Rattle.std.specs.Option.{option_map}
 use Rattle.std.specs.Str.{bytes_eq}
 use Rattle.uuid.specs.Text.{parsed}
 use Rattle.fm_top.specs.declared.words.Command.{Command}
-use Rattle.fm_top.specs.declared.words.Command.TheVariants.{Accept, Replay, Init}
+use Rattle.fm_esc.specs.declared.graphs.GraphForm.TheVariants.{Listed, Compiled}
+use Rattle.fm_top.specs.declared.words.Command.TheVariants.{Accept, Replay, Init, Esc, EscInput}
 
 -- the command of one word
 abbrev pub command_in : List ℕ → Option Command
-command_in word = if bytes_eq word (codes "accept") then Some Accept else if bytes_eq word
-    (codes "replay") then Some Replay else None
+command_in word =
+    if bytes_eq word (codes "accept") then Some Accept
+    else (if bytes_eq word (codes "replay") then Some Replay
+    else (if bytes_eq word (codes "esc") then Some (Esc Listed) else None))
 
--- the command of two words: `init` and a namespace
+-- the command of `esc` and an option
+abbrev pub esc_with : List ℕ → Option Command
+esc_with option =
+    if bytes_eq option (codes "-b") then Some (Esc Compiled)
+    else (if bytes_eq option (codes "-l") then Some EscInput else None)
+
+-- the command of two words: `init` and a namespace, or `esc` and an option
 unfoldable pub command_with : List ℕ → List ℕ → Option Command
 command_with word second =
-    if bytes_eq word (codes "init") then option_map Init (parsed second) else None
+    if bytes_eq word (codes "init") then option_map Init (parsed second)
+    else (if bytes_eq word (codes "esc") then esc_with second else None)
 
 -- the command of the words: there are one or two, and they name a command
 abbrev pub command_of : List (List ℕ) → Option Command

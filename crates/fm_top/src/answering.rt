@@ -18,16 +18,26 @@ use fm_line::{LineFault, Whole, is_blank_line, read_line};
 use fm_outer::Sink;
 use std::alloc::Global;
 
+/// Puts all these bytes, by one call.
+pub(crate) fn put_bytes<K: Sink>(out: &mut K, bytes: &[u8]) -> Result<(), Stop>
+    ensures ok { OnOk result (Appends (K.put_bytes out.old) (K.put_bytes out.new) bytes.now) }
+    ensures err { IfErr result
+        (PutCut (sink_at K.Sink out.old) (sink_at K.Sink out.new) bytes.now) }
+    ensures counts { Accounts Stop.Write (K.failures out.old) (K.failures out.new) result }
+{
+    match out.put(bytes) {
+        Ok(()) => Ok(()),
+        Err(_) => Err(Stop::Write),
+    }
+}
+
 /// Puts a whole text, by one call.
 pub(crate) fn put_text<K: Sink>(out: &mut K, text: &str) -> Result<(), Stop>
     ensures ok { OnOk result (Appends (K.put_bytes out.old) (K.put_bytes out.new) text.now) }
     ensures err { IfErr result (PutCut (sink_at K.Sink out.old) (sink_at K.Sink out.new) text.now) }
     ensures counts { Accounts Stop.Write (K.failures out.old) (K.failures out.new) result }
 {
-    match out.put(text.as_bytes()) {
-        Ok(()) => Ok(()),
-        Err(_) => Err(Stop::Write),
-    }
+    put_bytes(out, text.as_bytes())
 }
 
 /// Tells that an entry was taken.

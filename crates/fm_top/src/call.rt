@@ -5,6 +5,7 @@ ghost use Rattle.fm_top.specs.Outside.{Outside, source_at, sink_at, disks_at, ac
 ghost use Rattle.fm_top.specs.Words.{command_of};
 
 use crate::accept::accept;
+use crate::esc::{esc, esc_input};
 use crate::init::init;
 use crate::last::end;
 use crate::replaying::replay;
@@ -22,9 +23,11 @@ use std::alloc::Global;
 /// `accept` appends each line of the input that is an entry to the journal on the disk `err_a`,
 /// which is made where that disk is empty, and answers each line. `replay` takes the entries of the
 /// input into two counters in memory, answers the lines that are refused, and puts what the
-/// counters come to. `init` reads the rule files and the topology, of which at most eight are handed
-/// in, and makes a store of them and of the namespace. Of a command that stops, the last line says
-/// why. Nothing else is touched.
+/// counters come to. `init` reads the rule files, of which at most eight are handed in, and the
+/// topology, and makes a store of them and of the namespace. `esc` reads them and puts what each
+/// rule file comes to over the topology: a line of its sizes, or with `-b` its compiled file.
+/// `esc -l` reads compiled files from the input, and puts the line of each, up to the first bad
+/// one. Of a command that stops, the last line says why. Nothing else is touched.
 /// `now` is the moment of the call, in nanoseconds since 1970; no command asks for it yet.
 pub fn tool<S: Source, K: Sink, D: Disk>(
     alloc: Global,
@@ -69,6 +72,11 @@ pub fn tool<S: Source, K: Sink, D: Disk>(
             let ran = init(alloc, namespace, rules, topo, disks);
             end(alloc, ran, out)
         }
+        Some(Command::Esc(form)) => {
+            let ran = esc(alloc, form, rules, topo, out);
+            end(alloc, ran, out)
+        }
+        Some(Command::EscInput) => end(alloc, esc_input(alloc, input, out), out),
         None => end(alloc, Err(Stop::Usage), out),
     }
 }

@@ -111,10 +111,16 @@ fn make_lent<'a, D: Disk>(
     make_on(alloc, disks, conf)
 }
 
-/// Makes a store of the six disks and the configuration.
-fn make<'a, D: Disk>(
+/// What a store is made of, and where memory for it comes from.
+#[derive(Clone, Copy)]
+struct StorePlan<'a> {
     alloc: Global,
-    kept: &Conf,
+    conf: &'a Conf,
+}
+
+/// Makes a store of the six disks by the plan.
+fn make<'a, D: Disk>(
+    plan: StorePlan<'_>,
     conf: &'a mut D,
     err_a: &'a mut D,
     err_b: &'a mut D,
@@ -122,11 +128,11 @@ fn make<'a, D: Disk>(
     slot_b: &'a mut D,
     flt: &'a mut D,
 ) -> Result<(), StoreFault>
-    requires { IsSpelledConf kept.now }
+    requires { IsSpelledConf plan.conf.now }
     ensures made { MakingEnds (disks_at D.Disk
         (six conf.old err_a.old err_b.old slot_a.old slot_b.old flt.old))
         (disks_at D.Disk (six conf.new err_a.new err_b.new slot_a.new slot_b.new flt.new))
-        kept.now (ran_store result) }
+        plan.entry.conf.now (ran_store result) }
     ensures same_disks { names_of D.name
         (six conf.new err_a.new err_b.new slot_a.new slot_b.new flt.new)
         ≡ names_of D.name (six conf.old err_a.old err_b.old slot_a.old slot_b.old flt.old) }
@@ -140,7 +146,7 @@ fn make<'a, D: Disk>(
         slot_b: Lent { disk: slot_b },
         flt: Lent { disk: flt },
     };
-    let back = make_lent(alloc, lent, kept);
+    let back = make_lent(plan.alloc, lent, plan.conf);
     back.answer()
 }
 
@@ -160,9 +166,9 @@ pub(crate) fn init<S: Source, D: Disk>(
 {
     let got = read_sources(alloc, rules, topo)?;
     let conf = conf_with(alloc, namespace, &got)?;
+    let plan = StorePlan { alloc, conf: &conf };
     make(
-        alloc,
-        &conf,
+        plan,
         &mut disks.conf,
         &mut disks.err_a,
         &mut disks.err_b,

@@ -3,7 +3,7 @@ ghost use Rattle.std.specs.Prelude.{◌≡◌, ◌⊎◌, ◌≤◌, [], Ok, Err
 ghost use Rattle.std.specs.Io.KnownBytes.{Appends};
 ghost use Rattle.fm_journal.specs.declared.fault.FullKind.TheVariants as full;
 ghost use Rattle.fm_top.specs.Accounts.{Accounts};
-ghost use Rattle.fm_top.specs.Stops.{last_text, kind_text, disk_text};
+ghost use Rattle.fm_top.specs.Stops.{last_text, kind_text, disk_text, limit_text};
 ghost use Rattle.fm_top.specs.Outside.{sink_at};
 ghost use Rattle.fm_top.specs.Refusing.{PutCut};
 ghost use Rattle.fm_top.specs.Ending.{EndsAs};
@@ -11,6 +11,7 @@ ghost use Rattle.fm_top.specs.Ending.{EndsAs};
 use crate::answering::put_text;
 use crate::status::ToolStatus;
 use crate::stops::Stop;
+use fm_esc::GraphLimit;
 use fm_init::DiskName;
 use fm_journal::FullKind;
 use fm_outer::Sink;
@@ -102,6 +103,47 @@ fn put_topology<K: Sink>(alloc: Global, line: u32, kind: TopoKind, out: &mut K) 
     put_text(out, text.as_str())
 }
 
+/// The word for a limit of graphs.
+fn limit_word(limit: GraphLimit) -> &'static str
+    ensures { result.now ≡ limit_text limit }
+{
+    match limit {
+        GraphLimit::Nodes => "nodes",
+        GraphLimit::Links => "links",
+    }
+}
+
+/// Tells which rule file comes to more than a limit.
+#[tactic(auto, using(crate::proofs::Sinks::appends_none))]
+fn put_graph<K: Sink>(alloc: Global, file: u32, limit: GraphLimit, out: &mut K) -> Result<(), Stop>
+    ensures ok { OnOk result
+        (Appends (K.put_bytes out.old) (K.put_bytes out.new)
+        (last_text (Stop.Graph file limit))) }
+    ensures err { IfErr result
+        (PutCut (sink_at K.Sink out.old) (sink_at K.Sink out.new)
+        (last_text (Stop.Graph file limit))) }
+    ensures counts { Accounts Stop.Write (K.failures out.old) (K.failures out.new) result }
+{
+    let word = limit_word(limit);
+    let text = format!(in alloc; "graph {file} {word}\n")?;
+    put_text(out, text.as_str())
+}
+
+/// Tells where the input holds no compiled file.
+#[tactic(auto, using(crate::proofs::Sinks::appends_none))]
+fn put_damaged_input<K: Sink>(alloc: Global, place: u64, out: &mut K) -> Result<(), Stop>
+    ensures ok { OnOk result
+        (Appends (K.put_bytes out.old) (K.put_bytes out.new)
+        (last_text (Stop.DamagedInput place))) }
+    ensures err { IfErr result
+        (PutCut (sink_at K.Sink out.old) (sink_at K.Sink out.new)
+        (last_text (Stop.DamagedInput place))) }
+    ensures counts { Accounts Stop.Write (K.failures out.old) (K.failures out.new) result }
+{
+    let text = format!(in alloc; "damaged input {place}\n")?;
+    put_text(out, text.as_str())
+}
+
 /// Puts the last line, if there is one.
 fn put_last<K: Sink>(alloc: Global, stop: &Stop, out: &mut K) -> Result<(), Stop>
     ensures ok { OnOk result
@@ -114,6 +156,8 @@ fn put_last<K: Sink>(alloc: Global, stop: &Stop, out: &mut K) -> Result<(), Stop
         Stop::Usage => put_text(out, "usage\n"),
         Stop::Rules { file, place, kind } => put_rules(alloc, *file, *place, kind, out),
         Stop::Topology { line, kind } => put_topology(alloc, *line, *kind, out),
+        Stop::Graph { file, limit } => put_graph(alloc, *file, *limit, out),
+        Stop::DamagedInput { place } => put_damaged_input(alloc, *place, out),
         Stop::Damaged { disk, place } => put_damaged(alloc, *disk, *place, out),
         Stop::Read => put_text(out, "read fault\n"),
         Stop::Disk => put_text(out, "disk fault\n"),

@@ -2,12 +2,13 @@
 //! disks.
 //!
 //! `tool` finds the command in the words and runs it, and `last::end` puts its last line. `init`
-//! reads the rule files and the topology, and makes a store of them. `accept` and `replay` read the
-//! input by one loop, `reading::run`: it reads pieces, cuts them into lines, and answers each line
-//! once, after its entry was taken. What takes the entries is a `takers::Taker`: for `accept` the
-//! journal of reports, which is opened or made first, for `replay` a `tally::Tally`: a core of two
-//! counters in memory, after which the next one goes on. Why a command stops before all is done is
-//! a `Stop`; it gives the last line and the status.
+//! reads the rule files and the topology, and makes a store of them. `esc` puts what they come to,
+//! or lists what `esc -b` put; fm_esc makes its text. `accept` and `replay` read the input by one
+//! loop, `reading::run`: it reads pieces, cuts them into lines, and answers each line once, after
+//! its entry was taken. What takes the entries is a `takers::Taker`: for `accept` the journal of
+//! reports, which is opened or made first, for `replay` a `tally::Tally`: a core of two counters in
+//! memory, after which the next one goes on. Why a command stops before all is done is a `Stop`; it
+//! gives the last line and the status.
 //!
 //! The model of a call is two records of what stands outside, before and after it
 //! (`specs/Outside`). `specs/Calls` says by the command what lies between them; `specs/Order` in
@@ -20,7 +21,7 @@
 //! input with each line answered; between two lines, with each line answered that ended in the
 //! bytes read before; or at a line, with each line before it answered. It says so of any taker, by
 //! what became of the entries; `specs/Accepting` and `specs/Replaying` say what that is for each
-//! command; `specs/Init` says what `init` does.
+//! command; `specs/Init` says what `init` does, and `specs/Esc` what `esc` does.
 //!
 //! The loops carry one relation, `Moved` (`specs/Halting`): from one moment to a later one a piece
 //! was read, the lines that ended in it were answered, and whatever follows goes on from what is
@@ -38,6 +39,7 @@ mod accept;
 mod answering;
 mod call;
 mod counts;
+mod esc;
 mod init;
 mod last;
 mod lent;

@@ -4,6 +4,7 @@ ghost use Rattle.fm_top.specs.Stops.{status_of};
 
 use crate::status::ToolStatus;
 use fm_bytes::NoMemory;
+use fm_esc::{CompileFault, GraphLimit, InputFault};
 use fm_init::{DiskName, StoreFault};
 use fm_journal::FullKind;
 use fm_sources::{RulesKind, SourceFault};
@@ -25,6 +26,15 @@ pub enum Stop {
     Topology {
         line: u32,
         kind: TopoKind,
+    },
+    /// What a rule file comes to is past a limit: its number, and which limit.
+    Graph {
+        file: u32,
+        limit: GraphLimit,
+    },
+    /// The input holds bytes with which no compiled file begins; the first such place.
+    DamagedInput {
+        place: u64,
     },
     /// A disk holds what no run leaves there; its first bad place.
     Damaged {
@@ -54,7 +64,8 @@ impl Stop {
             Stop::Usage => ToolStatus::Usage,
             Stop::Rules { .. } => ToolStatus::Rules,
             Stop::Topology { .. } => ToolStatus::Topology,
-            Stop::Damaged { .. } => ToolStatus::Damaged,
+            Stop::Graph { .. } => ToolStatus::Graph,
+            Stop::Damaged { .. } | Stop::DamagedInput { .. } => ToolStatus::Damaged,
             Stop::Read => ToolStatus::ReadFault,
             Stop::Write => ToolStatus::WriteFault,
             Stop::Disk => ToolStatus::DiskFault,
@@ -122,6 +133,34 @@ impl From<StoreFault> for Stop {
             StoreFault::Damaged { disk, place } => Stop::Damaged { disk, place },
             StoreFault::Exists => Stop::Exists,
             StoreFault::NoMemory => Stop::Memory,
+        }
+    }
+}
+
+impl From<CompileFault> for Stop {
+    ghost use Rattle.fm_top.specs.Stops.{of_compiling};
+
+    ghost from_gives = { λ fault s. s ≡ of_compiling fault };
+
+    fn from(fault: CompileFault) -> Stop {
+        match fault {
+            CompileFault::Sources(fault) => Stop::from(fault),
+            CompileFault::Graph { file, limit } => Stop::Graph { file, limit },
+            CompileFault::NoMemory => Stop::Memory,
+        }
+    }
+}
+
+impl From<InputFault> for Stop {
+    ghost use Rattle.fm_top.specs.Stops.{of_input};
+
+    ghost from_gives = { λ fault s. s ≡ of_input fault };
+
+    fn from(fault: InputFault) -> Stop {
+        match fault {
+            InputFault::Read => Stop::Read,
+            InputFault::Full => Stop::Full(FullKind::Input),
+            InputFault::NoMemory => Stop::Memory,
         }
     }
 }

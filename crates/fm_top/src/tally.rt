@@ -168,7 +168,7 @@ impl Tally {
 
 impl Taker for Tally {
     ghost use Rattle.std.specs.Prelude.{false};
-    ghost use Rattle.fm_top.specs.Tallied.{Tallied, IsTally, count_of};
+    ghost use Rattle.fm_top.specs.Tallied.{Tallied, IsTally, entry_count};
     ghost use Rattle.fm_top.specs.TallyLaws.{tallied_none, tallied_on, tallied_numbers};
 
     ghost TELLS_NUMBERS = { false };
@@ -181,7 +181,7 @@ impl Taker for Tally {
 
     ghost name = { λ a. 0 };
 
-    ghost next = { λ a. count_of a };
+    ghost next = { λ a. entry_count a };
 
     ghost stays = { λ a. tallied_none a };
 

@@ -2,8 +2,9 @@
 ghost use Rattle.std.specs.Prelude.{◌≡◌};
 ghost use Rattle.std.specs.Str.{bytes_eq};
 ghost use Rattle.uuid.specs.Text.{parsed};
-ghost use Rattle.fm_top.specs.Words.{command_in, command_with, command_of};
+ghost use Rattle.fm_top.specs.Words.{command_in, command_with, command_of, esc_with};
 
+use fm_esc::GraphForm;
 use fm_text::ArgText;
 use uuid::Uuid;
 
@@ -16,6 +17,10 @@ pub enum Command {
     Replay,
     /// A store is made of this namespace, the rule files and the topology.
     Init([u8; 16]),
+    /// What each rule file comes to over the topology is put, in this form.
+    Esc(GraphForm),
+    /// The compiled files of the input are listed.
+    EscInput,
 }
 
 /// Whether the word is this text.
@@ -33,6 +38,8 @@ fn command_in(word: &ArgText) -> Option<Command>
         Some(Command::Accept)
     } else if is_word(word, "replay") {
         Some(Command::Replay)
+    } else if is_word(word, "esc") {
+        Some(Command::Esc(GraphForm::Listed))
     } else {
         None
     }
@@ -48,17 +55,33 @@ fn parse_uuid(word: &ArgText) -> Option<[u8; 16]>
     }
 }
 
+/// The command `esc` with an option.
+fn esc_with(option: &ArgText) -> Option<Command>
+    ensures { result ≡ esc_with option.now }
+{
+    if is_word(option, "-b") {
+        Some(Command::Esc(GraphForm::Compiled))
+    } else if is_word(option, "-l") {
+        Some(Command::EscInput)
+    } else {
+        None
+    }
+}
+
 /// The command of two words.
 #[tactic(auto, unfolding(crate::specs::Words::command_with))]
 fn command_with(word: &ArgText, second: &ArgText) -> Option<Command>
     ensures { result ≡ command_with word.now second.now }
 {
-    if !is_word(word, "init") {
-        return None;
-    }
-    match parse_uuid(second) {
-        Some(namespace) => Some(Command::Init(namespace)),
-        None => None,
+    if is_word(word, "init") {
+        match parse_uuid(second) {
+            Some(namespace) => Some(Command::Init(namespace)),
+            None => None,
+        }
+    } else if is_word(word, "esc") {
+        esc_with(second)
+    } else {
+        None
     }
 }
 

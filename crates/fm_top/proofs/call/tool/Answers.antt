@@ -1,7 +1,8 @@
 use Rattle.std.proofs.Common.{refl, rules, Some}
 use Rattle.fm_top.specs.Outside.{sink_at}
-use Rattle.fm_top.specs.declared.words.Command.TheVariants.{Accept, Replay, Init}
+use Rattle.fm_top.specs.declared.words.Command.TheVariants.{Accept, Replay, Init, Esc, EscInput}
 use Rattle.fm_top.proofs.Doing.{does_as, does_accept, does_replay}
+use Rattle.fm_top.proofs.Escs.{does_esc, does_input, esc_standing, input_standing}
 use Rattle.fm_top.proofs.Inits.{does_init, ends_standing}
 use Rattle.fm_top.proofs.call.tool.Goals as goal
 
@@ -28,3 +29,17 @@ returns-in-Some-Init-clause-does g c =
     (does_init _ _ _ c.init-ran.result _
     (ends_standing g.S.Source _ _ _ _ _ _ _ c.init-ran.result c.init-ran.ensures.ends)
     c.end-in-Some-Init.ensures refl refl)
+
+pub returns-in-Some-Esc-clause-does : goal.returns-in-Some-Esc-clause-does
+returns-in-Some-Esc-clause-does g c =
+    does_as _ (Some (Esc c.in-Some-Esc.form)) _ _ _ (search rules)
+    (does_esc _ _ (sink_at g.K.Sink c.esc-ran.new.out) _ c.esc-ran.result _
+    (esc_standing g.S.Source _ _ _ _ _ _ _ c.esc-ran.result c.esc-ran.ensures)
+    c.end-in-Some-Esc.ensures refl refl refl)
+
+pub returns-in-Some-EscInput-clause-does : goal.returns-in-Some-EscInput-clause-does
+returns-in-Some-EscInput-clause-does g c =
+    does_as _ (Some EscInput) _ _ _ (search rules)
+    (does_input _ _ (sink_at g.K.Sink c.esc_input.new.out) c.esc_input.result _
+    (input_standing g.S.Source _ _ _ _ c.esc_input.result c.esc_input.ensures)
+    c.end-in-Some-EscInput.ensures refl refl refl refl)
