@@ -99,7 +99,7 @@ fn greatest_of(
         let bits = found(rt, alloc, graph, less, root, allowed);
         // The search knows no story without a report.
         let searched = union_of(stories.as_slice(), 0, allowed).unwrap_or(bits & !REPORTS);
-        assert_eq!(rt; bits, searched);
+        assert!(rt; bits == searched);
         put(rt, &mut greatest, bits);
     }
     greatest
@@ -116,7 +116,7 @@ fn agrees(
     allowed: u32,
 ) {
     let bits = bits_in(rt, alloc, graph, root, live);
-    assert_eq!(rt; greatest.get(allowed as usize).copied(), Some(bits));
+    assert!(rt; greatest.get(allowed as usize).copied() == Some(bits));
 }
 
 /// Asserts that the set is the one of these while the reports go in this order.
@@ -250,9 +250,9 @@ fn less_one_counted<L: Ledger>(
     let mut steps = Steps::<L>::open(blank);
     let (first, then) = want;
     let mut live = live_of(rt, alloc, graph, root);
-    assert_eq!(rt; bits_in(rt, alloc, graph, root, &live), first);
+    assert!(rt; bits_in(rt, alloc, graph, root, &live) == first);
     lose(rt, graph, &mut live, gone, &mut steps);
-    assert_eq!(rt; bits_in(rt, alloc, graph, root, &live), then);
+    assert!(rt; bits_in(rt, alloc, graph, root, &live) == then);
 }
 
 fn less_one(rt: &impl Abort, alloc: Global, graph: &Graph, root: u32, gone: u32, want: (u32, u32)) {
@@ -294,7 +294,7 @@ fn less_link_counted<L: Ledger>(
     let mut steps = Steps::<L>::open(blank);
     let mut live = live_of(rt, alloc, graph, 4);
     live.cut(graph, gone, &mut steps);
-    assert_eq!(rt; bits_in(rt, alloc, graph, 4, &live), want);
+    assert!(rt; bits_in(rt, alloc, graph, 4, &live) == want);
 }
 
 fn less_link(rt: &impl Abort, alloc: Global, graph: &Graph, gone: Link, want: u32) {

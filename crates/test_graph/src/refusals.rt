@@ -50,7 +50,7 @@ fn with_instance(
     let nodes = five_nodes(rt, alloc, 1, 0, 0);
     let engines = one_engine(rt, alloc, 1, 1, 1);
     let instances = three_instances(rt, alloc, causes, effects, counts);
-    assert_eq!(rt; refusal_of(alloc, nodes, engines, instances), want);
+    assert!(rt; refusal_of(alloc, nodes, engines, instances) == want);
 }
 
 /// Asserts which refusal comes of these nodes and engines.
@@ -62,7 +62,7 @@ fn with_parts(
     want: Option<GraphFault>,
 ) {
     let instances = three_instances(rt, alloc, &[2], &[0], (1, 1));
-    assert_eq!(rt; refusal_of(alloc, nodes, engines, instances), want);
+    assert!(rt; refusal_of(alloc, nodes, engines, instances) == want);
 }
 
 fn with_nodes(

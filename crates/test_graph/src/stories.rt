@@ -6,7 +6,7 @@ use ev_graph::{Graph, Link};
 use std::process::Abort;
 
 fn tells(rt: &impl Abort, graph: &Graph, root: u32, seen: &[u32], story: &[u32], want: bool) {
-    assert_eq!(rt; check_story(graph, root, seen, story), want);
+    assert!(rt; check_story(graph, root, seen, story) == want);
 }
 
 #[test]
@@ -47,7 +47,7 @@ fn tells_less(rt: &impl Abort, graph: &Graph, less: &[Link], story: &[u32], want
     } else {
         None
     };
-    assert_eq!(rt; told, want);
+    assert!(rt; told == want);
 }
 
 #[test]
