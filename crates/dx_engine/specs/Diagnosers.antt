@@ -1,0 +1,32 @@
+-- Diagnosis modules.
+use Rattle.std.specs.Prelude.{ℕ, map}
+use Rattle.ev_graph.specs.Lawful.{GraphValue}
+use Rattle.dx_rules.specs.declared.rulebook.Rulebook.{Rulebook}
+use Rattle.dx_state.specs.Configured.{Rules, Single, unguarded}
+use Rattle.dx_restore.specs.declared.parts.Loaded.{Loaded}
+use Rattle.dx_standing.specs.Standing.{StandingParts}
+use Rattle.dx_standing.specs.declared.standing.StandingState.{StandingState}
+use Rattle.dx_turn.specs.Standing.{still_of}
+
+-- its rules, and what stands under them
+pub record DiagnoserOf : Type 0 where
+  pub rules : Rulebook
+  pub standing : StandingState
+
+-- the rules of the module of a number with one configuration
+abbrev pub single_rules : ℕ → ℕ → GraphValue → Rules
+single_rules own conf g = record {
+  own = own;
+  configurations = Single conf (record { graph = g; guarding = unguarded });
+}
+
+-- what stands of a state that was loaded
+abbrev pub standing_parts : Loaded → StandingParts
+standing_parts l = record {
+  conf = l.conf;
+  time = l.time;
+  next = l.next;
+  cases = map still_of l.cases.items;
+  solved = l.solved.items;
+  engines = l.engines.items;
+}

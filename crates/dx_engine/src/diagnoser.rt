@@ -1,0 +1,123 @@
+//! Diagnosis modules.
+
+ghost use Rattle.std.specs.Prelude.{◌≡◌, map, IfOk, IsTrue};
+ghost use Rattle.dx_meaning.specs.Fresh.{first_of, fresh_of};
+ghost use Rattle.dx_rules.specs.Rulebooks.{rules_of};
+ghost use Rattle.dx_standing.specs.Rows.{row_of};
+ghost use Rattle.dx_standing.specs.Standing.{state_of};
+ghost use Rattle.dx_state.specs.Configured.{found_at};
+ghost use Rattle.dx_step.specs.Lawful.{are_rules, is_there};
+ghost use Rattle.dx_engine.specs.Diagnosers.{single_rules};
+
+use crate::loading::load_standing;
+use crate::saving::save_standing;
+use dx_rules::{Configs, Rulebook, Ruled};
+use dx_standing::{OpenRow, StandingState};
+use dx_turn::declares;
+use ev_graph::{Graph, NoMemory};
+use fm_core::{LoadFault, Module};
+use fm_entry::{Entry, ListEvent};
+use fm_name::Class;
+use std::alloc::Global;
+use std::marker::Model;
+
+/// A diagnosis module: its rules, and its state.
+#[derive(Drop)]
+pub struct Diagnoser {
+    rules: Rulebook,
+    standing: StandingState,
+}
+
+impl Model for Diagnoser {
+    ghost use Rattle.dx_rules.specs.Rulebooks.{rules_of};
+    ghost use Rattle.dx_standing.specs.Standing.{IsStanding};
+    ghost use Rattle.dx_engine.specs.Diagnosers.{DiagnoserOf};
+
+    ghost Value = { DiagnoserOf };
+
+    ghost view = { λ d. record { rules = d.rules; standing = d.standing } };
+
+    ghost invariant = { λ d. IsStanding (rules_of d.rules) d.standing };
+}
+
+impl Diagnoser {
+    /// The module with these rules, as `dx_standing::can_begin` asks, to which nothing has happened.
+    pub fn with_rules(alloc: Global, rules: Rulebook) -> Result<Diagnoser, NoMemory>
+        requires rules { IsTrue (are_rules (rules_of rules)) }
+        requires there { IsTrue (is_there (found_at (rules_of rules).configurations
+            (first_of (rules_of rules).configurations))) }
+        ensures rules { IfOk result (λ d. d.rules ≡ rules) }
+        ensures state { IfOk result (λ d. state_of d.standing ≡ fresh_of (rules_of rules)) }
+    {
+        let standing = StandingState::fresh(alloc, &rules)?;
+        Ok(Diagnoser { rules, standing })
+    }
+
+    /// The module of a number with a graph as its one configuration, of some number, to which
+    /// nothing has happened.
+    pub fn new(alloc: Global, own: u32, conf: u32, graph: Graph) -> Result<Diagnoser, NoMemory>
+        requires { IsTrue (are_rules (single_rules own conf graph)) }
+        ensures rules { IfOk result (λ d. rules_of d.rules ≡ single_rules own conf graph) }
+        ensures state { IfOk result
+            (λ d. state_of d.standing ≡ fresh_of (single_rules own conf graph)) }
+    {
+        let ruled = Ruled { graph };
+        let configs = Configs::Single {
+            number: conf,
+            ruled,
+        };
+        Diagnoser::with_rules(alloc, Rulebook { own, configs })
+    }
+
+    /// The open cases, in order of number.
+    pub fn open_rows(&self, alloc: Global) -> Result<Vec<OpenRow>, NoMemory>
+        ensures { IfOk result (λ rows.
+            rows.items ≡ map (row_of self.now.rules.own) (state_of self.now.standing).open_cases) }
+    {
+        self.standing.open_rows(alloc, self.rules.own)
+    }
+
+    /// The last word of each solved case, in order of number.
+    pub fn solved(&self) -> &[ListEvent]
+        ensures { result.now ≡ (state_of self.now.standing).solved }
+    {
+        self.standing.solved()
+    }
+}
+
+impl Module for Diagnoser {
+    ghost use Rattle.fm_core.specs.Meaning.{Diagnosing};
+    ghost use Rattle.dx_meaning.specs.DiagnoserMeaning.{diagnoser_meaning};
+    ghost use Rattle.dx_rules.specs.Rulebooks.{rules_of};
+    ghost use Rattle.dx_standing.specs.Standing.{state_of};
+
+    ghost meaning = { λ d. diagnoser_meaning (rules_of d.rules) };
+
+    ghost state = { λ d. Diagnosing (state_of d.standing) };
+
+    fn subscribes(&self, class: &Class) -> bool {
+        declares(self.rules.graph(self.standing.conf()), class)
+    }
+
+    fn conf(&self) -> Option<u32> {
+        Some(self.standing.conf())
+    }
+
+    fn step(
+        &mut self,
+        alloc: Global,
+        number: u64,
+        entry: &Entry,
+    ) -> Result<Vec<ListEvent>, NoMemory> {
+        self.standing.turn(alloc, &self.rules, number, entry)
+    }
+
+    fn save(&self, out: &mut Vec<u8>) -> Result<(), NoMemory> {
+        save_standing(&self.rules, &self.standing, out)
+    }
+
+    fn load(&mut self, alloc: Global, bytes: &[u8]) -> Result<(), LoadFault> {
+        self.standing = load_standing(alloc, &self.rules, bytes)?;
+        Ok(())
+    }
+}
