@@ -1,2 +1,4 @@
 pub mod Books
+pub mod LogReads
 pub mod Logged
+pub mod SpelledOnce

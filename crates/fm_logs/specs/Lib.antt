@@ -1,4 +1,5 @@
 pub mod Contents
+pub mod LogReads
 pub mod LogsBook
 pub mod LogsLimits
 pub mod LogsOf

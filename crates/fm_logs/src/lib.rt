@@ -1,5 +1,5 @@
 //! What six disks read as, and the logs of a store: what the taking of an entry and the commit of a
-//! step write.
+//! step write, and what is read of them.
 //!
 //! A store keeps a book on six disks. One disk has its configurations, two have error journals, of
 //! which one is active, two have slots, of which one is in force, and one has the fault log. The
@@ -18,15 +18,17 @@
 //! (`AcceptDoes`, `CommitDoes`), and one on each moment of the call: a crash leaves the log of
 //! before, or the log with the entry or the words. Nothing is answered as done before it is on the
 //! disk in every image. After `Disk` the logs are closed: each later call answers `Closed` with the
-//! disk that failed and its count, and writes nothing. The law over books is on functions without
-//! a body: while logs stand for a lawful book, each image of the six disks, at each moment of a
-//! call, reads as the book of before or as the one after the move.
+//! disk that failed and its count, and writes nothing. `spoken` and `logged` read a log and change
+//! nothing: the records in order (`AreOrdered`), and the entries. The law over books is on
+//! functions without a body: while logs stand for a lawful book, each image of the six disks, at
+//! each moment of a call, reads as the book of before or as the one after the move.
 #![tactic(auto)]
 
 mod disks;
 mod fault;
 mod laws;
 mod logs;
+mod reading;
 
 pub use disks::{DiskName, Disks};
 pub use fault::StoreFault;

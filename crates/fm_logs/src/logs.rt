@@ -12,10 +12,13 @@ ghost use Rattle.fm_logs.specs.LogsOf.{name_of_two, FrameRefused, Frames, LogsKe
 ghost use Rattle.fm_logs.specs.LogsOf.{AcceptDoes, AcceptLeaves, WordsRefused, CommitDoes};
 ghost use Rattle.fm_logs.specs.LogsLimits.{logs_of};
 ghost use Rattle.fm_logs.specs.LogsOf.{CommitLeaves, CanTakeFrame, with_frame};
+ghost use Rattle.fm_logs.specs.LogReads.{AreLogged, AreSpoken, ReadsLogged, ReadsSpoken, UnreadLog};
+ghost use Rattle.fm_logs.specs.declared.disks.DiskName.TheVariants.{Flt};
 
 use crate::disks::DiskName;
 use crate::fault::StoreFault;
-use fm_entry::{Entry, write_entry};
+use crate::reading::{EntrySpelling, read_log, read_records};
+use fm_entry::{Entry, Spoken, write_entry};
 use fm_journal::{Frame, FrameFault, FullKind, Journal, JournalFault};
 use fm_outer::Disk;
 use std::alloc::Global;
@@ -283,6 +286,39 @@ impl<D: Disk> Logs<D> {
         self.append_words(frame)?;
         self.cursors[own as usize] = number + 1;
         Ok(Committed::Done)
+    }
+
+    /// The records of the fault log, by number and those of one number by module. The disk is only
+    /// read, once. `Damaged` never comes while the logs keep records.
+    pub fn spoken(&mut self, alloc: Global) -> Result<Vec<Spoken>, StoreFault>
+        ensures reads { ReadsSpoken D.Disk self.old self.new }
+        ensures found { IfOk result (λ found. AreSpoken D.Disk self.old self.new found.items) }
+        ensures refused { IfErr result (UnreadLog D.Disk Flt self.old self.new self.old.flt.disk
+            self.new.flt.disk) }
+    {
+        if let Some((disk, faults)) = self.closed {
+            return Err(StoreFault::Closed { disk, faults });
+        }
+        read_records(alloc, &mut self.flt)
+    }
+
+    /// The entries of the active error journal, which may begin before the base. The disk is only
+    /// read, once. `Damaged` never comes while the logs keep entries.
+    pub fn logged(&mut self, alloc: Global) -> Result<Vec<Entry>, StoreFault>
+        ensures reads { ReadsLogged D.Disk self.old self.new }
+        ensures found { IfOk result (λ found. AreLogged D.Disk self.old self.new found.items) }
+        ensures refused { IfErr result (UnreadLog D.Disk (name_of_two self.old.second) self.old
+            self.new self.old.active.disk self.new.active.disk) }
+    {
+        if let Some((disk, faults)) = self.closed {
+            return Err(StoreFault::Closed { disk, faults });
+        }
+        read_log(
+            alloc,
+            active_name(self.second),
+            &mut self.active,
+            EntrySpelling,
+        )
     }
 
     /// The base moves to the end of the entries, which are dropped.

@@ -28,16 +28,16 @@ use Rattle.fm_retrace.proofs.Come.{all_at}
 use Rattle.fm_retrace.specs.declared.retraced.Retraced.{Retraced}
 use Rattle.fm_store.specs.Adopting.{Adopts, AdoptRefused, IsAdopted, IsHandOf, KnowAll}
 use Rattle.fm_store.specs.Beside.{beside_of}
-use Rattle.fm_store.specs.FaultLog.{BeginsAt, FaultsDamage, RecordsKept}
+use Rattle.fm_looks.specs.FaultLog.{BeginsAt, FaultsDamage, RecordsKept}
 use Rattle.fm_store.specs.Loading.{AreAtBase, AreSilent, BaseRefused, states_of}
-use Rattle.fm_store.specs.Looks.{LookCause}
+use Rattle.fm_looks.specs.Looks.{LookCause}
 use Rattle.fm_store.specs.Opened.{OpenedOf, Opens, disks_of, fault_at}
-use Rattle.fm_store.specs.Opening.{unfloored_book}
+use Rattle.fm_looks.specs.Opening.{unfloored_book}
 use Rattle.fm_store.specs.StoreLeft.{store_disk}
 use Rattle.fm_store.specs.StoreLimits.{base_of}
 use Rattle.fm_store.specs.StoreOf.{StoreOf, made_modules, of_two}
 use Rattle.fm_store.specs.declared.adopting.Beside.{Beside}
-use Rattle.fm_store.specs.declared.look.LookFault.{LookFault}
+use Rattle.fm_looks.specs.declared.look.LookFault.{LookFault}
 use Rattle.fm_store.proofs.Adopts.{adopts, base_refused, begins, log_refused}
 use Rattle.fm_store.proofs.Loads.{loaded_back, loaded_length}
 use Rattle.fm_store.proofs.Retold.{hands_at, hands_cursors, hands_length}

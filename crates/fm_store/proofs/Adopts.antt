@@ -31,20 +31,20 @@ use Rattle.fm_saved.specs.declared.conf.Conf.{Conf}
 use Rattle.fm_slots.specs.Format.{SlotOf}
 use Rattle.fm_slots.specs.InForce.{in_force}
 use Rattle.fm_store.specs.Adopting.{Adopts, AdoptRefused, HandsFollow, KnowAll}
-use Rattle.fm_store.specs.Bases.{newest_of}
-use Rattle.fm_store.specs.FaultLog.{BeginsAt, FaultsDamage, RecordsKept}
+use Rattle.fm_looks.specs.Bases.{newest_of}
+use Rattle.fm_looks.specs.FaultLog.{BeginsAt, FaultsDamage, RecordsKept}
 use Rattle.fm_store.specs.Loading.{AreAtBase, AreSilent, BaseRefused, states_of}
-use Rattle.fm_store.specs.Looks.{LookCause}
+use Rattle.fm_looks.specs.Looks.{LookCause}
 use Rattle.fm_store.specs.Opened.{OpenedOf, Opens, disks_of, fault_at}
-use Rattle.fm_store.specs.Opening.{WasRead, AllStorePass, FirstStoreFinds, FitRecords, LoadsStates}
-use Rattle.fm_store.specs.Opening.{LogDamage, RecordsDamage, SaysCheckpoint, all_looks, book_read}
-use Rattle.fm_store.specs.Opening.{floored_book, from_base, slot_disk, unfloored_book}
+use Rattle.fm_looks.specs.Opening.{WasRead, AllStorePass, FirstStoreFinds, FitRecords, LoadsStates}
+use Rattle.fm_looks.specs.Opening.{LogDamage, RecordsDamage, SaysCheckpoint, all_looks, book_read}
+use Rattle.fm_looks.specs.Opening.{floored_book, from_base, slot_disk, unfloored_book}
 use Rattle.fm_store.specs.StoreLimits.{base_of}
 use Rattle.fm_store.specs.StoreOf.{StoreOf, StoreStandsFor, KnowConfs, SlotsSay, made_modules}
-use Rattle.fm_store.specs.declared.look.LookFault.{LookFault}
-use Rattle.fm_store.specs.declared.look.LookFault.TheVariants.{Disk as Failed}
-use Rattle.fm_store.specs.declared.look.LookFault.TheVariants.{Damaged as IsDamaged}
-use Rattle.fm_store.specs.declared.look.LookFault.TheVariants.{NoMemory as WantsMemory}
+use Rattle.fm_looks.specs.declared.look.LookFault.{LookFault}
+use Rattle.fm_looks.specs.declared.look.LookFault.TheVariants.{Disk as Failed}
+use Rattle.fm_looks.specs.declared.look.LookFault.TheVariants.{Damaged as IsDamaged}
+use Rattle.fm_looks.specs.declared.look.LookFault.TheVariants.{NoMemory as WantsMemory}
 use Rattle.fm_store.proofs.BaseSlots.{images_keep, images_beside}
 use Rattle.fm_store.proofs.Loads.{loaded_back}
 use Rattle.fm_store.proofs.OpeningLaws.{reads_as_book, says_base}

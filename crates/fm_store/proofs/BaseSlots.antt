@@ -7,7 +7,7 @@ use Rattle.fm_outer.specs.Moments.{IsSettled}
 use Rattle.fm_outer.specs.declared.disk.Disk.{Ghosts}
 use Rattle.fm_slots.specs.Format.{SlotOf, IsSlot}
 use Rattle.fm_slots.specs.InForce.{in_force, InForce, InForceBeside, KeepsInForce}
-use Rattle.fm_store.specs.Bases.{newest_of}
+use Rattle.fm_looks.specs.Bases.{newest_of}
 use Rattle.fm_store.specs.StoreOf.{fills_second, of_two}
 
 -- the slot that the next checkpoint doesn't write is the one in force, or none is

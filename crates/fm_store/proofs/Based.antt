@@ -28,28 +28,6 @@ use Rattle.fm_store.specs.StoreOf.{KnowConfs}
 use Rattle.fm_store.specs.StoreCalls.{saves_of}
 use Rattle.fm_store.specs.StoreLeft.{store_based}
 
--- the number in force after one entry, and then more
-force_cons : (n : ℕ) (e : Entry) (es : List Entry)
-    → force_along n (e ∷ es) ≡ force_along (force_along n (e ∷ [])) es
-force_cons n (Report class path moment payload) es = refl
-force_cons n (Tick moment) es = refl
-force_cons n (Repaired path moment) es = refl
-force_cons n (Replaced path moment) es = refl
-force_cons n (Acquit case moment) es = refl
-force_cons n (Reload conf moment) es = refl
-
-pub force_step : (n m : ℕ) (e : Entry) (es : List Entry) → m ≡ force_along n (e ∷ [])
-    → force_along m es ≡ force_along n (e ∷ es)
-force_step n m e es is = ap (λ (x : ℕ). force_along x es) is ∙ sym (force_cons n e es)
-
-pub force_append : (n : ℕ) (es more : List Entry)
-    → force_along n (es ++ more) ≡ force_along (force_along n es) more
-force_append n [] more = refl
-force_append n (e ∷ es) more =
-    force_cons n e (es ++ more)
-    ∙ force_append (force_along n (e ∷ [])) es more
-    ∙ ap (λ (m : ℕ). force_along m more) (sym (force_cons n e es))
-
 pub greatest_push : (t : ℕ) (es : List Entry) (e : Entry)
     → greatest_from t (es ++ e ∷ []) ≡ max (greatest_from t es) (moment_of e)
 greatest_push t [] e = refl

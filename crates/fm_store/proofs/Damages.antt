@@ -16,13 +16,14 @@ use Rattle.fm_saved.specs.Saved.{FitsLongText}
 use Rattle.fm_saved.specs.declared.checkpoint.Checkpoint.{Checkpoint}
 use Rattle.fm_saved.specs.declared.conf.Conf.{Conf}
 use Rattle.fm_slots.specs.Format.{SlotOf}
-use Rattle.fm_store.specs.Opening.{Good, FirstBad, LogDamage, ConfsDamage, EntriesDamage, FitConfs}
-use Rattle.fm_store.specs.Opening.{FitEntries, SaysCheckpoint, LoadsStates, RecordsDamage}
-use Rattle.fm_store.specs.Opening.{FitRecords}
-use Rattle.fm_store.specs.Opening.{unfloored_book}
+use Rattle.fm_looks.specs.Opening.{Good, FirstBad, LogDamage, ConfsDamage, EntriesDamage, FitConfs}
+use Rattle.fm_looks.specs.Opening.{FitEntries, SaysCheckpoint, LoadsStates, RecordsDamage}
+use Rattle.fm_looks.specs.Opening.{FitRecords}
+use Rattle.fm_looks.specs.Opening.{unfloored_book}
 use Rattle.fm_store.proofs.FirstRecords.{lawful_left}
-use Rattle.fm_store.proofs.Reloads.{behind_take}
-use Rattle.fm_store.proofs.Spelled.{SpellsOne, each_one, each_counted, each_take, checkpoint_once}
+use Rattle.fm_looks.proofs.Reloads.{behind_take}
+use Rattle.fm_logs.proofs.SpelledOnce.{SpellsOne, each_one}
+use Rattle.fm_looks.proofs.Spelled.{each_counted, each_take, checkpoint_once}
 
 -- bytes are a log in one way at most
 pub same_log : {A : Type 0} (spells : List ℕ → A → Type 0) → SpellsOne spells → (bytes : List ℕ)

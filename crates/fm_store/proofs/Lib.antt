@@ -1,4 +1,5 @@
 pub mod StoreReads
+pub mod StoreReading
 pub mod StoreAccepts
 pub mod StoreCommits
 pub mod Based
@@ -9,20 +10,12 @@ pub mod Saves
 pub mod StoreRotates
 pub mod StoreRotations
 pub mod StoreChanges
-pub mod Spelled
-pub mod Reloads
 pub mod FirstRecords
 pub mod Damages
 pub mod OpeningLaws
-pub mod Looks
-pub mod StoreConfs
-pub mod BaseReads
-pub mod EntryReads
-pub mod ActiveReads
 pub mod OpenReads
 pub mod Loads
 pub mod BaseSlots
 pub mod Retold
-pub mod FaultLogs
 pub mod Adopts
 pub mod Adopted

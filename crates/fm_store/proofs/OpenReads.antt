@@ -21,19 +21,19 @@ use Rattle.fm_logs.specs.declared.disks.DiskName.TheVariants.{SlotB, Flt}
 use Rattle.fm_logs.specs.declared.fault.StoreFault.{StoreFault}
 use Rattle.fm_logs.specs.declared.fault.StoreFault.TheVariants.{Disk, Full, Closed, Damaged, Exists}
 use Rattle.fm_logs.specs.declared.fault.StoreFault.TheVariants.{NoMemory}
-use Rattle.fm_store.specs.Bases.{SlotsKept, SlotsCause}
-use Rattle.fm_store.specs.Entries.{EntriesKept}
-use Rattle.fm_store.specs.Looks.{ConfsKept, LookCause}
+use Rattle.fm_looks.specs.Bases.{SlotsKept, SlotsCause}
+use Rattle.fm_looks.specs.Entries.{EntriesKept}
+use Rattle.fm_looks.specs.Looks.{ConfsKept, LookCause}
 use Rattle.fm_store.specs.Opened.{OpenedOf, Opens, OpenDoes, OpenRefused, RoseOnAny, RestOpens}
 use Rattle.fm_store.specs.Opened.{RestDamage, RestRefused, RestDoes, ErrorsCause, active_disk}
 use Rattle.fm_store.specs.Opened.{fault_at, six_disks}
-use Rattle.fm_store.specs.Opening.{WasRead, StorePasses, FirstStoreFinds, open_looks}
-use Rattle.fm_store.specs.Opening.{LogDamage, ConfsDamage, EntriesDamage, FitConfs}
-use Rattle.fm_store.specs.Opening.{first_checkpoint}
-use Rattle.fm_store.specs.Opening.{at_confs}
-use Rattle.fm_store.specs.declared.look.LookFault.{LookFault}
-use Rattle.fm_store.specs.declared.look.LookFault.TheVariants.{Disk as Failed, Damaged as IsDamaged}
-use Rattle.fm_store.specs.declared.look.LookFault.TheVariants.{NoMemory as WantsMemory}
+use Rattle.fm_looks.specs.Opening.{WasRead, StorePasses, FirstStoreFinds, open_looks}
+use Rattle.fm_looks.specs.Opening.{LogDamage, ConfsDamage, EntriesDamage, FitConfs}
+use Rattle.fm_looks.specs.Opening.{first_checkpoint}
+use Rattle.fm_looks.specs.Opening.{at_confs}
+use Rattle.fm_looks.specs.declared.look.LookFault.{LookFault}
+use Rattle.fm_looks.specs.declared.look.LookFault.TheVariants.{Disk as Failed, Damaged as IsDamaged}
+use Rattle.fm_looks.specs.declared.look.LookFault.TheVariants.{NoMemory as WantsMemory}
 use Rattle.fm_store.specs.declared.opening.OtherDisks.{OtherDisks}
 use Rattle.fm_init.specs.declared.refused.StoreRefused.{StoreRefused}
 

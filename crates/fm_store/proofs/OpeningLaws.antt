@@ -18,15 +18,16 @@ use Rattle.fm_slots.proofs.Forces.{same_slot, damaged_no_slot}
 use Rattle.fm_outer.specs.declared.disk.Disk.{Ghosts}
 use Rattle.fm_init.specs.Making.{AreFirstModules}
 use Rattle.fm_store.specs.Opened.{OpenedOf, Opens, OpensBook}
-use Rattle.fm_store.specs.Opening.{WasRead, DamageAt, AllStorePass, FirstStoreFinds, open_looks}
-use Rattle.fm_store.specs.Opening.{book_read, slot_found, SaysCheckpoint, LoadsStates}
-use Rattle.fm_store.specs.Opening.{first_checkpoint, StorePasses, at_confs, at_slot_a}
-use Rattle.fm_store.specs.Opening.{at_slot_b, at_checkpoint, at_entries, at_states}
-use Rattle.fm_store.specs.Opening.{all_looks, from_base, floored_book, LogDamage, EntriesDamage}
-use Rattle.fm_store.specs.Opening.{RecordsDamage}
+use Rattle.fm_looks.specs.Opening.{WasRead, DamageAt, AllStorePass, FirstStoreFinds, open_looks}
+use Rattle.fm_looks.specs.Opening.{book_read, slot_found, SaysCheckpoint, LoadsStates}
+use Rattle.fm_looks.specs.Opening.{first_checkpoint, StorePasses, at_confs, at_slot_a}
+use Rattle.fm_looks.specs.Opening.{at_slot_b, at_checkpoint, at_entries, at_states}
+use Rattle.fm_looks.specs.Opening.{all_looks, from_base, floored_book, LogDamage, EntriesDamage}
+use Rattle.fm_looks.specs.Opening.{RecordsDamage}
 use Rattle.fm_store.proofs.Damages.{same_log, confs_sound, entries_sound, records_sound}
 use Rattle.fm_store.proofs.Damages.{same_checkpoint, same_states}
-use Rattle.fm_store.proofs.Spelled.{conf_once, entry_once, spoken_once}
+use Rattle.fm_logs.proofs.SpelledOnce.{entry_once, spoken_once}
+use Rattle.fm_looks.proofs.Spelled.{conf_once}
 
 -- what a slot, or the want of one, says of the base
 pub says_base : (fresh : List ModuleState) (known : ℕ) (found : Option (Bool × SlotOf))

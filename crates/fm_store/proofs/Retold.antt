@@ -17,7 +17,7 @@ use Rattle.fm_retrace.specs.declared.retraced.Retraced.{Retraced}
 use Rattle.fm_retrace.proofs.Come.{all_at}
 use Rattle.fm_retrace.proofs.Next.{past_from}
 use Rattle.fm_store.specs.Adopting.{HandsFollow}
-use Rattle.fm_store.specs.FaultLog.{BeginsAt}
+use Rattle.fm_looks.specs.FaultLog.{BeginsAt}
 use Rattle.fm_store.specs.Loading.{AreSilent, states_of}
 
 -- each module bears the number of its place

@@ -32,7 +32,8 @@ use Rattle.fm_store.specs.StoreLimits.{store_of, IsStore}
 use Rattle.fm_store.specs.StoreCalls.{AcceptsOnBook}
 use Rattle.fm_store.proofs.StoreReads.{like_active, says_left}
 use Rattle.fm_store.proofs.StoreReads.{records_left, left_now, says_with}
-use Rattle.fm_store.proofs.Based.{greatest_push, force_append}
+use Rattle.fm_looks.proofs.Reloads.{force_append}
+use Rattle.fm_store.proofs.Based.{greatest_push}
 
 -- no name of an error journal's disk is another name
 pub conf_differs : (second : Bool) → ConfDisk ≢ name_of_two second

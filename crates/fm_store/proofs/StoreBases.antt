@@ -26,7 +26,7 @@ use Rattle.fm_store.specs.StoreOf.{StoreOf, StoreBaseOf, StoreStandsFor, SlotsSa
 use Rattle.fm_store.specs.StoreOf.{fills_second, newest_sequence, greatest_at, force_at}
 use Rattle.fm_store.specs.Slots.{next_slot, kept_slot}
 use Rattle.fm_store.specs.StoreLeft.{store_disk, with_content, OthersAreLeft, MomentsOn, ReadsLike}
-use Rattle.fm_store.specs.StoreLeft.{slot_name}
+use Rattle.fm_looks.specs.Opening.{slot_name}
 use Rattle.fm_store.specs.StoreCalls.{IsNextFrame, checkpoint_at, next_entry}
 use Rattle.fm_store.proofs.Based.{at_end, based_is}
 use Rattle.fm_store.proofs.StoreReads.{like, like_through, left_active, says_with, records_left}

@@ -11,7 +11,8 @@ use Rattle.fm_logs.specs.declared.disks.DiskName.TheVariants.{SlotB, Flt}
 use Rattle.fm_store.specs.Rotating.{ChangesJournal, SpareFails, SlotFails, IsBegun}
 use Rattle.fm_store.specs.Slots.{FillsSlot, FailsSlot}
 use Rattle.fm_store.specs.StoreCalls.{next_entry}
-use Rattle.fm_store.specs.StoreLeft.{AreSameStore, slot_name}
+use Rattle.fm_store.specs.StoreLeft.{AreSameStore}
+use Rattle.fm_looks.specs.Opening.{slot_name}
 use Rattle.fm_store.specs.StoreLimits.{base_of, spare_of, store_of}
 use Rattle.fm_store.specs.StoreOf.{StoreOf, StoreBaseOf, of_two, fills_second}
 use Rattle.fm_store.proofs.StoreAccepts.{name_of_both}

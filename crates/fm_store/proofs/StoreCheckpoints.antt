@@ -17,7 +17,8 @@ use Rattle.fm_logs.specs.declared.fault.StoreFault.{StoreFault}
 use Rattle.fm_store.specs.Slots.{next_slot, kept_slot, FillsSlot, FailsSlot}
 use Rattle.fm_store.specs.StoreCalls.{AreAtEnd, AreLawful, HandsAreDone, saves_of, IsNextFrame}
 use Rattle.fm_store.specs.StoreCalls.{CheckpointsOnBook, next_entry}
-use Rattle.fm_store.specs.StoreLeft.{slot_name, MomentsOn, ReadsLike}
+use Rattle.fm_store.specs.StoreLeft.{MomentsOn, ReadsLike}
+use Rattle.fm_looks.specs.Opening.{slot_name}
 use Rattle.fm_store.specs.StoreOf.{StoreOf, StoreBaseOf, StoreStandsFor, fills_second}
 use Rattle.fm_store.specs.StoreOf.{newest_sequence, greatest_at, force_at}
 use Rattle.fm_store.proofs.Based.{at_end, lawful_at_end, store_based_is}

@@ -26,7 +26,8 @@ use Rattle.fm_logs.specs.declared.disks.DiskName.TheVariants.{Conf as ConfDisk, 
 use Rattle.fm_logs.specs.declared.disks.DiskName.TheVariants.{SlotB, Flt}
 use Rattle.fm_store.specs.StoreOf.{StoreOf, StoreBaseOf, StoreStandsFor, SlotsSay, fills_second}
 use Rattle.fm_store.specs.StoreOf.{newest_sequence, greatest_at, force_at, of_two}
-use Rattle.fm_store.specs.StoreLeft.{store_disk, slot_name, OthersAreLeft}
+use Rattle.fm_store.specs.StoreLeft.{store_disk, OthersAreLeft}
+use Rattle.fm_looks.specs.Opening.{slot_name}
 use Rattle.fm_store.specs.Slots.{next_slot, kept_slot}
 use Rattle.fm_store.specs.StoreLimits.{store_of}
 use Rattle.fm_store.specs.StoreCalls.{IsNextFrame, AreAtEnd, AreLawful, HandsAreDone, saves_of}

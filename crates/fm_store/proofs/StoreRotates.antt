@@ -19,7 +19,7 @@ use Rattle.fm_logs.specs.declared.disks.DiskName.TheVariants.{Conf as ConfDisk, 
 use Rattle.fm_logs.specs.declared.disks.DiskName.TheVariants.{SlotB, Flt}
 use Rattle.fm_store.specs.StoreOf.{StoreOf, StoreStandsFor, of_two, fills_second}
 use Rattle.fm_store.specs.StoreLeft.{store_disk, with_content, OthersAreLeft, MomentsOn, ReadsLike}
-use Rattle.fm_store.specs.StoreLeft.{slot_name}
+use Rattle.fm_looks.specs.Opening.{slot_name}
 use Rattle.fm_store.specs.StoreCalls.{next_entry}
 use Rattle.fm_store.specs.StoreLimits.{spare_of}
 use Rattle.fm_store.specs.Rotating.{Anything, with_spare}

@@ -26,7 +26,8 @@ use Rattle.fm_store.specs.Slots.{next_slot}
 use Rattle.fm_store.specs.StoreCalls.{AreAtEnd, AreLawful, HandsAreDone, saves_of, IsNextFrame}
 use Rattle.fm_store.specs.StoreCalls.{next_entry}
 use Rattle.fm_store.specs.StoreLimits.{store_of}
-use Rattle.fm_store.specs.StoreLeft.{store_disk, slot_name, MomentsOn, EachLeft}
+use Rattle.fm_store.specs.StoreLeft.{store_disk, MomentsOn, EachLeft}
+use Rattle.fm_looks.specs.Opening.{slot_name}
 use Rattle.fm_store.specs.StoreLeft.{ReadsLike}
 use Rattle.fm_store.specs.StoreOf.{StoreOf, StoreBaseOf, StoreStandsFor, fills_second, of_two}
 use Rattle.fm_store.proofs.Based.{at_end, lawful_at_end, store_based_is}

@@ -13,7 +13,7 @@ use Rattle.fm_logs.specs.declared.disks.Disks.{Disks}
 use Rattle.fm_logs.specs.declared.fault.StoreFault.{StoreFault}
 use Rattle.fm_logs.specs.declared.fault.StoreFault.TheVariants.{Disk, Damaged, NoMemory}
 use Rattle.fm_store.specs.Opened.{OpenedOf, Opens, RoseOnAny, disks_of}
-use Rattle.fm_store.specs.Opening.{WasRead, AllStorePass, FirstStoreFinds, all_looks, book_read}
+use Rattle.fm_looks.specs.Opening.{WasRead, AllStorePass, FirstStoreFinds, all_looks, book_read}
 use Rattle.fm_store.specs.StoreCalls.{next_entry}
 use Rattle.fm_store.specs.StoreOf.{StoreOf, StoreStandsFor}
 

@@ -4,12 +4,8 @@ pub mod StoreCalls
 pub mod StoreLeft
 pub mod StoreLimits
 pub mod StoreOf
-pub mod Opening
-pub mod Looks
-pub mod Entries
-pub mod Bases
+pub mod StoreReading
 pub mod Opened
 pub mod Loading
-pub mod FaultLog
 pub mod Adopting
 pub mod Beside

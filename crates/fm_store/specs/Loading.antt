@@ -10,7 +10,7 @@ use Rattle.fm_logs.specs.declared.fault.StoreFault.{StoreFault}
 use Rattle.fm_logs.specs.declared.fault.StoreFault.TheVariants.{Damaged, NoMemory}
 use Rattle.fm_retrace.specs.declared.retraced.Retraced.{Retraced}
 use Rattle.fm_saved.specs.Saved.{FitsLongText}
-use Rattle.fm_store.specs.StoreLeft.{slot_name}
+use Rattle.fm_looks.specs.Opening.{slot_name}
 
 -- modules that take entries again, as those of a book
 abbrev pub states_of : {M : Type 0} → ModuleGhosts M → List (Retraced M) → List ModuleState

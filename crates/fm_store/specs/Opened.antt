@@ -19,13 +19,13 @@ use Rattle.fm_logs.specs.declared.disks.Disks.{Disks}
 use Rattle.fm_logs.specs.declared.disks.DiskName.{DiskName}
 use Rattle.fm_logs.specs.declared.fault.StoreFault.{StoreFault}
 use Rattle.fm_logs.specs.declared.fault.StoreFault.TheVariants.{Disk, Damaged, NoMemory}
-use Rattle.fm_store.specs.Bases.{newest_of, SlotsKept, SlotsDamage}
-use Rattle.fm_store.specs.Entries.{EntriesKept}
-use Rattle.fm_store.specs.Opening.{WasRead, AllStorePass, FirstStoreFinds, open_looks, slot_found}
-use Rattle.fm_store.specs.Opening.{from_base, LogDamage, EntriesDamage}
-use Rattle.fm_store.specs.declared.look.LookFault.{LookFault}
-use Rattle.fm_store.specs.declared.look.LookFault.TheVariants.{Disk as Failed, Damaged as IsDamaged}
-use Rattle.fm_store.specs.declared.look.LookFault.TheVariants.{NoMemory as WantsMemory}
+use Rattle.fm_looks.specs.Bases.{newest_of, SlotsKept, SlotsDamage}
+use Rattle.fm_looks.specs.Entries.{EntriesKept}
+use Rattle.fm_looks.specs.Opening.{WasRead, AllStorePass, FirstStoreFinds, open_looks, slot_found}
+use Rattle.fm_looks.specs.Opening.{from_base, LogDamage, EntriesDamage}
+use Rattle.fm_looks.specs.declared.look.LookFault.{LookFault}
+use Rattle.fm_looks.specs.declared.look.LookFault.TheVariants.{Disk as Failed, Damaged as IsDamaged}
+use Rattle.fm_looks.specs.declared.look.LookFault.TheVariants.{NoMemory as WantsMemory}
 use Rattle.fm_store.specs.declared.opening.ErrorsRead.{ErrorsRead}
 use Rattle.fm_store.specs.declared.opening.ErrorsRefused.{ErrorsRefused}
 use Rattle.fm_store.specs.declared.opening.OtherDisks.{OtherDisks}

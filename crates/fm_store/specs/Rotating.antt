@@ -17,7 +17,8 @@ use Rattle.fm_logs.specs.declared.disks.DiskName.{DiskName}
 use Rattle.fm_logs.specs.declared.fault.StoreFault.{StoreFault}
 use Rattle.fm_logs.specs.declared.fault.StoreFault.TheVariants.{Disk, Full}
 use Rattle.fm_store.specs.StoreOf.{StoreOf, StoreStandsFor, fills_second, newest_sequence}
-use Rattle.fm_store.specs.StoreLeft.{MomentsOn, EachLeft, ReadsLike, slot_name, store_based}
+use Rattle.fm_store.specs.StoreLeft.{MomentsOn, EachLeft, ReadsLike, store_based}
+use Rattle.fm_looks.specs.Opening.{slot_name}
 use Rattle.fm_store.specs.StoreCalls.{PutsBase, ClosesAtSlot, NextRefused, checkpoint_at}
 use Rattle.fm_store.specs.StoreCalls.{next_entry}
 use Rattle.fm_store.specs.Slots.{next_slot, kept_slot, FillsSlot, FailsSlot}

@@ -26,7 +26,8 @@ use Rattle.fm_logs.specs.declared.logs.Committed.TheVariants.{Done}
 use Rattle.fm_store.specs.StoreOf.{StoreOf, StoreStandsFor, fills_second}
 use Rattle.fm_store.specs.StoreOf.{newest_sequence, greatest_at, force_at}
 use Rattle.fm_store.specs.Slots.{next_slot, kept_slot}
-use Rattle.fm_store.specs.StoreLeft.{MomentsOn, EachLeft, ReadsLike, ReadsLikeEither, slot_name}
+use Rattle.fm_store.specs.StoreLeft.{MomentsOn, EachLeft, ReadsLike, ReadsLikeEither}
+use Rattle.fm_looks.specs.Opening.{slot_name}
 use Rattle.fm_store.specs.StoreLeft.{store_based}
 
 -- the number of entries ever

@@ -1,5 +1,5 @@
 -- The six disks of a store, and what a crash leaves of them.
-use Rattle.std.specs.Prelude.{◌≡◌, ◌≢◌, ◌⊎◌, ℕ, List, Bool, if◌then◌else◌}
+use Rattle.std.specs.Prelude.{◌≡◌, ◌≢◌, ◌⊎◌, ℕ, List}
 use Rattle.fm_outer.specs.Moments.{LeavesOnly}
 use Rattle.fm_outer.specs.declared.disk.Disk.{Ghosts}
 use Rattle.fm_core.specs.Book.{ModuleState, based}
@@ -30,10 +30,6 @@ AreDisksOf store disks =
 abbrev pub AreSameStore : {D M : Type 0} → Ghosts D → StoreOf D M → StoreOf D M → Type 0
 AreSameStore g old new =
     (name : DiskName) → g.name (store_disk name new) ≡ g.name (store_disk name old)
-
--- the name of a slot's disk
-abbrev pub slot_name : Bool → DiskName
-slot_name second = if second then SlotB else SlotA
 
 -- the contents with this one of the disk of this name
 abbrev pub with_content : DiskName → List ℕ → Contents → Contents

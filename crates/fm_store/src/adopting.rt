@@ -15,7 +15,6 @@ ghost use Rattle.fm_store.specs.StoreLeft.{store_disk};
 ghost use Rattle.fm_store.specs.StoreLimits.{base_of};
 ghost use Rattle.fm_store.specs.StoreOf.{made_modules};
 
-use crate::fault_log::{RecordsRead, open_records};
 use crate::loading::{AtBase, modules_at_base};
 use crate::opened::Opened;
 use crate::opening::store_fault;
@@ -27,6 +26,7 @@ use fm_entry::Entry;
 use fm_init::StoreRefused;
 use fm_journal::Journal;
 use fm_logs::{DiskName, Disks, Logs, LogsParts, StoreFault};
+use fm_looks::{RecordsRead, open_records};
 use fm_outer::Disk;
 use fm_retrace::hands_of;
 use fm_saved::{Checkpoint, SavedStates};

@@ -7,8 +7,8 @@ ghost use Rattle.fm_logs.specs.ReadsAsBook.{ReadsAsBook};
 ghost use Rattle.fm_logs.specs.StoreBook.{StoreBook};
 ghost use Rattle.fm_init.specs.Making.{AreFirstModules};
 ghost use Rattle.fm_store.specs.Opened.{OpenedOf, Opens, OpensBook};
-ghost use Rattle.fm_store.specs.Opening.{WasRead, DamageAt, AllStorePass, FirstStoreFinds};
-ghost use Rattle.fm_store.specs.Opening.{all_looks, book_read, open_looks};
+ghost use Rattle.fm_looks.specs.Opening.{WasRead, DamageAt, AllStorePass, FirstStoreFinds};
+ghost use Rattle.fm_looks.specs.Opening.{all_looks, book_read, open_looks};
 
 use fm_outer::Disk;
 

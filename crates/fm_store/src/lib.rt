@@ -1,13 +1,11 @@
 //! A store: six disks that stand for one book at every moment.
 //!
-//! What six contents read as, the two logs that taking an entry and committing a step write, and
-//! how a store is made, are of the crates below. Here a store is opened, takes entries, steps and
-//! checkpoints, and rotates its error journals.
+//! What six contents read as, the two logs that taking an entry and committing a step write, how a
+//! store is made, and the looks at one disk are of the crates below. Here a store is opened, takes
+//! entries, steps and checkpoints, rotates its error journals, and tells what it logged.
 //!
-//! **Model.** Contracts see six disks as one record. An opening is a list of looks (`StoreLook`),
-//! each of which passes or finds damage at a place, and what a look needs of those before it is a
-//! function of what these read (`WasRead`). A store that is open is a record (`OpenedOf`), which
-//! has what the looks read (`Opens`). A store that is there is two parts (`StoreOf`): its logs,
+//! **Model.** Contracts see six disks as one record. A store that is open is a record (`OpenedOf`),
+//! which has what the looks of an opening read (`Opens`). A store that is there is two parts (`StoreOf`): its logs,
 //! which a lock may hold, and what stands beside them, the modules as they were made among it. It
 //! stands for a book (`StoreStandsFor`) where its logs keep the book's entries and records and its
 //! other disks say the rest, in each image.
@@ -31,15 +29,9 @@
 #![tactic(auto)]
 
 mod adopting;
-mod base;
 mod checkpoints;
-mod confs;
-mod entries;
-mod entry_reader;
-mod fault_log;
 mod laws;
 mod loading;
-mod look;
 mod opened;
 mod opening;
 mod slots;

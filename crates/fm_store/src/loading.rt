@@ -11,10 +11,10 @@ ghost use Rattle.fm_logs.specs.StoreBook.{HaveConf};
 ghost use Rattle.fm_store.specs.Loading.{states_of, AreSilent, AreAtBase, BaseRefused};
 ghost use Rattle.fm_store.specs.StoreOf.{made_modules};
 
-use crate::slots::slot_disk;
 use fm_bytes::{Items, NoMemory};
 use fm_core::{LoadFault, Module};
 use fm_logs::StoreFault;
+use fm_looks::slot_disk;
 use fm_retrace::Retraced;
 use fm_saved::{SavedBytes, SavedStates};
 use std::alloc::Global;

@@ -5,13 +5,12 @@ ghost use Rattle.fm_logs.specs.Contents.{WereOnlyRead};
 ghost use Rattle.fm_logs.specs.StoreBook.{force_along};
 ghost use Rattle.fm_store.specs.Opened.{OpenDoes, opened_disks, disks_of};
 
-use crate::confs::open_confs;
-use crate::entries::force_of;
 use crate::opening::{OtherDisks, open_rest, store_fault};
 use fm_entry::Entry;
 use fm_init::StoreRefused;
 use fm_journal::Journal;
 use fm_logs::{DiskName, Disks};
+use fm_looks::{force_of, open_confs};
 use fm_outer::Disk;
 use fm_saved::{Checkpoint, Conf};
 use std::alloc::Global;

@@ -3,19 +3,16 @@
 ghost use Rattle.std.specs.Prelude.{◌≡◌, ◌<◌, ◌≤◌, ℕ, List, length, Some, None, IfOk, IfErr};
 ghost use Rattle.fm_outer.specs.Moments.{OnlyRead};
 ghost use Rattle.fm_logs.specs.Contents.{WereOnlyRead};
-ghost use Rattle.fm_store.specs.Entries.{EntriesKept, AreEntries};
+ghost use Rattle.fm_looks.specs.Entries.{EntriesKept, AreEntries};
 ghost use Rattle.fm_store.specs.Opened.{ErrorsCause, RestDoes, active_disk, errors_back, fault_at};
 ghost use Rattle.fm_store.specs.Opened.{six_disks, opened_disks, AreErrorsRead};
 
-use crate::base::{BaseRead, read_base};
-use crate::confs::ConfsRead;
-use crate::entries::open_entries;
-use crate::look::LookFault;
 use crate::opened::Opened;
 use fm_entry::Entry;
 use fm_init::StoreRefused;
 use fm_journal::Journal;
 use fm_logs::{DiskName, Disks, StoreFault};
+use fm_looks::{BaseRead, ConfsRead, LookFault, open_entries, read_base};
 use fm_outer::Disk;
 use fm_saved::Checkpoint;
 use std::alloc::Global;

@@ -5,7 +5,6 @@ ghost use Rattle.std.specs.Option.{ForSome};
 ghost use Rattle.fm_logs.specs.LogsOf.{name_of_two};
 ghost use Rattle.fm_store.specs.Rotating.{BeginsJournal};
 ghost use Rattle.fm_store.specs.Slots.{Replaces};
-ghost use Rattle.fm_store.specs.StoreLeft.{slot_name};
 ghost use Rattle.fm_store.specs.StoreOf.{of_two};
 
 use fm_journal::Journal;
@@ -13,17 +12,6 @@ use fm_logs::DiskName;
 use fm_outer::{Disk, Failed};
 use fm_slots::{SlotFrame, replace};
 use std::mem;
-
-/// The name of a slot's disk.
-pub(crate) fn slot_disk(second: bool) -> DiskName
-    ensures { result ≡ slot_name second }
-{
-    if second {
-        DiskName::SlotB
-    } else {
-        DiskName::SlotA
-    }
-}
 
 /// Puts the frame into the second of two slots, or into the first.
 pub(crate) fn replace_of_two<D: Disk>(

@@ -1,22 +1,26 @@
 //! A store: its logs, and what stands beside them.
 
 ghost use Rattle.std.specs.Prelude.{◌≡◌, ◌<◌, ◌^◌, ◌∷◌, [], List, length, slice_get, Some, All};
-ghost use Rattle.std.specs.Prelude.{◌↔◌, ◌≤◌, IsTrue};
+ghost use Rattle.std.specs.Prelude.{◌↔◌, ◌≤◌, IsTrue, IfOk, IfErr};
 ghost use Rattle.std.specs.Option.{option_map};
 ghost use Rattle.fm_core.specs.Book.{ModuleState, greatest_from};
 ghost use Rattle.fm_entry.specs.Entries.{IsSpelled};
 ghost use Rattle.fm_logs.specs.LogsBook.{IsStepOf};
-ghost use Rattle.fm_logs.specs.LogsOf.{AcceptDoes, CommitDoes};
+ghost use Rattle.fm_logs.specs.LogReads.{AreLogged, AreOrdered, AreSpoken, ReadsLogged};
+ghost use Rattle.fm_logs.specs.LogReads.{ReadsSpoken, UnreadLog};
+ghost use Rattle.fm_logs.specs.LogsOf.{AcceptDoes, CommitDoes, name_of_two};
+ghost use Rattle.fm_logs.specs.declared.disks.DiskName.TheVariants.{Flt};
 ghost use Rattle.fm_logs.specs.StoreBook.{StoreBook, IsLawfulStore, store_accepted, force_along};
 ghost use Rattle.fm_store.specs.StoreOf.{StoreStandsFor, greatest_at, force_at};
 ghost use Rattle.fm_store.specs.StoreLeft.{AreSameStore, AreDisksOf};
 ghost use Rattle.fm_store.specs.StoreCalls.{AcceptsOnBook, AreAtEnd, CommitsOnBook, next_entry};
+ghost use Rattle.fm_store.specs.StoreReading.{HasLogged, IsNoDamage};
 
-use crate::entries::{force_after, force_of};
 use crate::store_base::StoreBase;
-use fm_entry::Entry;
+use fm_entry::{Entry, Spoken};
 use fm_journal::Frame;
 use fm_logs::{Committed, DiskName, Disks, Logs, StoreFault};
+use fm_looks::{force_after, force_of};
 use fm_outer::Disk;
 use std::alloc::Global;
 use std::marker::Model;
@@ -155,6 +159,50 @@ impl<D: Disk, M> Store<D, M> {
         ensures { result ≡ self.now.logs.closed }
     {
         self.logs.closed()
+    }
+
+    /// The records of the fault log, by number and those of one number by module. The disk is only
+    /// read, once, and the store stands for the same book. `Damaged` never comes while it stands for
+    /// one; a closed store answers `Closed`.
+    pub fn spoken(&mut self, alloc: Global) -> Result<Vec<Spoken>, StoreFault>
+        ensures reads { ReadsSpoken D.Disk self.old.logs self.new.logs }
+        ensures base_same { self.new.base ≡ self.old.base }
+        ensures found { IfOk result
+            (λ found. AreSpoken D.Disk self.old.logs self.new.logs found.items) }
+        ensures refused { IfErr result (UnreadLog D.Disk Flt self.old.logs self.new.logs
+            self.old.logs.flt.disk self.new.logs.flt.disk) }
+        ensures book { (fresh : List ModuleState) (k : StoreBook)
+            → StoreStandsFor D.Disk fresh self.old k → StoreStandsFor D.Disk fresh self.new k }
+        ensures records { (fresh : List ModuleState) (k : StoreBook)
+            → StoreStandsFor D.Disk fresh self.old k
+            → IfOk result (λ found. AreOrdered k.book.records found.items) }
+        ensures undamaged { (fresh : List ModuleState) (k : StoreBook)
+            → StoreStandsFor D.Disk fresh self.old k → IfErr result IsNoDamage }
+        ensures same_disks { AreSameStore D.Disk self.old self.new }
+    {
+        self.logs.spoken(alloc)
+    }
+
+    /// The entries of the active error journal, which are those since the last rotation. The disk is
+    /// only read, once, and the store stands for the same book. `Damaged` never comes while it
+    /// stands for one; a closed store answers `Closed`.
+    pub fn logged(&mut self, alloc: Global) -> Result<Vec<Entry>, StoreFault>
+        ensures reads { ReadsLogged D.Disk self.old.logs self.new.logs }
+        ensures base_same { self.new.base ≡ self.old.base }
+        ensures found { IfOk result
+            (λ found. AreLogged D.Disk self.old.logs self.new.logs found.items) }
+        ensures refused { IfErr result (UnreadLog D.Disk (name_of_two self.old.logs.second)
+            self.old.logs self.new.logs self.old.logs.active.disk self.new.logs.active.disk) }
+        ensures book { (fresh : List ModuleState) (k : StoreBook)
+            → StoreStandsFor D.Disk fresh self.old k → StoreStandsFor D.Disk fresh self.new k }
+        ensures entries { (fresh : List ModuleState) (k : StoreBook)
+            → StoreStandsFor D.Disk fresh self.old k
+            → IfOk result (λ found. HasLogged self.old.logs.active.first k.book found.items) }
+        ensures undamaged { (fresh : List ModuleState) (k : StoreBook)
+            → StoreStandsFor D.Disk fresh self.old k → IfErr result IsNoDamage }
+        ensures same_disks { AreSameStore D.Disk self.old self.new }
+    {
+        self.logs.logged(alloc)
     }
 
     /// Takes an entry, and gives its number. After `Ok` each image of the disks has it; after

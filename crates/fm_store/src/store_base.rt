@@ -8,9 +8,10 @@ ghost use Rattle.fm_store.specs.StoreLeft.{AreDisksOf};
 ghost use Rattle.fm_store.specs.StoreLimits.{store_of};
 ghost use Rattle.fm_store.specs.StoreOf.{fills_second, newest_sequence, of_two};
 
-use crate::slots::{begin_journal, put_back, replace_of_two, slot_disk, spare_name};
+use crate::slots::{begin_journal, put_back, replace_of_two, spare_name};
 use fm_journal::Journal;
 use fm_logs::{DiskName, Disks, Logs, LogsParts};
+use fm_looks::slot_disk;
 use fm_outer::{Disk, Failed};
 use fm_saved::SavedStates;
 use fm_slots::SlotFrame;

@@ -1,6 +1,6 @@
 -- The slots and the active error journal were read, or were not.
 use Rattle.std.proofs.Common.{◌≡◌, ℕ, arith, List, Some, Err, length, refl, sym, subst}
-use Rattle.fm_store.specs.Bases.{SlotsCause, SlotsKept}
+use Rattle.fm_looks.specs.Bases.{SlotsCause, SlotsKept}
 use Rattle.fm_init.specs.declared.refused.StoreRefused.{StoreRefused}
 use Rattle.fm_store.specs.Opened.{ErrorsCause, RestDoes, RestOpens, active_disk, opened_of}
 use Rattle.fm_store.specs.Opened.{six_disks}

@@ -6,9 +6,9 @@ use Rattle.fm_entry.specs.declared.entry.Entry.{Entry}
 use Rattle.fm_logs.specs.ReadsAsBook.{AreLoaded}
 use Rattle.fm_outer.specs.Moments.{OnlyRead}
 use Rattle.fm_retrace.specs.Retracing.{AreNumbered, AreWithin}
-use Rattle.fm_store.specs.FaultLog.{BeginsAt, FaultsDamage, RecordsKept}
+use Rattle.fm_looks.specs.FaultLog.{BeginsAt, FaultsDamage, RecordsKept}
 use Rattle.fm_store.specs.Loading.{AreAtBase, BaseRefused, states_of}
-use Rattle.fm_store.specs.Looks.{LookCause}
+use Rattle.fm_looks.specs.Looks.{LookCause}
 use Rattle.fm_store.specs.StoreOf.{made_modules}
 use Rattle.fm_store.proofs.Adopted.{adopted_read, cursors_length, is_adopted, loaded_numbers}
 use Rattle.fm_store.proofs.Adopted.{refused_back, refused_base, refused_log, same_many}

@@ -1,0 +1,5 @@
+pub mod Bases
+pub mod Entries
+pub mod FaultLog
+pub mod Looks
+pub mod Opening
