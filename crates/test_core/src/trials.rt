@@ -222,11 +222,11 @@ fn ends_alike(rt: &impl Abort, alloc: Global, core: &mut Core<Counter>) -> Resul
     let mut straight = filled(alloc).ok_or("straight")?;
     finish(alloc, &mut straight).ok_or("drain")?;
     finish(alloc, core).ok_or("drain too")?;
-    assert_eq!(rt; core.spoken().len(), straight.spoken().len());
+    assert!(rt; core.spoken().len() == straight.spoken().len());
     let first = ending_text(alloc, core, 0)?;
-    assert_eq!(rt; first.as_str(), ending_text(alloc, &straight, 0)?.as_str());
+    assert!(rt; first.as_str() == ending_text(alloc, &straight, 0)?.as_str());
     let second = ending_text(alloc, core, 1)?;
-    assert_eq!(rt; second.as_str(), ending_text(alloc, &straight, 1)?.as_str());
+    assert!(rt; second.as_str() == ending_text(alloc, &straight, 1)?.as_str());
     Ok(())
 }
 
@@ -244,12 +244,12 @@ const SECOND: &str = "1@2: Upset 1/0 at 9 conf 0 of ereport.cpu.ue=hc:///chassis
 fn takes_each_entry_once(rt: HostRuntime) -> Result<(), Fail> {
     let alloc = rt.alloc();
     let mut core = filled(alloc).ok_or("core")?;
-    assert_eq!(rt; core.len(), 6);
+    assert!(rt; core.len() == 6);
     finish(alloc, &mut core).ok_or("drain")?;
-    assert_eq!(rt; core.len(), 6);
-    assert_eq!(rt; core.spoken().len(), 4);
-    assert_eq!(rt; ending_text(alloc, &core, 0)?.as_str(), FIRST);
-    assert_eq!(rt; ending_text(alloc, &core, 1)?.as_str(), SECOND);
+    assert!(rt; core.len() == 6);
+    assert!(rt; core.spoken().len() == 4);
+    assert!(rt; ending_text(alloc, &core, 0)?.as_str() == FIRST);
+    assert!(rt; ending_text(alloc, &core, 1)?.as_str() == SECOND);
     Ok(())
 }
 
@@ -258,9 +258,9 @@ fn takes_each_entry_once_with_module_one_first(rt: HostRuntime) -> Result<(), Fa
     let alloc = rt.alloc();
     let mut core = filled(alloc).ok_or("core")?;
     work_on(alloc, &mut core, 1, 6).ok_or("work")?;
-    assert_eq!(rt; core.hand(1).cursor(), 6);
-    assert_eq!(rt; core.hand(0).cursor(), 0);
-    assert_eq!(rt; core.spoken().len(), 2);
+    assert!(rt; core.hand(1).cursor() == 6);
+    assert!(rt; core.hand(0).cursor() == 0);
+    assert!(rt; core.spoken().len() == 2);
     ends_alike(&rt, alloc, &mut core)
 }
 
@@ -270,8 +270,8 @@ fn takes_each_entry_once_after_a_fall_to_the_start(rt: HostRuntime) -> Result<()
     let mut core = filled(alloc).ok_or("core")?;
     work_on(alloc, &mut core, 0, 2).ok_or("work")?;
     let fallen_from = fall_to(alloc, &mut core, 0).ok_or("fall")?;
-    assert_eq!(rt; fallen_from, 2);
-    assert_eq!(rt; core.hand(0).cursor(), 0);
+    assert!(rt; fallen_from == 2);
+    assert!(rt; core.hand(0).cursor() == 0);
     ends_alike(&rt, alloc, &mut core)
 }
 
@@ -280,11 +280,11 @@ fn takes_each_entry_once_after_a_fall_behind_a_word(rt: HostRuntime) -> Result<(
     let alloc = rt.alloc();
     let mut core = filled(alloc).ok_or("core")?;
     work_on(alloc, &mut core, 0, 5).ok_or("work")?;
-    assert_eq!(rt; core.spoken().len(), 1);
+    assert!(rt; core.spoken().len() == 1);
     let fallen_from = fall_to(alloc, &mut core, 3).ok_or("fall")?;
-    assert_eq!(rt; fallen_from, 5);
-    assert_eq!(rt; core.hand(0).cursor(), 3);
-    assert_eq!(rt; core.spoken().len(), 1);
+    assert!(rt; fallen_from == 5);
+    assert!(rt; core.hand(0).cursor() == 3);
+    assert!(rt; core.spoken().len() == 1);
     ends_alike(&rt, alloc, &mut core)
 }
 
@@ -303,12 +303,12 @@ fn restores(alloc: Global, bytes: &[u8]) -> Result<bool, LoadFault> {
 
 // asserts that a counter takes the bytes, and keeps itself as just these
 fn is_kept(rt: &impl Abort, alloc: Global, bytes: &[u8]) {
-    assert_eq!(rt; restores(alloc, bytes), Ok(true));
+    assert!(rt; restores(alloc, bytes) == Ok(true));
 }
 
 // asserts that no counter keeps itself as these bytes
 fn is_bad(rt: &impl Abort, alloc: Global, bytes: &[u8]) {
-    assert_eq!(rt; restores(alloc, bytes), Err(LoadFault::Bad));
+    assert!(rt; restores(alloc, bytes) == Err(LoadFault::Bad));
 }
 
 #[test]
@@ -397,23 +397,20 @@ const NEARLY_FULL: &[u8] = b"\0\0\0\0\0\0\0\x02\0\x0eereport.cpu.ce\0\0\0\0\0\0\
 fn counts_no_more_than_its_limit(rt: HostRuntime) -> Result<(), Fail> {
     let alloc = rt.alloc();
     let mut counter = Counter::new(alloc, 3);
-    assert_eq!(rt; counter.load(alloc, NEARLY_FULL), Ok(()));
+    assert!(rt; counter.load(alloc, NEARLY_FULL) == Ok(()));
     let last = report(alloc, "ereport.cpu.ce", 11).ok_or("last")?;
     let said = counter.step(alloc, 5, &last)?;
-    assert_eq!(rt; said.len(), 1);
-    assert_eq!(rt; said[0].case.module, 3);
-    assert_eq!(rt; said[0].case.case, 23_456_248_059_220);
-    assert_eq!(rt; said[0].moment, 11);
-    assert_eq!(rt; said[0].suspects.len(), 0);
-    assert_eq!(rt; said[0].observed.as_slice().len(), 1);
-    assert_eq!(rt;
-        said[0].observed.as_slice()[0].class.text(),
-        "ereport.cpu.ce"
-    );
-    assert_eq!(rt; counter.step(alloc, 6, &last)?.len(), 0);
-    assert_eq!(rt; counter.step(alloc, 7, &last)?.len(), 0);
-    assert_eq!(rt; counter.counts().len(), 2);
-    assert_eq!(rt; counter.counts()[0].count, 3);
+    assert!(rt; said.len() == 1);
+    assert!(rt; said[0].case.module == 3);
+    assert!(rt; said[0].case.case == 23_456_248_059_220);
+    assert!(rt; said[0].moment == 11);
+    assert!(rt; said[0].suspects.len() == 0);
+    assert!(rt; said[0].observed.as_slice().len() == 1);
+    assert!(rt; said[0].observed.as_slice()[0].class.text() == "ereport.cpu.ce");
+    assert!(rt; counter.step(alloc, 6, &last)?.len() == 0);
+    assert!(rt; counter.step(alloc, 7, &last)?.len() == 0);
+    assert!(rt; counter.counts().len() == 2);
+    assert!(rt; counter.counts()[0].count == 3);
     Ok(())
 }
 
@@ -433,11 +430,11 @@ fn brings_a_module_to_the_state_of_another(rt: HostRuntime) -> Result<(), Fail> 
     let mut first = Counter::new(alloc, 3);
     let mut second = Counter::new(alloc, 3);
     let entry = report(alloc, "ereport.cpu.ue", 7).ok_or("entry")?;
-    assert_eq!(rt; first.step(alloc, 0, &entry)?.len(), 0);
+    assert!(rt; first.step(alloc, 0, &entry)?.len() == 0);
     restore(alloc, &first, &mut second)?;
-    assert_eq!(rt; second.counts().len(), 1);
-    assert_eq!(rt; second.counts()[0].count, 1);
-    assert_eq!(rt; second.counts()[0].class.text(), "ereport.cpu.ue");
+    assert!(rt; second.counts().len() == 1);
+    assert!(rt; second.counts()[0].count == 1);
+    assert!(rt; second.counts()[0].class.text() == "ereport.cpu.ue");
     Ok(())
 }
 
@@ -459,8 +456,8 @@ fn steps_a_boxed_object(rt: HostRuntime) -> Result<(), Fail> {
     let hand = Hand::new(3, 0, Loaded::new(object));
     let entry = report(alloc, "ereport.cpu.ue", 7).ok_or("entry")?;
     let hand = step_loaded(alloc, hand, &entry).ok_or("step")?;
-    assert_eq!(rt; hand.cursor(), 1);
-    assert_eq!(rt; hand.module(), 3);
+    assert!(rt; hand.cursor() == 1);
+    assert!(rt; hand.module() == 3);
     Ok(())
 }
 
@@ -471,8 +468,8 @@ fn works_a_boxed_object(rt: HostRuntime) -> Result<(), Fail> {
     let kept: Box<dyn Module> = Box::new(alloc, Counter::new(alloc, 0))?;
     let mut core = core_of_one(alloc, Loaded::new(own), Loaded::new(kept)).ok_or("core")?;
     let entry = report(alloc, "ereport.cpu.ue", 7).ok_or("entry")?;
-    assert_eq!(rt; core.accept(entry), Ok(0));
-    assert_eq!(rt; work_loaded(alloc, &mut core, 0), Ok(Worked::Silent));
-    assert_eq!(rt; work_loaded(alloc, &mut core, 0), Ok(Worked::Idle));
+    assert!(rt; core.accept(entry) == Ok(0));
+    assert!(rt; work_loaded(alloc, &mut core, 0) == Ok(Worked::Silent));
+    assert!(rt; work_loaded(alloc, &mut core, 0) == Ok(Worked::Idle));
     Ok(())
 }
