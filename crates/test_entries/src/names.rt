@@ -196,31 +196,36 @@ fn is_path(alloc: Global, text: &str, depth: usize) -> Result<bool, Fail> {
     Ok(is_deep && is_text && found.copy()?.to_string(alloc)?.as_str() == text)
 }
 
-/// Sixteen parts whose names and instances are as long as can be.
-const LONGEST: &str =
-    "hc:///a123456789012345678901234567890b=4294967295/a123456789012345678901234567890b=\
-     4294967295/a123456789012345678901234567890b=4294967295/a123456789012345678901234567\
-     890b=4294967295/a123456789012345678901234567890b=4294967295/a1234567890123456789012\
-     34567890b=4294967295/a123456789012345678901234567890b=4294967295/a12345678901234567\
-     8901234567890b=4294967295/a123456789012345678901234567890b=4294967295/a123456789012\
-     345678901234567890b=4294967295/a123456789012345678901234567890b=4294967295/a1234567\
-     89012345678901234567890b=4294967295/a123456789012345678901234567890b=4294967295/a12\
-     3456789012345678901234567890b=4294967295/a123456789012345678901234567890b=429496729\
-     5/a123456789012345678901234567890b=4294967295";
-
-/// Sixteen short parts.
-const SIXTEEN: &str = "hc:///a=0/a=1/a=2/a=3/a=4/a=5/a=6/a=7/a=8/a=9/a=10/a=11/a=12/a=13/a=14/a=15";
+/// A path of sixteen parts, each with this name and instance.
+fn sixteen(alloc: Global, part: &str) -> Result<String, Fail> {
+    let mut text = String::from_str(alloc, "hc://")?;
+    for _ in 0..16 {
+        text.push_str("/")?;
+        text.push_str(part)?;
+    }
+    Ok(text)
+}
 
 #[test]
 fn reads_paths(rt: HostRuntime) -> Result<(), Fail> {
     let alloc = rt.alloc();
-    assert!(rt; is_path(alloc, SIXTEEN, 16)?);
     assert!(rt; is_path(alloc, "hc:///a123456789012345678901234567890b=1", 1)?);
     assert!(rt; is_path(alloc, "hc:///a-1-2-3-4-5-6-7-8-9-0-1-2-3-4-56=1/b=0", 2)?);
     assert!(rt; is_path(alloc, "hc:///c=0", 1)?);
     assert!(rt; is_path(alloc, "hc:///c=4294967295", 1)?);
     assert!(rt; is_path(alloc, "hc:///c=4294967295/d-0=1000000000/Z__=9", 3)?);
-    assert!(rt; is_path(alloc, LONGEST, 16)?);
+    Ok(())
+}
+
+/// The longest part that a path has.
+const LONGEST: &str = "a123456789012345678901234567890b=4294967295";
+
+#[test]
+fn reads_paths_of_sixteen_parts(rt: HostRuntime) -> Result<(), Fail> {
+    let alloc = rt.alloc();
+    let different = "hc:///a=0/a=1/a=2/a=3/a=4/a=5/a=6/a=7/a=8/a=9/a=10/a=11/a=12/a=13/a=14/a=15";
+    assert!(rt; is_path(alloc, different, 16)?);
+    assert!(rt; is_path(alloc, &sixteen(alloc, LONGEST)?, 16)?);
     Ok(())
 }
 
@@ -381,32 +386,55 @@ fn keeps_texts_of_each_length(rt: HostRuntime) -> Result<(), Fail> {
     Ok(())
 }
 
+/// Whether two of these events have the order of their places in the list.
+fn are_in_order(alloc: Global, at: usize, other: usize) -> Result<bool, Fail> {
+    let (Some(ours), Some(theirs)) = (ASCENDING.get(at), ASCENDING.get(other)) else {
+        return Err(Fail::new("no such event"));
+    };
+    let (orders, equal) = event_orders(alloc, *ours, *theirs)?;
+    Ok(orders == [at.cmp(&other); 3] && equal == (at == other))
+}
+
 #[test]
 fn orders_texts_of_each_length(rt: HostRuntime) -> Result<(), Fail> {
-    for (at, ours) in ASCENDING.into_iter().enumerate() {
-        for (other_at, theirs) in ASCENDING.into_iter().enumerate() {
-            let (orders, equal) = event_orders(rt.alloc(), ours, theirs)?;
-            assert!(rt; orders == [at.cmp(&other_at); 3]);
-            assert!(rt; equal == (at == other_at));
+    for at in 0..5 {
+        for other in 0..5 {
+            assert!(rt; are_in_order(rt.alloc(), at, other)?, "{at} and {other}");
         }
     }
     Ok(())
 }
 
-const EVENTS: [(&str, &str); 3] = [
-    ("fault.a", "hc:///c=9"),
-    ("fault.b", "hc:///c=9"),
-    ("fault.a", "hc:///c=10"),
-];
+const SAME: (Ordering, bool) = (Ordering::Equal, true);
+
+const BEFORE: (Ordering, bool) = (Ordering::Less, false);
+
+const BEHIND: (Ordering, bool) = (Ordering::Greater, false);
+
+/// The order of two events, and whether they are equal.
+fn order(
+    alloc: Global,
+    ours: (&str, &str),
+    theirs: (&str, &str),
+) -> Result<(Ordering, bool), Fail> {
+    let (orders, equal) = event_orders(alloc, ours, theirs)?;
+    Ok((orders[2], equal))
+}
 
 #[test]
-fn orders_events(rt: HostRuntime) -> Result<(), Fail> {
-    for (at, ours) in EVENTS.into_iter().enumerate() {
-        for (other_at, theirs) in EVENTS.into_iter().enumerate() {
-            let (orders, equal) = event_orders(rt.alloc(), ours, theirs)?;
-            assert!(rt; orders[2] == at.cmp(&other_at));
-            assert!(rt; equal == (at == other_at));
-        }
-    }
+fn orders_events_by_their_paths(rt: HostRuntime) -> Result<(), Fail> {
+    let alloc = rt.alloc();
+    let first = ("fault.a", "hc:///c=9");
+    let second = ("fault.b", "hc:///c=9");
+    let last = ("fault.a", "hc:///c=10");
+    assert!(rt; order(alloc, first, first)? == SAME);
+    assert!(rt; order(alloc, first, second)? == BEFORE);
+    assert!(rt; order(alloc, first, last)? == BEFORE);
+    assert!(rt; order(alloc, second, first)? == BEHIND);
+    assert!(rt; order(alloc, second, second)? == SAME);
+    assert!(rt; order(alloc, second, last)? == BEFORE);
+    assert!(rt; order(alloc, last, first)? == BEHIND);
+    assert!(rt; order(alloc, last, second)? == BEHIND);
+    assert!(rt; order(alloc, last, last)? == SAME);
     Ok(())
 }
