@@ -10,7 +10,7 @@ struct CommandHelp {
 }
 
 /// The commands that are built.
-const COMMANDS: [CommandHelp; 3] = [
+const COMMANDS: [CommandHelp; 6] = [
     CommandHelp {
         words: "init NAMESPACE",
         does: "makes a store of dx0.esc and on, and of topology.txt; NAMESPACE is a UUID",
@@ -22,6 +22,18 @@ const COMMANDS: [CommandHelp; 3] = [
     CommandHelp {
         words: "replay",
         does: "counts the reports of standard input by class, and keeps nothing",
+    },
+    CommandHelp {
+        words: "esc",
+        does: "lists what dx0.esc and on come to over topology.txt",
+    },
+    CommandHelp {
+        words: "esc -b",
+        does: "writes what they come to as compiled files, one after another",
+    },
+    CommandHelp {
+        words: "esc -l",
+        does: "lists the compiled files of standard input",
     },
 ];
 
