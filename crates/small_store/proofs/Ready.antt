@@ -1,0 +1,89 @@
+-- Hands that stay at their modules' cursors.
+use Rattle.std.proofs.Common.{◌≡◌, ℕ, List, [], ◌∷◌, length, slice_get}
+use Rattle.std.proofs.Common.{◌==◌, sym, ◌∙◌, ap, subst, arith, length-append}
+use Rattle.fm_core.proofs.Tests.{true_eq}
+use Rattle.std.proofs.lemmas.List.{length-map}
+use Rattle.fm_core.specs.Hands.{HandOf}
+use Rattle.fm_core.specs.declared.module.Module.{Ghosts as ModuleGhosts}
+use Rattle.fm_core.proofs.Lists.{list_all_get}
+use Rattle.fm_drain.specs.DrainCalls.{AreAtCursors}
+use Rattle.fm_entry.specs.declared.entry.Entry.{Entry}
+use Rattle.fm_logs.specs.LogsOf.{LogsOf, TakesEntry}
+use Rattle.fm_outer.specs.declared.disk.Disk.{Ghosts}
+use Rattle.fm_store.specs.Adopting.{IsAdopted}
+use Rattle.fm_store.specs.Opened.{OpenedOf}
+use Rattle.fm_store.specs.Rotating.{Rotates}
+use Rattle.fm_store.specs.StoreCalls.{AreAtEnd, Checkpoints, next_entry}
+use Rattle.fm_store.specs.StoreOf.{StoreOf}
+
+module _ {D M : Type 0} (m : ModuleGhosts M) where
+  -- the hands of modules that were adopted
+  pub adopted_cursors : (o : OpenedOf D) (kept : List M) (store : StoreOf D M)
+      (hands : List (HandOf M)) → IsAdopted m o kept store hands
+      → AreAtCursors m store.logs hands
+  adopted_cursors o kept store hands is = record {
+    as_many = sym (length-map hands (λ (h : HandOf M). h.cursor))
+        ∙ ap (λ (l : List ℕ). length l) is.hands_are;
+    each = λ i h there. let of = is.each i h there in record {
+      number_is = of.number_is;
+      own_is = of.own_is;
+      cursor_is = of.cursor_is;
+      from_base = of.from_base;
+      to_end = of.to_end;
+    };
+  }
+
+  -- after an entry more
+  pub taken_cursors : (g : Ghosts D) (old new : LogsOf D) (e : Entry) (n : ℕ)
+      (hands : List (HandOf M)) → TakesEntry g old new e n → AreAtCursors m old hands
+      → AreAtCursors m new hands
+  taken_cursors g old new e n hands takes at =
+      subst (λ (l : LogsOf D). AreAtCursors m l hands) (sym takes.logs_are) (record {
+        as_many = at.as_many;
+        each = λ i h there. let of = at.each i h there in record {
+          number_is = of.number_is;
+          own_is = of.own_is;
+          cursor_is = of.cursor_is;
+          from_base = of.from_base;
+          to_end = omega (arith, of.to_end, length-append old.entries (e ∷ []));
+        };
+      })
+
+  -- after the base has moved to the end
+  based_cursors : (old new : LogsOf D) (hands : List (HandOf M))
+      → new.cursors ≡ old.cursors → new.base ≡ next_entry old → new.entries ≡ [] → AreAtEnd old
+      → AreAtCursors m old hands → AreAtCursors m new hands
+  based_cursors old new hands cursors base entries end at = record {
+    as_many = at.as_many ∙ ap (λ (l : List ℕ). length l) (sym cursors);
+    each = λ i h there. let of = at.each i h there in
+        let done : h.cursor ≡ next_entry old =
+        true_eq h.cursor (next_entry old)
+        (list_all_get (λ c. c == next_entry old) old.cursors i h.cursor end of.cursor_is) in
+        record {
+          number_is = of.number_is;
+          own_is = of.own_is;
+          cursor_is = ap (λ (l : List ℕ). slice_get l i) cursors ∙ of.cursor_is;
+          from_base = omega (arith, base, done);
+          to_end = omega (arith, base, done);
+        };
+  }
+
+  -- after a checkpoint
+  pub checkpointed_cursors : (g : Ghosts D) (old new : StoreOf D M) (states : List (List ℕ))
+      (hands : List (HandOf M)) → Checkpoints g old new states → AreAtEnd old.logs
+      → AreAtCursors m old.logs hands → AreAtCursors m new.logs hands
+  checkpointed_cursors g old new states hands does end at =
+      based_cursors old.logs new.logs hands
+      (ap (λ (l : LogsOf D). l.cursors) does.logs_are)
+      (ap (λ (l : LogsOf D). l.base) does.logs_are)
+      (ap (λ (l : LogsOf D). l.entries) does.logs_are) end at
+
+  -- after a rotation
+  pub rotated_cursors : (g : Ghosts D) (old new : StoreOf D M) (states : List (List ℕ))
+      (number : ℕ) (hands : List (HandOf M)) → Rotates g old new states number → AreAtEnd old.logs
+      → AreAtCursors m old.logs hands → AreAtCursors m new.logs hands
+  rotated_cursors g old new states number hands does end at =
+      based_cursors old.logs new.logs hands
+      (ap (λ (l : LogsOf D). l.cursors) does.logs_are)
+      (ap (λ (l : LogsOf D). l.base) does.logs_are ∙ does.number_is)
+      (ap (λ (l : LogsOf D). l.entries) does.logs_are) end at
