@@ -1,0 +1,108 @@
+//! Rule files and a topology.
+
+use dx_rules::{Configs, Rulebook, Ruled};
+use ev_check::{Checked, check};
+use ev_inst::instantiate;
+use ev_lex::lex;
+use ev_parse::parse;
+use fm_topo::{Topo, read_topo};
+use std::alloc::{AllocError, Global};
+use std::test::Fail;
+
+/// A chassis with three processors and a memory.
+const PARTS: &str = "hc:///chassis=0\nhc:///chassis=0/cpu=0\nhc:///chassis=0/cpu=1\n\
+hc:///chassis=0/cpu=2\nhc:///chassis=0/dimm=0\n";
+
+/// The cache may show both reports, the core must show the first.
+pub const CACHE: &str = "event fault.cpu.cache@chassis/cpu, FITrate=200;\
+event fault.cpu.core@chassis/cpu, FITrate=100;\
+event ereport.cpu.ue@chassis/cpu, within=5s;\
+event ereport.cpu.wd@chassis/cpu, within=5s;\
+prop fault.cpu.core@chassis/cpu (A)-> ereport.cpu.ue@chassis/cpu;\
+prop fault.cpu.cache@chassis/cpu (0)-> ereport.cpu.ue@chassis/cpu, ereport.cpu.wd@chassis/cpu;";
+
+/// The same, but the cache must show both.
+pub const BOTH: &str = "event fault.cpu.cache@chassis/cpu, FITrate=200;\
+event fault.cpu.core@chassis/cpu, FITrate=100;\
+event ereport.cpu.ue@chassis/cpu, within=5s;\
+event ereport.cpu.wd@chassis/cpu, within=5s;\
+prop fault.cpu.core@chassis/cpu (A)-> ereport.cpu.ue@chassis/cpu;\
+prop fault.cpu.cache@chassis/cpu (A)-> ereport.cpu.ue@chassis/cpu, ereport.cpu.wd@chassis/cpu;";
+
+/// A stopped fan takes two causes, of which a dead one has one.
+pub const FAN: &str = "event fault.fan.dead@chassis; event error.fan.hot@chassis;\
+event error.fan.slow@chassis; event ereport.fan.stop@chassis, within=0s;\
+event ereport.fan.warm@chassis, within=0s;\
+prop fault.fan.dead@chassis -> error.fan.hot@chassis;\
+prop error.fan.hot@chassis, error.fan.slow@chassis ->(2) ereport.fan.stop@chassis;";
+
+/// The third upset within an hour is reported, and tells of a fault.
+pub const UPSETS: &str = "event upset.cpu.ce@chassis/cpu, engine=serd.cpu.ce;\
+event fault.cpu.cache@chassis/cpu; event ereport.cpu.ce@chassis/cpu, within=0s;\
+event ereport.cpu.thr@chassis/cpu, within=0s;\
+engine serd.cpu.ce@chassis/cpu, N=3, T=1h, trip=ereport.cpu.thr;\
+prop upset.cpu.ce@chassis/cpu -> ereport.cpu.ce@chassis/cpu;\
+prop fault.cpu.cache@chassis/cpu (0)-> ereport.cpu.thr@chassis/cpu;";
+
+/// The parts of a text, one after the other.
+fn joined(alloc: Global, parts: &[&str]) -> Result<String, AllocError> {
+    let mut text = String::new(alloc);
+    for part in parts {
+        text.push_str(part)?;
+    }
+    Ok(text)
+}
+
+fn checked(alloc: Global, text: &str) -> Result<Checked, Fail> {
+    let bytes = text.as_bytes();
+    if bytes.len() > 1_048_576 {
+        return Err(Fail::new("a long text"));
+    }
+    let Ok(tokens) = lex(alloc, bytes) else {
+        return Err(Fail::new("no tokens"));
+    };
+    let Ok(tree) = parse(alloc, bytes, tokens.as_slice()) else {
+        return Err(Fail::new("no tree"));
+    };
+    match check(alloc, &tree) {
+        Ok(checked) => Ok(checked),
+        Err(_) => Err(Fail::new("a fault")),
+    }
+}
+
+fn topology(alloc: Global) -> Result<Topo, Fail> {
+    match read_topo(alloc, PARTS.as_bytes()) {
+        Ok(topo) => Ok(topo),
+        Err(_) => Err(Fail::new("no topology")),
+    }
+}
+
+/// What a rule file comes to over the parts of the machine.
+fn ruled(alloc: Global, text: &str) -> Result<Ruled, Fail> {
+    let topo = topology(alloc)?;
+    let checked = checked(alloc, text)?;
+    match instantiate(alloc, &checked, &topo) {
+        Ok(made) => Ok(Ruled { graph: made.graph }),
+        Err(_) => Err(Fail::new("no graph")),
+    }
+}
+
+/// The rules of the module 0, with one rule file, whose text is given in parts.
+pub fn rulebook(alloc: Global, parts: &[&str]) -> Result<Rulebook, Fail> {
+    let text = joined(alloc, parts)?;
+    let ruled = ruled(alloc, text.as_str())?;
+    Ok(Rulebook {
+        own: 0,
+        configs: Configs::Single { number: 0, ruled },
+    })
+}
+
+/// The same with two rule files, of which a reload to 1 changes to the second.
+pub fn two_rulebooks(alloc: Global, texts: [&str; 2]) -> Result<Rulebook, Fail> {
+    let first = ruled(alloc, texts[0])?;
+    let second = ruled(alloc, texts[1])?;
+    Ok(Rulebook {
+        own: 0,
+        configs: Configs::Listed(Vec::from_array(alloc, [first, second])?),
+    })
+}

@@ -1,0 +1,12 @@
+//! Tests of the diagnosis of rule files: what a module says at entries, from the text of the rules
+//! on.
+#![tactic(auto)]
+
+#[cfg(test)]
+mod engines;
+#[cfg(test)]
+mod files;
+#[cfg(test)]
+mod played;
+#[cfg(test)]
+mod solved;
