@@ -138,16 +138,19 @@ fn take_all(
     Ok(())
 }
 
-/// What a module with these rules, which had taken nothing, says at the entries of the lines.
+/// The open cases of a module with these rules that has taken nothing, and what it says at the
+/// entries of the lines.
 fn told(alloc: Global, rules: &Rulebook, lines: &[&str]) -> Result<String, Fail> {
     if !can_begin(rules) {
         return Err(Fail::new("rules of no module"));
     }
     let state = StandingState::fresh(alloc, rules)?;
+    let mut said = String::new(alloc);
+    put_open(alloc, &state, &mut said)?;
     let mut played = Played {
         state,
         number: 0,
-        said: String::new(alloc),
+        said,
     };
     take_all(alloc, rules, &mut played, lines)?;
     Ok(played.said)
