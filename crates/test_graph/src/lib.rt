@@ -1,7 +1,7 @@
-//! Tests of graphs, stories, explanations and live sets over the rule files that the documents work
-//! out and over drawn graphs: which graphs are built and which are refused, what a graph answers,
-//! which stories are told of it, which roots are possible, and what is left while reports go and
-//! links are cut. They stand in a crate of their own, so that the libraries below are not proved
+//! Tests of graphs, stories, explanations and live sets over rule files that are worked out by hand
+//! and over drawn graphs: which graphs are built and which are refused, what a graph answers, which
+//! stories are told of it, which roots are possible, and what is left while reports go and links
+//! are cut. They stand in a crate of their own, so that the libraries below are not proved
 //! again with each of them.
 #![tactic(auto)]
 
