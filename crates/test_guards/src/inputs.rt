@@ -8,6 +8,7 @@ use std::alloc::Global;
 use std::process::Abort;
 use std::test::Fail;
 
+/// The checked rule file of a text, which no phase refuses.
 pub fn checked(alloc: Global, text: &str) -> Result<Checked, Fail> {
     let bytes = text.as_bytes();
     if bytes.len() > 1_048_576 {
@@ -25,6 +26,7 @@ pub fn checked(alloc: Global, text: &str) -> Result<Checked, Fail> {
     }
 }
 
+/// The topology of a text, which is one.
 pub fn topology(alloc: Global, text: &str) -> Result<Topo, Fail> {
     match read_topo(alloc, text.as_bytes()) {
         Ok(topo) => Ok(topo),
