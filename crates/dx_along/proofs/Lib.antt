@@ -1,0 +1,3 @@
+pub mod Along
+pub mod Books
+pub mod Graphs
