@@ -2,6 +2,7 @@
 use Rattle.std.proofs.Common.{◌≡◌, ◌⊎◌, inl, inr, ℕ, zero, suc, ◌<◌, List, [], ◌∷◌, ◌++◌, length}
 use Rattle.std.proofs.Common.{Some}
 use Rattle.std.proofs.Common.{refl, sym, ◌∙◌, ap, subst, arith, slice_get, length-append}
+use Rattle.std.proofs.lemmas.List.Elements.{All-push}
 use Rattle.std.proofs.lemmas.Option.{slice_get-get_or}
 use Rattle.std.specs.Prelude.{IfSome, Option, get_or}
 use Rattle.fm_logs.proofs.Logged.{each_push}
@@ -9,6 +10,7 @@ use Rattle.fm_logs.specs.ReadsAsBook.{EachSpells, SpellsConf}
 use Rattle.fm_logs.specs.StoreBook.{AreOfOneStore}
 use Rattle.fm_saved.specs.Confs.{IsSpelledConf, conf_bytes}
 use Rattle.fm_saved.specs.declared.conf.Conf.{Conf}
+use Rattle.fm_looks.specs.Looks.{AreKeptConfs}
 use Rattle.fm_looks.specs.Opening.{FitConfs}
 
 same_some : (x y : Conf) → Some x ≡ Some y → x ≡ y
@@ -107,3 +109,18 @@ conf_taken confs seen new conf o payloads payload same is one found fits before 
           (each_push SpellsConf payloads confs payload conf before.0 spells),
       subst FitConfs (sym is) fit,
     )
+
+-- one that fits and has a spelling, behind such as do
+pub kept_push : (confs seen new : List Conf) (conf : Conf) (o : Option Conf) (payload : List ℕ)
+    → seen ≡ confs → new ≡ confs ++ conf ∷ [] → o ≡ Some conf
+    → IfSome o (λ x. IsSpelledConf x × (payload ≡ conf_bytes x))
+    → (FitConfs seen → FitConfs (seen ++ conf ∷ [])) → AreKeptConfs confs → AreKeptConfs new
+kept_push confs seen new conf o payload same is one found fits kept =
+    let spells : SpellsConf payload conf =
+    subst (λ (p : Option Conf). IfSome p (λ x. IsSpelledConf x × (payload ≡ conf_bytes x))) one
+    found in
+    subst AreKeptConfs (sym is) (record {
+      fit = subst (λ (l : List Conf). FitConfs (l ++ conf ∷ [])) same
+          (fits (subst FitConfs (sym same) kept.fit));
+      spelled = All-push IsSpelledConf confs conf kept.spelled spells.0;
+    })

@@ -3,10 +3,12 @@ use Rattle.std.specs.Prelude.{◌≡◌, ◌⊎◌, ℕ, Bool, List, Some}
 use Rattle.std.specs.Option.{option_map}
 use Rattle.std.specs.declared.option.Option.{Option}
 use Rattle.fm_outer.specs.Failures.{Rose}
+use Rattle.fm_outer.specs.Moments.{IsSettled}
 use Rattle.fm_outer.specs.declared.disk.Disk.{Ghosts}
 use Rattle.fm_saved.specs.declared.checkpoint.Checkpoint.{Checkpoint}
 use Rattle.fm_slots.specs.Format.{SlotOf, IsSlot, IsDamagedSlot}
 use Rattle.fm_slots.specs.InForce.{in_force}
+use Rattle.fm_slots.specs.Pair.{AreKept}
 use Rattle.fm_slots.specs.declared.fault.SlotFault.{SlotFault}
 use Rattle.fm_slots.specs.declared.fault.SlotFault.TheVariants.{Disk as SlotFailed}
 use Rattle.fm_slots.specs.declared.fault.SlotFault.TheVariants.{Damaged as SlotDamaged}
@@ -31,6 +33,12 @@ pub record SlotsKept (x y : List ℕ) (known : ℕ) (newest : Option (Bool × �
   pub b_is : IsSlot y slot_b
   pub newest_is : newest ≡ newest_of (in_force slot_a slot_b)
   pub says : SaysCheckpoint known (in_force slot_a slot_b) checkpoint
+
+-- both slots are synced, and no call of theirs failed
+pub record AreSlotsRead {D : Type 0} (g : Ghosts D) (a b new_a new_b : D) : Type 0 where
+  pub settled_a : IsSettled g new_a
+  pub settled_b : IsSettled g new_b
+  pub kept : AreKept g a b new_a new_b
 
 -- the slot in force says no checkpoint
 abbrev pub SaysNone : ℕ → Option (Bool × SlotOf) → DiskName → ℕ → Type 0

@@ -1,11 +1,12 @@
 -- What a look at one disk finds.
-use Rattle.std.specs.Prelude.{◌≡◌, ℕ, List, [], ◌∷◌, ◌++◌, Some, Result, Ok, Err}
+use Rattle.std.specs.Prelude.{◌≡◌, ℕ, List, [], ◌∷◌, ◌++◌, All, Some, Result, Ok, Err}
 use Rattle.fm_outer.specs.Failures.{Rose}
 use Rattle.fm_outer.specs.declared.disk.Disk.{Ghosts}
 use Rattle.fm_journal.specs.Format.{IsJournal}
 use Rattle.fm_journal.specs.JournalOf.{JournalOf}
 use Rattle.fm_journal.specs.Keeps.{Keeps}
 use Rattle.fm_logs.specs.ReadsAsBook.{EachSpells, SpellsConf}
+use Rattle.fm_saved.specs.Confs.{IsSpelledConf}
 use Rattle.fm_saved.specs.declared.conf.Conf.{Conf}
 use Rattle.fm_looks.specs.Opening.{FitConfs, Good}
 use Rattle.fm_looks.specs.declared.confs.ConfReader.{ConfReader}
@@ -39,6 +40,15 @@ log_disk (Err refused) = refused.disk
 abbrev pub confs_disk : {D : Type 0} → Result (ConfsRead D) (LookRefused D) → D
 confs_disk (Ok read) = read.journal.disk
 confs_disk (Err refused) = refused.disk
+
+-- configurations of one store, each of which has a spelling
+pub record AreKeptConfs (confs : List Conf) : Type 0 where
+  pub fit : FitConfs confs
+  pub spelled : All IsSpelledConf confs
+
+-- what a reader has taken stays such configurations, whatever the disk tells
+abbrev pub KeepsConfs : ConfReader → ConfReader → Type 0
+KeepsConfs old new = AreKeptConfs old.confs.items → AreKeptConfs new.confs.items
 
 -- the reader has taken the configurations that these payloads spell, and they fit
 abbrev pub TookConfs : ConfReader → List (List ℕ) → Type 0

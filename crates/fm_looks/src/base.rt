@@ -2,9 +2,9 @@
 
 ghost use Rattle.std.specs.Prelude.{◌≡◌, ◌<◌, ◌≤◌, ◌^◌, ℕ, List, Some, None, IfOk, IfErr, OnOk};
 ghost use Rattle.std.specs.Option.{option_map};
-ghost use Rattle.fm_outer.specs.Moments.{IsSettled, OnlyRead};
+ghost use Rattle.fm_outer.specs.Moments.{OnlyRead};
 ghost use Rattle.fm_slots.specs.Pair.{found_slot};
-ghost use Rattle.fm_looks.specs.Bases.{SlotsKept, SlotsCause, BaseCause, newest_of};
+ghost use Rattle.fm_looks.specs.Bases.{AreSlotsRead, SlotsKept, SlotsCause, BaseCause, newest_of};
 ghost use Rattle.fm_looks.specs.Bases.{fault_of_slots};
 ghost use Rattle.fm_looks.specs.Opening.{SaysCheckpoint, first_checkpoint, slot_name};
 
@@ -110,7 +110,8 @@ pub fn read_base<D: Disk>(
         → D.seen slot_b.old ≡ Some y → SlotsKept x y known read.newest read.checkpoint) }
     ensures fits { IfOk result (λ read. read.checkpoint.moment < 2 ^ 62) }
     ensures known { IfOk result (λ read. read.checkpoint.conf < known) }
-    ensures settled { OnOk result (IsSettled D.Disk slot_a.new × IsSettled D.Disk slot_b.new) }
+    ensures read { OnOk result
+        (AreSlotsRead D.Disk slot_a.old slot_b.old slot_a.new slot_b.new) }
     ensures still_a { OnlyRead D.Disk slot_a.old slot_a.new }
     ensures still_b { OnlyRead D.Disk slot_b.old slot_b.new }
     ensures cause { IfErr result

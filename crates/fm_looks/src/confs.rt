@@ -8,7 +8,7 @@ ghost use Rattle.fm_logs.specs.ReadsAsBook.{EachSpells, SpellsConf};
 ghost use Rattle.fm_logs.specs.StoreBook.{AreOfOneStore};
 ghost use Rattle.fm_saved.specs.declared.conf.Conf.{Conf};
 ghost use Rattle.fm_looks.specs.Looks.{LookCause, ConfsKept, confs_disk};
-ghost use Rattle.fm_looks.specs.Looks.{TookConfs, RefusesConf};
+ghost use Rattle.fm_looks.specs.Looks.{AreKeptConfs, KeepsConfs, TookConfs, RefusesConf};
 ghost use Rattle.fm_looks.specs.Opening.{FitConfs, Good, LogDamage, ConfsDamage};
 
 use crate::look::{LookFault, LookRefused, look_fault, open_log, refuse};
@@ -55,11 +55,11 @@ impl PayloadReader for ConfReader {
 
     ghost refuses = { RefusesConf };
 
-    ghost same_rule = { λ _ _. Unit {0} };
+    ghost same_rule = { KeepsConfs };
 
-    ghost same_rule_self = { λ _. tt };
+    ghost same_rule_self = { λ _ kept. kept };
 
-    ghost same_rule_then = { λ _ _ _ _ _. tt };
+    ghost same_rule_then = { λ _ _ _ one two kept. two (one kept) };
 
     fn take(&mut self, alloc: Global, payload: &[u8]) -> Result<bool, NoMemory> {
         let Some(conf) = read_conf(alloc, payload)? else {
@@ -88,6 +88,7 @@ pub fn open_confs<D: Disk>(alloc: Global, disk: D) -> Result<ConfsRead<D>, LookR
     ensures count_kept { IfOk result
         (λ read. D.failures read.journal.disk ≡ D.failures disk) }
     ensures some { IfOk result (λ read. 1 ≤ length read.confs.items) }
+    ensures fit { IfOk result (λ read. AreKeptConfs read.confs.items) }
     ensures still { OnlyRead D.Disk disk (confs_disk result) }
     ensures cause { IfErr result (λ refused. LookCause D.Disk (LogDamage ConfsDamage) disk
         refused.disk refused.fault) }

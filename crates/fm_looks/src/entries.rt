@@ -126,6 +126,8 @@ pub fn open_entries<D: Disk>(
         → EntriesKept D.Disk c known checkpoint.now read.journal read.entries.items) }
     ensures are { IfOk result (λ read. AreEntries known checkpoint.now read.journal
         read.entries.items) }
+    ensures count_kept { IfOk result
+        (λ read. D.failures read.journal.disk ≡ D.failures disk) }
     ensures still { OnlyRead D.Disk disk (entries_disk result) }
     ensures cause { IfErr result (λ refused. LookCause D.Disk
         (LogDamage (EntriesDamage known checkpoint.now)) disk refused.disk refused.fault) }

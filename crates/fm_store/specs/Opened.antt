@@ -21,6 +21,7 @@ use Rattle.fm_logs.specs.declared.fault.StoreFault.{StoreFault}
 use Rattle.fm_logs.specs.declared.fault.StoreFault.TheVariants.{Disk, Damaged, NoMemory}
 use Rattle.fm_looks.specs.Bases.{newest_of, SlotsKept, SlotsDamage}
 use Rattle.fm_looks.specs.Entries.{EntriesKept}
+use Rattle.fm_looks.specs.Looks.{AreKeptConfs}
 use Rattle.fm_looks.specs.Opening.{WasRead, AllStorePass, FirstStoreFinds, open_looks, slot_found}
 use Rattle.fm_looks.specs.Opening.{from_base, LogDamage, EntriesDamage}
 use Rattle.fm_looks.specs.declared.look.LookFault.{LookFault}
@@ -64,7 +65,8 @@ opened_of conf confs slot_a slot_b newest checkpoint active spare flt entries = 
 }
 
 -- What holds of each store that is open. The journals are open, the active one's next number is
--- that of the next entry, and the number now in force is one of the configurations.
+-- that of the next entry, the configurations are of one store, and the number now in force is one
+-- of them.
 pub record IsOpened {D : Type 0} (o : OpenedOf D) : Type 0 where
   pub conf_open : o.conf.closed ≡ None
   pub active_open : o.active.closed ≡ None
@@ -73,6 +75,7 @@ pub record IsOpened {D : Type 0} (o : OpenedOf D) : Type 0 where
   pub moment_fits : o.checkpoint.moment < 2 ^ 62
   pub spelled : All IsSpelled o.entries
   pub known : force_along o.checkpoint.conf o.entries < length o.confs
+  pub confs_kept : AreKeptConfs o.confs
 
 -- the six disks of an open store
 abbrev pub disks_of : {D : Type 0} → OpenedOf D → Disks D
@@ -116,6 +119,11 @@ pub record OpensBook {D : Type 0} (o : OpenedOf D) (k : StoreBook) : Type 0 wher
 abbrev pub RoseOnAny : {D : Type 0} → Ghosts D → Disks D → Disks D → Type 0
 RoseOnAny g old new = (name : DiskName)
     × Rose (g.failures (disk_named name old)) (g.failures (disk_named name new))
+
+-- no call of a disk failed
+abbrev pub NoneFailed : {D : Type 0} → Ghosts D → Disks D → Disks D → Type 0
+NoneFailed g old new = (name : DiskName)
+    → g.failures (disk_named name new) ≡ g.failures (disk_named name old)
 
 -- Why a store was not opened: Damaged exactly where one of the looks finds it, which is then the
 -- first that doesn't pass; Disk only where a count rose.

@@ -1,9 +1,10 @@
 //! A store that is open, before its modules are adopted.
 
-ghost use Rattle.std.specs.Prelude.{◌≡◌, ◌<◌, length, slice_get, Some};
+ghost use Rattle.std.specs.Prelude.{◌≡◌, ◌<◌, length, slice_get, Some, IfOk};
 ghost use Rattle.fm_logs.specs.Contents.{WereOnlyRead};
 ghost use Rattle.fm_logs.specs.StoreBook.{force_along};
-ghost use Rattle.fm_store.specs.Opened.{OpenDoes, opened_disks, disks_of};
+ghost use Rattle.fm_looks.specs.Looks.{AreKeptConfs};
+ghost use Rattle.fm_store.specs.Opened.{OpenDoes, NoneFailed, opened_disks, disks_of};
 
 use crate::opening::{OtherDisks, open_rest, store_fault};
 use fm_entry::Entry;
@@ -55,6 +56,7 @@ impl<D: Disk> Opened<D> {
     pub fn open(alloc: Global, disks: Disks<D>) -> Result<Opened<D>, StoreRefused<D>>
         ensures does { OpenDoes D.Disk disks result }
         ensures still { WereOnlyRead D.Disk disks (opened_disks result) }
+        ensures counts_kept { IfOk result (λ opened. NoneFailed D.Disk disks (disks_of opened)) }
     {
         let Disks {
             conf,
@@ -92,7 +94,8 @@ impl<D: Disk> Opened<D> {
 
     /// The configurations, by number.
     pub fn confs(&self) -> &[Conf]
-        ensures { result.now ≡ self.now.confs }
+        ensures confs { result.now ≡ self.now.confs }
+        ensures kept { AreKeptConfs self.now.confs }
     {
         self.confs.as_slice()
     }

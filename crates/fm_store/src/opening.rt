@@ -5,7 +5,9 @@ ghost use Rattle.fm_outer.specs.Moments.{OnlyRead};
 ghost use Rattle.fm_logs.specs.Contents.{WereOnlyRead};
 ghost use Rattle.fm_looks.specs.Entries.{EntriesKept, AreEntries};
 ghost use Rattle.fm_store.specs.Opened.{ErrorsCause, RestDoes, active_disk, errors_back, fault_at};
-ghost use Rattle.fm_store.specs.Opened.{six_disks, opened_disks, AreErrorsRead};
+ghost use Rattle.fm_looks.specs.Looks.{AreKeptConfs};
+ghost use Rattle.fm_store.specs.Opened.{six_disks, disks_of, opened_disks, AreErrorsRead};
+ghost use Rattle.fm_store.specs.Opened.{NoneFailed};
 
 use crate::opened::Opened;
 use fm_entry::Entry;
@@ -70,6 +72,8 @@ fn open_errors<D: Disk>(
         read.entries.items) }
     ensures kept { AreErrorsRead D.Disk checkpoint.now.second err_a err_b
         (errors_back checkpoint.now.second result) }
+    ensures count_kept { IfOk result (λ read. D.failures read.active.disk
+        ≡ D.failures (active_disk checkpoint.now.second err_a err_b)) }
     ensures cause { IfErr result (λ refused. ErrorsCause D.Disk known checkpoint.now
         (active_disk checkpoint.now.second err_a err_b)
         (active_disk checkpoint.now.second refused.err_a refused.err_b) refused.fault) }
@@ -137,9 +141,12 @@ pub(crate) fn open_rest<D: Disk>(
 ) -> Result<Opened<D>, StoreRefused<D>>
     requires is_open { confs.journal.closed ≡ None }
     requires some { 1 ≤ length confs.confs.items }
+    requires kept { AreKeptConfs confs.confs.items }
     ensures does { RestDoes D.Disk confs.journal confs.confs.items others result }
     ensures still { WereOnlyRead D.Disk (six_disks confs.journal.disk others)
         (opened_disks result) }
+    ensures counts_kept { IfOk result
+        (λ opened. NoneFailed D.Disk (six_disks confs.journal.disk others) (disks_of opened)) }
 {
     let ConfsRead { journal, confs } = confs;
     let mut others = others;

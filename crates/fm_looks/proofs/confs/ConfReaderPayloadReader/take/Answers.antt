@@ -2,7 +2,7 @@
 use Rattle.fm_logs.specs.ReadsAsBook.{SpellsConf}
 use Rattle.fm_looks.specs.Opening.{FitConfs}
 use Rattle.fm_looks.proofs.Spelled.{conf_once, none_fits}
-use Rattle.fm_looks.proofs.StoreConfs.{conf_refused, conf_taken}
+use Rattle.fm_looks.proofs.StoreConfs.{conf_refused, conf_taken, kept_push}
 use Rattle.fm_looks.proofs.confs.ConfReaderPayloadReader.take.Goals as goal
 
 pub returns-in_default-clause-refused : goal.returns-in_default-clause-refused
@@ -32,3 +32,9 @@ returns-clause-taken c = λ yes payloads took.
     c.in-Some.conf c.in_ok-conf.field-0 payloads c.args.payload.now c.deref.ensures.value
     c.in_ok-push.ensures.items c.in-Some.is c.in_ok-conf.ensures.found
     (c.may_follow.ensures.yes c.if-not-may_follow.false) took
+
+pub returns-clause-rule : goal.returns-clause-rule
+returns-clause-rule c =
+    kept_push c.args.self.now.confs.items c.deref.result.now c.push.new.self.items c.in-Some.conf
+    c.in_ok-conf.field-0 c.args.payload.now c.deref.ensures.value c.in_ok-push.ensures.items
+    c.in-Some.is c.in_ok-conf.ensures.found (c.may_follow.ensures.yes c.if-not-may_follow.false)
