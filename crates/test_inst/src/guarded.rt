@@ -1,6 +1,6 @@
 //! Guarded links, and those that payloads break.
 
-use crate::inputs::{checked, topology};
+use crate::answers::{checked, topology};
 use ev_check::Checked;
 use ev_expr::Prop;
 use ev_inst::{Guards, instantiate, make_guards};
@@ -64,12 +64,10 @@ fn a_payload_breaks_a_guarded_link(rt: HostRuntime) -> Result<(), Fail> {
     let topo = topology(rt.alloc(), PARTS)?;
     let checked = checked(rt.alloc(), BOUND)?;
     let guards = guards_of(rt.alloc(), &checked, topo)?;
-    assert_eq!(rt; guards.is_guarded(4, 4), true);
-    assert_eq!(rt; guards.is_guarded(1, 4), false);
-    let kept = count_broken(rt.alloc(), &guards, 4, 3)?;
-    assert_eq!(rt; kept, 0);
-    let broken = count_broken(rt.alloc(), &guards, 4, 4)?;
-    assert_eq!(rt; broken, 1);
+    assert!(rt; guards.is_guarded(4, 4));
+    assert!(rt; !guards.is_guarded(1, 4));
+    assert!(rt; count_broken(rt.alloc(), &guards, 4, 3)? == 0);
+    assert!(rt; count_broken(rt.alloc(), &guards, 4, 4)? == 1);
     Ok(())
 }
 
@@ -84,9 +82,8 @@ fn is_open(
     let topo = topology(alloc, PARTS)?;
     let checked = checked(alloc, rules)?;
     let guards = guards_of(alloc, &checked, topo)?;
-    assert_eq!(rt; guards.is_guarded(instance, node), false);
-    let broken = count_broken(alloc, &guards, node, 4)?;
-    assert_eq!(rt; broken, 0);
+    assert!(rt; !guards.is_guarded(instance, node));
+    assert!(rt; count_broken(alloc, &guards, node, 4)? == 0);
     Ok(())
 }
 
