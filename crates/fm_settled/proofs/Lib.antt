@@ -1,0 +1,5 @@
+pub mod OrderedRecords
+pub mod CaseWords
+pub mod RecordRows
+pub mod BasedBooks
+pub mod ToBaseLaws

@@ -1,0 +1,2 @@
+pub mod ToBase
+pub mod CaseStatus
