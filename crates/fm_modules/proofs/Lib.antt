@@ -1,0 +1,4 @@
+mod FirstModules
+mod Gates
+mod KeptRows
+mod StoreModules

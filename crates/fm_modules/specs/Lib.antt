@@ -1,0 +1,4 @@
+pub mod KeptTexts
+pub mod Modules
+pub mod OpenStore
+pub mod Opening
