@@ -28,7 +28,8 @@ AreExactWords r x = All (IsExact ByStories r) x.events
 exact_at : (r : Rules) (s : State) (n : ℕ) (e : Entry) → HaveGraphs r
     → IsTrue (diagnoser_holds r s) → n < 2 ^ 46 → IsSpelled e
     → All (IsExact ByStories r) (diagnoser_says r s n e)
-exact_at r (Diagnosing s) n e graphs holds few spelled = exact_words r s n e graphs holds few spelled
+exact_at r (Diagnosing s) n e graphs holds few spelled =
+    exact_words r s n e graphs holds few spelled
 exact_at r (Counting xs) n e graphs holds few spelled = absurd (false≢true holds)
 exact_at r (Foreign bytes) n e graphs holds few spelled = absurd (false≢true holds)
 

@@ -15,7 +15,8 @@ use Rattle.fm_core.specs.Folds.{words_along}
 use Rattle.fm_core.specs.Meaning.{holds_of}
 use Rattle.fm_core.specs.Records.{of_module, numbered_from, numbered_before}
 use Rattle.fm_core.proofs.Along.{words_within}
-use Rattle.fm_core.proofs.Lists.{all_append, all_filter, all_map, filter_none, filter_passes, map_got}
+use Rattle.fm_core.proofs.Lists.{all_append, all_filter, all_map, filter_none, filter_passes}
+use Rattle.fm_core.proofs.Lists.{map_got}
 use Rattle.fm_core.proofs.Ordered.{within_from, from_all}
 use Rattle.fm_core.proofs.Tests.{true_lt, le_false}
 use Rattle.fm_logs.specs.Contents.{Contents}

@@ -12,8 +12,8 @@
 //! said of one module ([`suspects_are_exact_along`]), of a drained book
 //! ([`drained_books_are_exact`]), and of the book that the contents of a store's disks read as,
 //! with more entries behind ([`books_on_disks_are_exact`]). Records from before the base were said
-//! along earlier entries, and no move of a book changes them. Each law is the contract of a function
-//! without a body.
+//! along earlier entries, and no move of a book changes them. Each law is the contract of a
+//! function without a body.
 #![tactic(auto)]
 
 mod laws;

@@ -192,7 +192,8 @@ sorted_rises (x ∷ xs) s = (
 ascending_rises : (xs : List Spoken) → IsAscending xs → Rises (λ r. r.number) xs
 ascending_rises [] a = tt
 ascending_rises (x ∷ xs) a = (
-  all_map (λ y. x.number < y.number) (λ y. x.number ≤ y.number) xs (λ y low. omega (arith, low)) a.0,
+  all_map (λ y. x.number < y.number) (λ y. x.number ≤ y.number) xs
+      (λ y low. omega (arith, low)) a.0,
   ascending_rises xs a.1,
 )
 

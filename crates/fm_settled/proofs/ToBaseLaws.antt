@@ -28,7 +28,8 @@ use Rattle.fm_logs.specs.declared.fault.StoreFault.TheVariants.{Damaged, Exists}
 use Rattle.fm_looks.specs.Opening.{slot_name}
 use Rattle.fm_store.specs.Slots.{next_slot}
 use Rattle.fm_store.specs.StoreCalls.{next_entry, saves_of, AreAtEnd, HandsAreDone, CheckpointDoes}
-use Rattle.fm_store.specs.StoreCalls.{CheckpointRefused, Checkpoints, CheckpointsOnBook, ClosesAtSlot}
+use Rattle.fm_store.specs.StoreCalls.{CheckpointRefused, Checkpoints, CheckpointsOnBook}
+use Rattle.fm_store.specs.StoreCalls.{ClosesAtSlot}
 use Rattle.fm_store.specs.StoreLeft.{AreSameStore, MomentsOn, EachLeft, ReadsLike, StoreIsLeft}
 use Rattle.fm_store.specs.StoreLeft.{OthersAreLeft, store_based, store_disk, with_content}
 use Rattle.fm_store.specs.StoreOf.{StoreOf, StoreBaseOf, StoreStandsFor, fills_second}
@@ -186,7 +187,8 @@ module _ {D M : Type 0} (g : Ghosts D) (m : ModuleGhosts M) where
   hand_at_base mid new states i h writes end at =
       let here : h.cursor ≡ next_entry mid.logs =
       true_eq h.cursor (next_entry mid.logs) (list_all_get
-      (λ (cursor : ℕ). cursor == next_entry mid.logs) mid.logs.cursors i h.cursor end at.cursor_is) in
+      (λ (cursor : ℕ). cursor == next_entry mid.logs) mid.logs.cursors i h.cursor end
+      at.cursor_is) in
       let base : new.logs.base ≡ next_entry mid.logs =
       ap (λ (l : LogsOf D). l.base) writes.logs_are in
       record {

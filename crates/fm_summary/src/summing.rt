@@ -1,0 +1,41 @@
+//! The text of the summary of a drained book.
+
+ghost use Rattle.std.specs.Prelude.{◌≡◌, ◌++◌, ℕ, List, OnOk, OnErr, map, flat_map};
+ghost use Rattle.fm_adm.specs.Summary.{IsSummary};
+ghost use Rattle.fm_core.specs.Book.{Book, next_number};
+ghost use Rattle.fm_core.specs.Drained.{drained};
+ghost use Rattle.fm_core.specs.Hands.{shown};
+ghost use Rattle.fm_settled.specs.CaseStatus.{IsStatusOf};
+ghost use Rattle.fm_store.specs.StoreCalls.{HandsAreDone};
+ghost use Rattle.fm_summary.specs.DrainedSummary.{diagnosers, open_of_shown, IsSummaryOf};
+
+use crate::open_cases::open_reports;
+use dx_engine::Diagnoser;
+use fm_adm::write_summary;
+use fm_bytes::NoMemory;
+use fm_core::Hand;
+use fm_status::Status;
+use std::alloc::Global;
+
+/// Appends the summary: the number of entries ever, the open cases of the hands' modules, and what
+/// each case has come to. After `NoMemory` the buffer holds what it held.
+pub fn write_drained(
+    alloc: Global,
+    entries: u64,
+    hands: &[Hand<Diagnoser>],
+    status: &Status,
+    out: &mut Vec<u8>,
+) -> Result<(), NoMemory>
+    ensures ok { OnOk result ((text : List ℕ)
+        × IsSummary entries
+        (flat_map open_of_shown (map (shown diagnosers) hands.now)) status.now text
+        × (out.new.items ≡ out.old.items ++ text)) }
+    ensures drained { (k : Book) → HandsAreDone diagnosers k hands.now
+        → entries ≡ next_number k → IsStatusOf (drained k) status.now
+        → OnOk result ((text : List ℕ) × IsSummaryOf (drained k) text
+        × (out.new.items ≡ out.old.items ++ text)) }
+    ensures err { OnErr result (out.new.items ≡ out.old.items) }
+{
+    let cases = open_reports(alloc, hands)?;
+    write_summary(alloc, entries, &cases, status, out)
+}
