@@ -106,6 +106,8 @@ pub fn open_records<D: Disk, M: Module>(
         → BeginsAt M.Module base entries.now modules.items k
         → RecordsKept D.Disk M.Module c k read.journal read.modules.items) }
     ensures is_open { IfOk result (λ read. read.journal.closed ≡ None) }
+    ensures count_kept { IfOk result
+        (λ read. D.failures read.journal.disk ≡ D.failures disk) }
     ensures kept { IfOk result (λ read. meanings_of M.Module read.modules.items
         ≡ meanings_of M.Module modules.items) }
     ensures within { IfOk result

@@ -1,4 +1,4 @@
-mod FirstModules
+pub mod FirstModules
 mod Gates
 mod KeptRows
 mod StoreModules

@@ -62,6 +62,9 @@ fn with_modules<D: Disk>(alloc: Global, opened: Opened<D>) -> Result<OpenStore<D
     ensures is { IfOk result IsOpenStore }
     ensures read { IfOk result (λ open_store. (name : NamesDisk) → OnlyRead D.Disk
         (disk_named name (disks_of opened)) (store_disk name open_store.store)) }
+    ensures counts_kept { IfOk result (λ open_store. (name : NamesDisk)
+        → D.failures (store_disk name open_store.store)
+        ≡ D.failures (disk_named name (disks_of opened))) }
     ensures refused { IfErr result (λ refused.
         ModulesRefused D.Disk opened refused.disks refused.fault) }
     ensures back { IfErr result
@@ -93,6 +96,8 @@ pub fn open_store<D: Disk>(alloc: Global, disks: Disks<D>) -> Result<OpenStore<D
     ensures is { IfOk result IsOpenStore }
     ensures read { IfOk result (λ open_store. (name : NamesDisk) → OnlyRead D.Disk
         (disk_named name disks) (store_disk name open_store.store)) }
+    ensures counts_kept { IfOk result (λ open_store. (name : NamesDisk)
+        → D.failures (store_disk name open_store.store) ≡ D.failures (disk_named name disks)) }
     ensures refused { IfErr result (λ refused.
         OpenStoreRefused D.Disk disks refused.disks refused.fault) }
     ensures back { IfErr result (λ refused. WereOnlyRead D.Disk disks refused.disks) }

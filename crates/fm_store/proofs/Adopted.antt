@@ -225,6 +225,25 @@ module _ {D M : Type 0} (o : OpenedOf D) (b : Beside D) (is : b ≡ beside_of o)
       each SlotB = read-none g only_now o.slot_b
       each Flt = still
 
+  -- no call of a disk failed
+  pub adopted_counts : (g : Ghosts D) → g.failures flt.disk ≡ g.failures o.flt
+      → (name : DiskName)
+      → g.failures (store_disk name store) ≡ g.failures (disk_named name (disks_of o))
+  adopted_counts g kept_count name =
+      subst (λ (s : StoreOf D M).
+      g.failures (store_disk name s) ≡ g.failures (disk_named name (disks_of o)))
+      (sym whole_store) (each name)
+    where
+      each : (n : DiskName) → g.failures (store_disk n
+          (store_over (beside_of o) flt o.entries cursors kept saves))
+          ≡ g.failures (disk_named n (disks_of o))
+      each Conf = refl
+      each ErrA = ap g.failures (sym (two_is o.checkpoint.second o.active.disk o.spare))
+      each ErrB = ap g.failures (sym (two_other o.checkpoint.second o.active.disk o.spare))
+      each SlotA = refl
+      each SlotB = refl
+      each Flt = kept_count
+
   -- each hand is that of its module
   hand_of : (m : ModuleGhosts M) (modules later : List (Retraced M))
       → AreLoaded (made_modules m kept) saves (states_of m modules)

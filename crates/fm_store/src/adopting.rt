@@ -204,6 +204,8 @@ impl<D: Disk> Opened<D> {
             (λ (store, hands). IsAdopted M.Module self kept.items store hands.items) }
         ensures read { IfOk result (λ (store, _). (name : DiskName) → OnlyRead D.Disk
             (disk_named name (disks_of self)) (store_disk name store)) }
+        ensures counts_kept { IfOk result (λ (store, _). (name : DiskName)
+            → D.failures (store_disk name store) ≡ D.failures (disk_named name (disks_of self))) }
         ensures refused { IfErr result (λ refused. AdoptRefused D.Disk
             (made_modules M.Module kept.items) self refused.disks refused.fault) }
         ensures back { IfErr result

@@ -1,29 +1,62 @@
--- From a journal that took entries to what the disk holds.
-use Rattle.std.proofs.Common.{◌≡◌, ℕ, ◌+◌, List, ◌++◌, Bool, true, length, Option, Some, None}
-use Rattle.std.proofs.Common.{Result, Ok, Err, ◌∙◌, subst, arith, inl, inr}
+-- From a store that took entries to what its disks hold.
+use Rattle.std.proofs.Common.{◌≡◌, ◌⊎◌, inl, inr, ℕ, ◌+◌, ◌-◌, ◌^◌, ◌==◌, nat_lt, if◌then◌else◌, List}
+use Rattle.std.proofs.Common.{[], ◌∷◌, ◌++◌, Bool, true, false, length, Option, Some, None, Result}
+use Rattle.std.proofs.Common.{Ok, Err, refl, sym, ◌∙◌, ap, subst, arith, append_assoc}
+use Rattle.std.specs.Prelude.{MatchResult}
+use Rattle.std.specs.Io.KnownBytes.{Appends, Consumes, IsAtEnd}
 use Rattle.std.specs.Result.{IfErr, OnOk}
-use Rattle.std.proofs.lemmas.Result.{IfErr-weaker, on_ok_weaker}
-use Rattle.fm_outer.specs.declared.disk.Disk.{Ghosts}
-use Rattle.fm_entry.specs.declared.entry.Entry.{Entry}
+use Rattle.std.proofs.lemmas.List.{length-map}
+use Rattle.fm_core.specs.Book.{ModuleState}
 use Rattle.fm_entry.specs.Entries.{entry_bytes}
-use Rattle.fm_journal.specs.Crash.{IsOldOrNew}
-use Rattle.fm_journal.specs.Format.{IsJournal}
+use Rattle.fm_entry.specs.declared.entry.Entry.{Entry}
+use Rattle.fm_init.specs.Making.{AreFirstModules}
+use Rattle.fm_journal.specs.Causes.{refused}
+use Rattle.fm_journal.specs.Format.{end_of}
 use Rattle.fm_journal.specs.JournalOf.{JournalOf}
 use Rattle.fm_journal.specs.Keeps.{Keeps}
-use Rattle.fm_top.specs.declared.stops.Stop.{Stop}
-use Rattle.fm_top.specs.declared.stops.Stop.TheVariants.{Write, Disk, Memory, Full}
-use Rattle.std.specs.Io.KnownBytes.{Appends, Consumes}
-use Rattle.std.proofs.KnownBytes.{Appends-nil, Consumes-nil}
+use Rattle.fm_journal.specs.declared.fault.FullKind.{FullKind}
+use Rattle.fm_journal.specs.declared.fault.FullKind.TheVariants.{Records, Numbers, Bytes, Payload}
+use Rattle.fm_journal.specs.declared.fault.FullKind.TheVariants.{Input}
 use Rattle.fm_journal.specs.declared.fault.JournalFault.{JournalFault}
 use Rattle.fm_journal.specs.declared.fault.JournalFault.TheVariants as fault
+use Rattle.fm_logs.specs.Contents.{Contents, AreTold, WereOnlyRead, content_named, disk_named}
+use Rattle.fm_logs.specs.Contents.{AreSameDisks, active_of_two}
+use Rattle.fm_logs.specs.LogsOf.{CannotTake}
+use Rattle.fm_logs.specs.ReadsAsBook.{EachSpells, SpellsEntry}
+use Rattle.fm_logs.specs.StoreBook.{StoreBook}
+use Rattle.fm_logs.specs.declared.disks.Disks.{Disks}
+use Rattle.fm_logs.specs.declared.disks.DiskName.{DiskName}
+use Rattle.fm_logs.specs.declared.disks.DiskName.TheVariants.{Conf, ErrA, ErrB, SlotA, SlotB}
+use Rattle.fm_logs.specs.declared.fault.StoreFault.{StoreFault}
+use Rattle.fm_logs.specs.declared.fault.StoreFault.TheVariants as store
+use Rattle.fm_looks.specs.Opening.{book_read}
+use Rattle.fm_modules.specs.Modules.{file_count}
+use Rattle.fm_modules.specs.OpenStore.{OpensStore, OpenStoreRefused}
+use Rattle.fm_modules.specs.declared.opening.OpenStore.{OpenStore}
+use Rattle.fm_modules.proofs.FirstModules.{first_are}
+use Rattle.fm_outer.specs.Failures.{Rose}
+use Rattle.fm_outer.specs.Moments.{OnlyRead}
+use Rattle.fm_outer.specs.declared.disk.Disk.{Ghosts}
+use Rattle.fm_store.specs.Opened.{NoneFailed, RoseOnAny}
+use Rattle.fm_store.specs.StoreCalls.{next_entry}
+use Rattle.fm_store.specs.StoreLeft.{store_disk, AreDisksOf, StoreIsLeft}
+use Rattle.fm_store.specs.StoreOf.{StoreOf, StoreStandsFor}
+use Rattle.fm_store.proofs.OpeningLaws.{reads_as_book}
+use Rattle.fm_store.proofs.StoreReads.{left_active, says_left, store_reads}
+use Rattle.fm_top.specs.Accepting.{AcceptRan, AcceptedAll, AcceptedUntil, NotOpened, OpeningStops}
+use Rattle.fm_top.specs.Accepting.{DisksAccount, Grew, ImageReads, LimitIs}
 use Rattle.fm_top.specs.Accounts.{Accounts}
-use Rattle.fm_top.specs.Accepting.{ImageIs, LimitIs, Grew, AcceptedAll}
-use Rattle.fm_top.specs.Accepting.{AcceptStops}
-use Rattle.fm_top.specs.Opening.{Stood, OpeningCause, OpeningStops, LeftUnopened}
-use Rattle.fm_top.specs.Recorders.{stop_for}
-use Rattle.fm_top.specs.Recording.{payloads_of, LastLeft, Recorded}
 use Rattle.fm_top.specs.Answers.{answers}
-use Rattle.fm_top.specs.Running.{Line, Taken, StopsAt, StopsBetween, RanAll, RanUntil}
+use Rattle.fm_top.specs.Kept.{BookAt}
+use Rattle.fm_top.specs.Lending.{six_paired}
+use Rattle.fm_top.specs.Outside.{SourceAt, SinkAt, disks_at}
+use Rattle.fm_top.specs.Recording.{payloads_of, store_with, FullCause, BookLeft, Recorded}
+use Rattle.fm_top.specs.Running.{Line, Taken, StopsAt, RanAll, RanUntil}
+use Rattle.fm_top.specs.Stops.{of_store}
+use Rattle.fm_top.specs.declared.stops.Stop.{Stop}
+use Rattle.fm_top.specs.declared.stops.Stop.TheVariants.{Read, Write, Disk, Memory, Full}
+use Rattle.fm_top.proofs.Lending.{six_of_paired}
+use Rattle.fm_top.proofs.SixDisks.{told_all, images_all, all_only_read, rose_any, none_counts}
 
 -- a run, in weaker words of what became of the entries
 stops_weaker : (strong weak : Taken) (puts : List ℕ → Type 0) (answered : List Line → List ℕ)
@@ -79,171 +112,318 @@ until_weaker strong weak puts is_told next consumes at_end stop on (inr ran) = i
       ran.stops;
 })
 
--- the journal stands for what the bytes stood for
-abbrev pub Stands : {D : Type 0} → Ghosts D → Option (List ℕ) → JournalOf D → Type 0
-Stands g was j =
-    (bytes : List ℕ) (first : ℕ) (payloads : List (List ℕ)) → was ≡ Some bytes
-    → Stood bytes first payloads
-    → (j.first ≡ first) × Keeps g j payloads
+-- ---- which limit is reached
 
-left_of : {D : Type 0} (g : Ghosts D) (was : Option (List ℕ)) (j k : JournalOf D) (es : List Entry)
-    (last : Option (Stop × Entry))
-    → Stands g was j → k.first ≡ j.first → LastLeft g j k (payloads_of es) last
-    → (bytes : List ℕ) (first : ℕ) (before : List (List ℕ)) (image : List ℕ) → was ≡ Some bytes
-    → Stood bytes first before
-    → g.images k.disk image → ImageIs first (before ++ payloads_of es) last image
-left_of g was j k es None stands same left bytes first before image told stood here =
-    let (from, keeps) = stands bytes first before told stood in
-    subst (λ n. IsJournal image n (before ++ payloads_of es)) (same ∙ from)
-    ((left.1 before keeps).left image here)
-left_of g was j k es (Some (Disk, entry)) stands same left bytes first before image told stood
-    here =
-    let (from, keeps) = stands bytes first before told stood in
-    subst (λ n. IsOldOrNew n (before ++ payloads_of es) (entry_bytes entry) image) from
-    (left before keeps image here)
-left_of g was j k es (Some (Full kind, entry)) stands same left bytes first before image told stood
-    here =
-    let (from, keeps) = stands bytes first before told stood in
-    subst (λ n. IsJournal image n (before ++ payloads_of es)) (same ∙ from)
-    ((left.1 before keeps).left image here)
-left_of g was j k es _ stands same left bytes first before image told stood here = absurd left
+-- what an open journal refuses by
+abbrev IsOfLimits : JournalFault → Type 0
+IsOfLimits why = (why ≡ fault.Full Records)
+    ⊎ ((why ≡ fault.Full Numbers) ⊎ (why ≡ fault.Full Bytes))
 
-limit_of : {D : Type 0} (g : Ghosts D) (was : Option (List ℕ)) (j k : JournalOf D) (es : List Entry)
-    (last : Option (Stop × Entry))
-    → Stands g was j → k.first ≡ j.first → k.count ≡ j.count + length es
-    → LastLeft g j k (payloads_of es) last
-    → LimitIs was (j.first + j.count) es last
-limit_of g was j k es (Some (Full kind, entry)) stands same counted left = (
-  k.first,
-  k.count,
-  k.end,
-  omega (arith, same, counted),
-  left.0,
-  λ bytes from before told stood.
-      let (first, keeps) = stands bytes from before told stood in
-      (same ∙ first, (left.1 before keeps).counted, (left.1 before keeps).ends),
-)
-limit_of g was j k es _ stands same counted left = tt
-
--- what became of the journal, in the words of its disk
-grew_of : {D : Type 0} (g : Ghosts D) (was : Option (List ℕ)) (j k : JournalOf D)
-    → Stands g was j → (es : List Entry) (last : Option (Stop × Entry)) → Recorded g j k es last
-    → Grew was (g.images k.disk) (j.first + j.count) es last
-grew_of g was j k stands es last recorded = record {
-  numbered = λ bytes first before told stood.
-      let (from, keeps) = stands bytes first before told stood in
-      omega (arith, from, keeps.counted);
-  left = left_of g was j k es last stands recorded.first recorded.left;
-  limit = limit_of g was j k es last stands recorded.first recorded.count recorded.left;
-}
-
--- how the disk's count goes with a run that stopped
-until_counts : {D : Type 0} (g : Ghosts D) (j k : JournalOf D)
-    (puts : List ℕ → Type 0) (is_told : Bool) (next : ℕ) (consumes : List ℕ → Type 0)
-    (at_end : Type 0) (stop : Stop)
-    → RanUntil (Recorded g j k) puts is_told next consumes at_end stop
-    → Accounts {T = Unit {0}} Disk (g.failures j.disk) (g.failures k.disk) (Err stop)
-until_counts g j k puts is_told next consumes at_end stop (inl ran) = (
-  omega (arith, ran.took.counts),
-  λ disk. absurd (subst (λ s. StopsBetween ran.read ran.more s) disk ran.why),
-)
-until_counts g j k puts is_told next consumes at_end stop (inr ran) = line_counts stop ran.stops
+open_refusal : (first count end size : ℕ) (why : JournalFault)
+    → refused None first count end size ≡ Some why → IsOfLimits why
+open_refusal first count end size why is =
+    by_tests (count == 2 ^ 32 - 1) (first + count == 2 ^ 46) (nat_lt (2 ^ 40) (end + 1 + size)) is
   where
-    still : (n m : ℕ) (at : Stop) → m ≡ n → (at ≡ Disk → ⊥)
-        → Accounts {T = Unit {0}} Disk n m (Err at)
-    still n m at same other = (omega (arith, same), λ disk. absurd (other disk))
+    by_tests : (a b c : Bool)
+        → (if a then Some (fault.Full Records) else if b then Some (fault.Full Numbers)
+        else if c then Some (fault.Full Bytes) else None) ≡ Some why
+        → IsOfLimits why
+    by_tests true b c e = inl cc
+    by_tests false true c e = inr (inl cc)
+    by_tests false false true e = inr (inr cc)
+    by_tests false false false e = absurd (let no : ⊥ = cc in no)
 
-    line_counts : (at : Stop)
-        → StopsAt (Recorded g j k) puts (answers is_told 1 next) ran.lines ran.line at
-        → Accounts {T = Unit {0}} Disk (g.failures j.disk) (g.failures k.disk) (Err at)
-    line_counts Write (m, past, put, took) = still _ _ Write took.counts (λ e. cc)
-    line_counts Disk (put, (entry, only, last)) = (last.counts.0, λ e. last.counts)
-    line_counts (Full kind) (put, (entry, only, last)) = still _ _ (Full kind) last.counts (λ e. cc)
-    line_counts Memory (put, took) =
-        elim took [
-          | inl none ↦ still _ _ Memory none.counts (λ e. cc)
-          | inr one ↦ still _ _ Memory
-              one.counts (λ e. cc)
-        ]
-    line_counts _ stops = absurd stops
+no_payload : IsOfLimits (fault.Full Payload) → ⊥
+no_payload (inl e) = cc
+no_payload (inr (inl e)) = cc
+no_payload (inr (inr e)) = cc
 
--- how the disk's count goes with a run, whatever its end
-pub ran_counts : {D : Type 0} (g : Ghosts D) (j k : JournalOf D)
-    (puts : List ℕ → Type 0) (is_told : Bool) (next : ℕ) (consumes : List ℕ → Type 0)
-    (at_end : Type 0) (r : Result (Unit {0}) Stop)
-    → OnOk r (RanAll (Recorded g j k) puts is_told next consumes at_end)
-    → IfErr r (RanUntil (Recorded g j k) puts is_told next consumes at_end)
-    → Accounts Disk (g.failures j.disk) (g.failures k.disk) r
-ran_counts g j k puts is_told next consumes at_end (Ok done) all until = all.took.counts
-ran_counts g j k puts is_told next consumes at_end (Err stop) all until =
-    until_counts g j k puts is_told next consumes at_end stop until
+no_input : IsOfLimits (fault.Full Input) → ⊥
+no_input (inl e) = cc
+no_input (inr (inl e)) = cc
+no_input (inr (inr e)) = cc
 
--- the same since the count stood so
-pub counts_after : (a b c : ℕ) (r : Result (Unit {0}) Stop) → b ≡ a → Accounts Disk b c r
-    → Accounts Disk a c r
-counts_after a b c r same counts = subst (λ n. Accounts Disk n c r) same counts
+full_cause : (first count end : ℕ) (entry : Entry) (kind : FullKind)
+    → refused None first count end (5 + length (entry_bytes entry)) ≡ Some (fault.Full kind)
+    → FullCause first count end entry kind
+full_cause first count end entry Records is = is
+full_cause first count end entry Numbers is = is
+full_cause first count end entry Bytes is = is
+full_cause first count end entry Payload is =
+    absurd (no_payload (open_refusal first count end _ (fault.Full Payload) is))
+full_cause first count end entry Input is =
+    no_input (open_refusal first count end _ (fault.Full Input) is)
 
--- the whole command, once its journal was opened
-pub accepted_all : {D E : Type 0} (g : Ghosts D) (was : Option (List ℕ)) (j k : JournalOf D)
-    (puts consumes : List ℕ → Type 0) (at_end : Type 0) (r : Result E Stop)
-    → Stands g was j
-    → ((bytes : List ℕ) → was ≡ Some bytes → (payloads : List (List ℕ))
-    × Stood bytes j.first payloads)
-    → OnOk r (RanAll (Recorded g j k) puts true (j.first + j.count) consumes at_end)
-    → OnOk r (AcceptedAll was (g.images k.disk) puts consumes at_end)
-accepted_all g was j k puts consumes at_end r stands there ran =
-    on_ok_weaker r
-    (λ (done : RanAll (Recorded g j k) puts true (j.first + j.count) consumes at_end). record {
-      there = λ bytes told. let (payloads, stood) = there bytes told in (j.first, payloads, stood);
-      next = j.first + j.count;
-      ran = all_weaker _ _ puts true (j.first + j.count) consumes at_end (grew_of g was j k stands)
-          done;
-    })
-    ran
+-- payloads that spell entries are theirs
+all_spelled : (payloads : List (List ℕ)) (entries : List Entry)
+    → EachSpells SpellsEntry payloads entries → payloads ≡ payloads_of entries
+all_spelled [] [] spelled = refl
+all_spelled (p ∷ payloads) (e ∷ entries) spelled =
+    λ i. spelled.0.1 i ∷ all_spelled payloads entries spelled.1 i
+all_spelled [] (e ∷ entries) spelled = absurd spelled
+all_spelled (p ∷ payloads) [] spelled = absurd spelled
 
-pub accepted_until : {D E : Type 0} (g : Ghosts D) (was : Option (List ℕ)) (old : List ℕ → Type 0)
-    (j k : JournalOf D)
-    (puts consumes : List ℕ → Type 0) (at_end : Type 0) (r : Result E Stop)
-    → Stands g was j
-    → ((bytes : List ℕ) → was ≡ Some bytes → (payloads : List (List ℕ))
-    × Stood bytes j.first payloads)
-    → IfErr r (RanUntil (Recorded g j k) puts true (j.first + j.count) consumes at_end)
-    → IfErr r (AcceptStops was old (g.images k.disk) puts consumes at_end)
-accepted_until g was old j k puts consumes at_end r stands there ran =
-    IfErr-weaker r (RanUntil (Recorded g j k) puts true (j.first + j.count) consumes at_end)
-    (AcceptStops was old (g.images k.disk) puts consumes at_end)
-    (λ stop stopped. inr (record {
-      there = λ bytes told. let (payloads, stood) = there bytes told in (j.first, payloads, stood);
-      next = j.first + j.count;
-      ran = until_weaker _ _ puts true (j.first + j.count) consumes at_end stop
-          (grew_of g was j k stands) stopped;
-    }))
-    ran
+module _ {D : Type 0} (g : Ghosts D) where
+  -- a journal that keeps the entries' payloads has no room for one more
+  full_of : (j : JournalOf D) (payloads : List (List ℕ)) (entries : List Entry) (entry : Entry)
+      (kind : FullKind) → Keeps g j payloads → EachSpells SpellsEntry payloads entries
+      → CannotTake j (entry_bytes entry) kind
+      → FullCause j.first (length entries) (end_of (payloads_of entries)) entry kind
+  full_of j payloads entries entry kind keeps spelled (inl (is, long)) =
+      subst (λ k. FullCause j.first (length entries) (end_of (payloads_of entries)) entry k) (sym is)
+      long
+  full_of j payloads entries entry kind keeps spelled (inr (short, is)) =
+      let same : payloads ≡ payloads_of entries = all_spelled payloads entries spelled in
+      let count : j.count ≡ length entries =
+      keeps.counted ∙ ap length same ∙ length-map entries entry_bytes in
+      full_cause j.first (length entries) (end_of (payloads_of entries)) entry kind
+      (subst (λ n. refused None j.first n (end_of (payloads_of entries))
+      (5 + length (entry_bytes entry)) ≡ Some (fault.Full kind)) count
+      (subst (λ n. refused None j.first j.count n (5 + length (entry_bytes entry))
+      ≡ Some (fault.Full kind)) (keeps.ends ∙ ap end_of same)
+      (subst (λ c. refused c j.first j.count j.end (5 + length (entry_bytes entry))
+      ≡ Some (fault.Full kind)) keeps.is_open is)))
 
-opening_stops : (was : Option (List ℕ)) (before now : ℕ) (fault : JournalFault)
-    → OpeningCause was before now fault → OpeningStops was (stop_for fault)
-opening_stops was before now fault.Disk cause = tt
-opening_stops was before now (fault.Damaged place) cause = cause.1
-opening_stops was before now _ cause = absurd cause
+-- ---- what the disks hold
 
--- how the disk's count goes with an opening that was refused
-pub opening_counts : (was : Option (List ℕ)) (before now : ℕ) (fault : JournalFault)
-    → OpeningCause was before now fault
-    → Accounts {T = Unit {0}} Disk before now (Err (stop_for fault))
-opening_counts was before now fault.Disk cause = (cause.0, λ e. cause)
-opening_counts was before now (fault.Damaged place) cause =
-    (omega (arith, cause.0), λ e. absurd (let no : ⊥ = cc in no))
-opening_counts was before now _ cause = absurd cause
+module _ {D M : Type 0} (g : Ghosts D)
+    (seen_is_image : (disk : D) (c : List ℕ) → g.seen disk ≡ Some c → g.images disk c) where
+  -- what the disks of an open store tell, a crash now may leave
+  told_left : (disks : Disks D) (store : StoreOf D M) (c : Contents)
+      → ((name : DiskName) → OnlyRead g (disk_named name disks) (store_disk name store))
+      → AreTold g disks c → StoreIsLeft g store c
+  told_left disks store c read told name =
+      seen_is_image (store_disk name store) (content_named name c)
+      ((read name).same ∙ told name)
 
--- the whole command, where its journal was not opened
-pub not_opened : (was : Option (List ℕ)) (old new : List ℕ → Type 0) (put left : Option (List ℕ))
-    (at_end : Type 0)
-    (before after : ℕ) (fault : JournalFault)
-    → OpeningCause was before after fault → LeftUnopened was old new
-    → AcceptStops was old new (Appends put put) (Consumes left left) at_end (stop_for fault)
-not_opened was old new put left at_end before after fault cause unopened = inl (record {
-  put = Appends-nil put;
-  consumed = Consumes-nil left;
-  why = opening_stops was before after fault cause;
-  left = unopened;
-})
+  limit_of : (fresh : List ModuleState) (store now : StoreOf D M) (k : StoreBook) (c : Contents)
+      (es : List Entry) (last : Option (Stop × Entry)) → StoreStandsFor g fresh store k
+      → StoreIsLeft g store c → Recorded g store now es last → LimitIs c fresh k es last
+  limit_of fresh store now k c es None st left went = tt
+  limit_of fresh store now k c es (Some (Full kind, entry)) st left went =
+      let keep = went.logs.0 st.older k.book.records st.keep in
+      let begins : now.logs.active.first ≡ store.logs.active.first =
+      omega (arith, keep.begins, st.keep.begins, went.base_is) in
+      let logged : st.older ++ now.logs.entries ≡ (st.older ++ store.logs.entries) ++ es =
+      ap (λ xs. st.older ++ xs) went.entries_are
+      ∙ sym (append_assoc st.older store.logs.entries es) in
+      record {
+        second = store.logs.second;
+        says = says_left g fresh store k c st (left Conf) (left SlotA) (left SlotB);
+        first = store.logs.active.first;
+        logged = st.older ++ store.logs.entries;
+        active = record {
+          payloads = st.keep.entry_payloads;
+          journal = st.keep.entries_keep.left (active_of_two store.logs.second c)
+              (left_active g store c (left ErrA) (left ErrB));
+          spelled = st.keep.entries_spelled;
+        };
+        reached = subst (λ n. FullCause n (length ((st.older ++ store.logs.entries) ++ es))
+            (end_of (payloads_of ((st.older ++ store.logs.entries) ++ es))) entry kind) begins
+            (subst (λ xs. FullCause now.logs.active.first (length xs) (end_of (payloads_of xs))
+            entry kind) logged
+            (full_of g now.logs.active keep.entry_payloads (st.older ++ now.logs.entries) entry kind
+            keep.entries_keep keep.entries_spelled went.logs.1));
+      }
+  limit_of fresh store now k c es (Some (_, entry)) st left went = tt
+
+  images_read : (fresh : List ModuleState) (now : StoreOf D M) (k : StoreBook) (es : List Entry)
+      (last : Option (Stop × Entry)) (image : Contents) → BookLeft g fresh now k es last
+      → StoreIsLeft g now image → ImageReads fresh k es last image
+  images_read fresh now k es None image stands left =
+      store_reads g fresh now (store_with k es) stands image left
+  images_read fresh now k es (Some (Disk, entry)) image either left = either image left
+  images_read fresh now k es (Some (Full kind, entry)) image stands left =
+      store_reads g fresh now (store_with k es) stands image left
+  images_read fresh now k es (Some (_, entry)) image none left = absurd none
+
+  -- the store stands for the book that the contents read as
+  abbrev pub StandsAt : StoreOf D M → Contents → Type 0
+  StandsAt store c = (stood : BookAt c) × StoreStandsFor g stood.fresh store stood.book
+
+  -- what became of the store, in the words of its disks
+  grew_of : (disks disks_now : Disks D) (store now : StoreOf D M)
+      → ((name : DiskName) → OnlyRead g (disk_named name disks) (store_disk name store))
+      → ((c : Contents) → AreTold g disks c → StandsAt store c) → AreDisksOf now disks_now
+      → (es : List Entry) (last : Option (Stop × Entry)) → Recorded g store now es last
+      → Grew (disks_at g disks) (disks_at g disks_now) (next_entry store.logs) es last
+  grew_of disks disks_now store now read stands_at are es last went told tells =
+      let at_told = told_all g disks told tells in
+      let (stood, st) = stands_at told at_told in
+      record {
+        stood = stood;
+        numbered = λ i. st.base_is i + length (st.entries_are i);
+        left = λ image leaves. images_read stood.fresh now stood.book es last image
+            (went.book stood.fresh stood.book st)
+            (λ name. subst (λ (d : D). g.images d (content_named name image)) (sym (are name))
+            (images_all g disks_now image leaves name));
+        limit = limit_of stood.fresh store now stood.book told es last st
+            (told_left disks store told read at_told) went;
+      }
+
+module _ {D M : Type 0} (g : Ghosts D) where
+  -- a count of a disk rose since before the opening
+  rose_since : (disks disks_now : Disks D) (store now : StoreOf D M) (es : List Entry)
+      (entry : Entry)
+      → ((name : DiskName)
+      → g.failures (store_disk name store) ≡ g.failures (disk_named name disks))
+      → AreDisksOf now disks_now → Recorded g store now es (Some (Disk, entry))
+      → RoseOnAny g disks disks_now
+  rose_since disks disks_now store now es entry quiet are went = (
+    went.counts.0,
+    subst (λ (d : D). Rose (g.failures (disk_named went.counts.0 disks)) (g.failures d))
+        (are went.counts.0)
+        (subst (λ n. Rose n (g.failures (store_disk went.counts.0 now))) (quiet went.counts.0)
+        went.counts.1),
+  )
+
+  none_since : (disks disks_now : Disks D) (store now : StoreOf D M) (es : List Entry)
+      → ((name : DiskName)
+      → g.failures (store_disk name store) ≡ g.failures (disk_named name disks))
+      → AreDisksOf now disks_now → Recorded g store now es None → NoneFailed g disks disks_now
+  none_since disks disks_now store now es quiet are went name =
+      sym (ap g.failures (are name)) ∙ went.counts name ∙ quiet name
+
+  -- how the disks' counts go with a run, whatever its end
+  pub disks_account : (disks disks_now : Disks D) (store now : StoreOf D M)
+      (puts : List ℕ → Type 0) (is_told : Bool) (next : ℕ) (consumes : List ℕ → Type 0)
+      (at_end : Type 0) (r : Result (Unit {0}) Stop)
+      → ((name : DiskName)
+      → g.failures (store_disk name store) ≡ g.failures (disk_named name disks))
+      → AreDisksOf now disks_now
+      → OnOk r (RanAll (Recorded g store now) puts is_told next consumes at_end)
+      → IfErr r (RanUntil (Recorded g store now) puts is_told next consumes at_end)
+      → DisksAccount (disks_at g disks) (disks_at g disks_now) r
+  disks_account disks disks_now store now puts is_told next consumes at_end (Ok done) quiet are all
+      until = none_counts g disks disks_now (none_since disks disks_now store now _ quiet are all.took)
+  disks_account disks disks_now store now puts is_told next consumes at_end (Err Disk) quiet are all
+      (inl ran) = absurd ran.why
+  disks_account disks disks_now store now puts is_told next consumes at_end (Err Disk) quiet are all
+      (inr ran) =
+      let (put, (entry, only, last)) = ran.stops in
+      rose_any g disks disks_now (rose_since disks disks_now store now _ entry quiet are last)
+  disks_account disks disks_now store now puts is_told next consumes at_end (Err _) quiet are all
+      until = tt
+
+  -- the whole command, once its store was opened
+  pub opened_ran : (seen_is_image : (disk : D) (c : List ℕ) → g.seen disk ≡ Some c
+      → g.images disk c) (disks disks_now : Disks D) (store now : StoreOf D M)
+      (input input_now : SourceAt) (out out_now : SinkAt) (r : Result (Unit {0}) Stop)
+      → ((name : DiskName) → OnlyRead g (disk_named name disks) (store_disk name store))
+      → ((name : DiskName)
+      → g.failures (store_disk name store) ≡ g.failures (disk_named name disks))
+      → ((c : Contents) → AreTold g disks c → StandsAt g seen_is_image store c)
+      → AreDisksOf now disks_now
+      → OnOk r (RanAll (Recorded g store now) (Appends out.bytes out_now.bytes) true
+      (next_entry store.logs) (Consumes input.left input_now.left) (IsAtEnd input_now.left))
+      → IfErr r (RanUntil (Recorded g store now) (Appends out.bytes out_now.bytes) true
+      (next_entry store.logs) (Consumes input.left input_now.left) (IsAtEnd input_now.left))
+      → Accounts Read input.failures input_now.failures r
+      → Accounts Write out.failures out_now.failures r
+      → AcceptRan input input_now out out_now (disks_at g disks) (disks_at g disks_now) r
+  opened_ran seen_is_image disks disks_now store now input input_now out out_now r read quiet
+      stands_at are all until counts_input counts_out = record {
+        went = went r all until;
+        counts_input = counts_input;
+        counts_out = counts_out;
+        counts_disks = disks_account disks disks_now store now _ _ _ _ _ r quiet are all until;
+      }
+    where
+      grew : (es : List Entry) (last : Option (Stop × Entry)) → Recorded g store now es last
+          → Grew (disks_at g disks) (disks_at g disks_now) (next_entry store.logs) es last
+      grew = grew_of g seen_is_image disks disks_now store now read stands_at are
+
+      went : (r : Result (Unit {0}) Stop)
+          → OnOk r (RanAll (Recorded g store now) (Appends out.bytes out_now.bytes) true
+          (next_entry store.logs) (Consumes input.left input_now.left) (IsAtEnd input_now.left))
+          → IfErr r (RanUntil (Recorded g store now) (Appends out.bytes out_now.bytes) true
+          (next_entry store.logs) (Consumes input.left input_now.left) (IsAtEnd input_now.left))
+          → MatchResult r
+          (λ _. AcceptedAll input input_now out out_now (disks_at g disks) (disks_at g disks_now))
+          (λ stop. NotOpened input input_now out out_now (disks_at g disks) (disks_at g disks_now)
+          stop ⊎ AcceptedUntil input input_now out out_now (disks_at g disks)
+          (disks_at g disks_now) stop)
+      went (Ok done) all until = record {
+        next = next_entry store.logs;
+        ran = all_weaker _ _ _ true (next_entry store.logs) _ _ grew all;
+      }
+      went (Err stop) all until = inr (record {
+        next = next_entry store.logs;
+        ran = until_weaker _ _ _ true (next_entry store.logs) _ _ stop grew until;
+      })
+
+-- what is open stands for what the contents read as
+pub stands_of : {D : Type 0} (g : Ghosts D)
+    (seen_is_image : (disk : D) (c : List ℕ) → g.seen disk ≡ Some c → g.images disk c)
+    (c : Contents) (opened : OpenStore D) → OpensStore g c opened
+    → StandsAt g seen_is_image opened.store c
+stands_of g seen_is_image c opened opens = (
+  record {
+    fresh = opens.fresh;
+    book = book_read opens.adopts.read;
+    made = opens.modules;
+    reads = reads_as_book opens.fresh c opens.adopts.read
+        (subst AreFirstModules (sym opens.modules.modules_are)
+        (first_are (file_count opens.adopts.read.confs) opens.modules.rows)) opens.adopts.pass;
+  },
+  opens.adopts.stands,
+)
+
+-- the disks that come back of a store are those that it was opened on
+pub same_back : {D M : Type 0} (g : Ghosts D) (disks disks_now : Disks D) (store now : StoreOf D M)
+    → ((name : DiskName) → OnlyRead g (disk_named name disks) (store_disk name store))
+    → six_paired (λ n. g.name (store_disk n now)) ≡ six_paired (λ n. g.name (store_disk n store))
+    → AreDisksOf now disks_now → AreSameDisks g disks disks_now
+same_back g disks disks_now store now read same are name =
+    sym (ap g.name (are name))
+    ∙ six_of_paired (λ n. g.name (store_disk n now)) (λ n. g.name (store_disk n store)) same name
+    ∙ (read name).same_disk
+
+pub read_back : {D : Type 0} (g : Ghosts D) (disks disks_now : Disks D)
+    → WereOnlyRead g disks disks_now → AreSameDisks g disks disks_now
+read_back g disks disks_now read name = (read name).same_disk
+
+-- ---- a store that was not opened
+
+-- no fault of a store is one of the input or of the sink
+of_no_stream : (fault : StoreFault) → (of_store fault ≡ Read → ⊥) × (of_store fault ≡ Write → ⊥)
+of_no_stream store.Disk = (λ e. cc, λ e. cc)
+of_no_stream (store.Full kind) = (λ e. cc, λ e. cc)
+of_no_stream (store.Closed disk failures) = (λ e. cc, λ e. cc)
+of_no_stream (store.Damaged disk place) = (λ e. cc, λ e. cc)
+of_no_stream store.Exists = (λ e. cc, λ e. cc)
+of_no_stream store.NoMemory = (λ e. cc, λ e. cc)
+
+module _ {D : Type 0} (g : Ghosts D) where
+  -- the whole command, where its store was not opened
+  pub not_opened : (disks disks_now : Disks D) (input : SourceAt) (out : SinkAt)
+      (fault : StoreFault) → OpenStoreRefused g disks disks_now fault
+      → WereOnlyRead g disks disks_now
+      → AcceptRan input input out out (disks_at g disks) (disks_at g disks_now)
+      (Err (of_store fault))
+  not_opened disks disks_now input out fault refused read = record {
+    went = inl (record {
+      consumed = refl;
+      put = refl;
+      untouched = all_only_read g disks disks_now read;
+      why = why fault refused;
+    });
+    counts_input = (omega arith, λ e. absurd ((of_no_stream fault).0 e));
+    counts_out = (omega arith, λ e. absurd ((of_no_stream fault).1 e));
+    counts_disks = account fault refused;
+  }
+    where
+      why : (fault : StoreFault) → OpenStoreRefused g disks disks_now fault
+          → OpeningStops (disks_at g disks) (of_store fault)
+      why store.Disk refused = tt
+      why store.NoMemory refused = tt
+      why (store.Damaged disk place) refused =
+          λ told tells. refused told (told_all g disks told tells)
+      why _ refused = absurd refused
+
+      account : (fault : StoreFault) → OpenStoreRefused g disks disks_now fault
+          → DisksAccount (disks_at g disks) (disks_at g disks_now) (Err (of_store fault))
+      account store.Disk refused = rose_any g disks disks_now refused
+      account store.NoMemory refused = tt
+      account (store.Damaged disk place) refused = tt
+      account _ refused = absurd refused

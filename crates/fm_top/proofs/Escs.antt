@@ -14,6 +14,7 @@ use Rattle.fm_top.specs.Calls.{IsCaused, Does}
 use Rattle.fm_top.specs.Ending.{EndsAs}
 use Rattle.fm_top.specs.Esc.{EscEnds, EscInputEnds, TextEnds}
 use Rattle.fm_top.specs.Esc.{after_listing}
+use Rattle.fm_top.specs.Headline.{AreFromBefore}
 use Rattle.fm_top.specs.Order.{Goes, at_graphs, looks, world_of}
 use Rattle.fm_top.specs.Outside.{Outside, SinkAt, standing, source_at, given_of}
 use Rattle.fm_top.specs.Outside.{disk_counts, counts_of}
@@ -107,8 +108,8 @@ pub does_esc : (before after : Outside) (middle : SinkAt) (form : GraphForm)
     → EscEnds standing form (given_of before) (given_of after) before.out middle ran
     → EndsAs middle after.out ran result → after.input ≡ before.input
     → after.acts ≡ before.acts → disk_counts after.disks ≡ disk_counts before.disks
-    → Does (Some (Esc form)) before after result
-does_esc before after middle form ran result ends last input acts disks =
+    → AreFromBefore before.disks after.disks → Does (Some (Esc form)) before after result
+does_esc before after middle form ran result ends last input acts disks same =
     let mid : Outside = record after { out = middle } in (
       ran,
       middle,
@@ -117,6 +118,7 @@ does_esc before after middle form ran result ends last input acts disks =
         cause = esc_caused before mid form ran ends;
         quiet = esc_quiet before mid form ran ends input acts disks;
         did = ends;
+        headline = same;
       },
       last,
     )
@@ -256,8 +258,8 @@ pub does_input : (before after : Outside) (middle : SinkAt) (ran : Result (Unit 
     → EndsAs middle after.out ran result → after.rules ≡ before.rules
     → after.topo ≡ before.topo → after.acts ≡ before.acts
     → disk_counts after.disks ≡ disk_counts before.disks
-    → Does (Some EscInput) before after result
-does_input before after middle ran result ends last rules topo acts disks =
+    → AreFromBefore before.disks after.disks → Does (Some EscInput) before after result
+does_input before after middle ran result ends last rules topo acts disks same =
     let mid : Outside = record after { out = middle } in (
       ran,
       middle,
@@ -266,6 +268,7 @@ does_input before after middle ran result ends last rules topo acts disks =
         cause = input_caused before mid ran ends;
         quiet = input_quiet before mid ran ends rules topo acts disks;
         did = ends;
+        headline = same;
       },
       last,
     )

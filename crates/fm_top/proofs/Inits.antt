@@ -31,6 +31,7 @@ use Rattle.fm_top.specs.declared.status.ToolStatus.{ToolStatus}
 use Rattle.fm_top.specs.declared.stops.Stop.{Stop}
 use Rattle.fm_top.specs.declared.stops.Stop.TheVariants.{Disk, Memory, Full, Exists}
 use Rattle.fm_top.specs.declared.words.Command.TheVariants.{Init}
+use Rattle.fm_top.proofs.Headlines.{has_store}
 use Rattle.fm_top.proofs.Standing.{reads_standing}
 
 -- ---- the order of refusals
@@ -246,6 +247,9 @@ does_init before after namespace ran result ends last input acts =
           put = refl;
           kept = init_kept before.disks after.disks namespace ran ends.got ends.went;
         };
+        headline = λ told tells stood image leaves.
+            init_kept before.disks after.disks namespace ran ends.got ends.went told image tells
+            (has_store told stood) leaves;
       },
       last,
     )

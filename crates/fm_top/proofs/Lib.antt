@@ -1,6 +1,5 @@
 pub mod Accepts
 pub mod AnswerLists
-pub mod Appends
 pub mod Confs
 pub mod CountLines
 pub mod Cuts
@@ -8,16 +7,17 @@ pub mod Doing
 pub mod Escs
 pub mod Feeding
 pub mod Halts
+pub mod Headlines
 pub mod Inits
 pub mod Lending
 pub mod Makings
 pub mod Moving
 pub mod Namespaces
 pub mod OnPieces
-pub mod Opens
-pub mod Orders
+pub mod Recordings
 pub mod Replays
 pub mod Sinks
+pub mod SixDisks
 pub mod Standing
 pub mod Stopping
 pub mod Summaries

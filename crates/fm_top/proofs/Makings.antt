@@ -7,7 +7,6 @@ use Rattle.fm_journal.specs.Crash.{IsEmptyOrNone}
 use Rattle.fm_journal.specs.declared.fault.FullKind.{FullKind}
 use Rattle.fm_saved.specs.Confs.{conf_bytes}
 use Rattle.fm_saved.specs.declared.conf.Conf.{Conf}
-use Rattle.fm_logs.specs.Contents.{Contents, AreTold, AreImages}
 use Rattle.fm_logs.specs.declared.disks.Disks.{Disks}
 use Rattle.fm_logs.specs.declared.disks.DiskName.TheVariants.{Conf as ConfDisk, ErrA, ErrB, SlotA}
 use Rattle.fm_logs.specs.declared.disks.DiskName.TheVariants.{SlotB, Flt}
@@ -17,12 +16,13 @@ use Rattle.fm_init.specs.Making.{IsNoneOrConf, MakesStore, OnlyLooked, RoseOnOne
 use Rattle.fm_init.specs.Making.{IsMade, counts_on}
 use Rattle.fm_top.specs.Init.{IsUnwritten, AreUnwritten, BeganStore, MadeStore}
 use Rattle.fm_top.specs.Init.{MakingEnds}
-use Rattle.fm_top.specs.Outside.{disk_at, disks_at, disk_counts, Tells}
-use Rattle.fm_top.specs.Outside.{Leaves, RoseAt}
+use Rattle.fm_top.specs.Outside.{disk_at, disks_at, disk_counts}
+use Rattle.fm_top.specs.Outside.{RoseAt}
 use Rattle.fm_top.specs.Lending.{paired}
 use Rattle.fm_top.specs.Stops.{of_store}
 use Rattle.fm_top.specs.declared.stops.Stop.TheVariants.{Full}
 use Rattle.fm_top.proofs.Lending.{second_of_pair}
+use Rattle.fm_top.proofs.SixDisks.{told_all, images_all}
 
 if_told : (o : Option (List ℕ)) (P : List ℕ → Type 0) → ((xs : List ℕ) → o ≡ Some xs → P xs)
     → IfSome o P
@@ -34,23 +34,6 @@ abbrev listed_counts : Disks ℕ → List ℕ
 listed_counts d = d.conf ∷ d.err_a ∷ d.err_b ∷ d.slot_a ∷ d.slot_b ∷ d.flt ∷ []
 
 module _ {D : Type 0} (g : Ghosts D) where
-  told_all : (disks : Disks D) (c : Contents) → Tells (disks_at g disks) c → AreTold g disks c
-  told_all disks c tells ConfDisk = tells ConfDisk
-  told_all disks c tells ErrA = tells ErrA
-  told_all disks c tells ErrB = tells ErrB
-  told_all disks c tells SlotA = tells SlotA
-  told_all disks c tells SlotB = tells SlotB
-  told_all disks c tells Flt = tells Flt
-
-  images_all : (disks : Disks D) (c : Contents) → Leaves (disks_at g disks) c
-      → AreImages g disks c
-  images_all disks c leaves ConfDisk = leaves ConfDisk
-  images_all disks c leaves ErrA = leaves ErrA
-  images_all disks c leaves ErrB = leaves ErrB
-  images_all disks c leaves SlotA = leaves SlotA
-  images_all disks c leaves SlotB = leaves SlotB
-  images_all disks c leaves Flt = leaves Flt
-
   -- a disk that is as it was
   pub disk_still : (old new : D) → new ≡ old → IsUnwritten (disk_at g old) (disk_at g new)
   disk_still old new same = record {
@@ -91,7 +74,7 @@ module _ {D : Type 0} (g : Ghosts D) where
   made_new old new conf made quiet = record {
     was_none = if_told (g.seen old.conf) IsEmptyOrNone made.was_none;
     is_new = λ told image tells leaves.
-        made.is_new told image (told_all old told tells) (images_all new image leaves);
+        made.is_new told image (told_all g old told tells) (images_all g new image leaves);
     quiet = ap listed_counts quiet;
   }
 
@@ -105,13 +88,13 @@ module _ {D : Type 0} (g : Ghosts D) where
       left = λ told image tells leaves.
           let written : IsNoneOrConf (conf_bytes conf) image.conf =
           leaves-now g counts_now makes.read new.conf (IsNoneOrConf (conf_bytes conf))
-          (makes.any_moment told (told_all old told tells)) image.conf (leaves ConfDisk) in
+          (makes.any_moment told (told_all g old told tells)) image.conf (leaves ConfDisk) in
           ⊎_elim (λ none. inl none)
           (λ is. ⊎_elim
           (λ (same : new.conf ≡ makes.read). inl (makes.none image.conf
           (subst (λ (d : D). g.images d image.conf) same (leaves ConfDisk))))
           (λ ready.
-          let others = ready told (told_all old told tells) in
+          let others = ready told (told_all g old told tells) in
           inr (record {
             conf_is = is;
             no_entries = others.no_entries image.err_a (leaves ErrA);

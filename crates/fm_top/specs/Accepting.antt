@@ -1,87 +1,109 @@
--- What `accept` does: to the input, to the sink and to the journal of reports.
-use Rattle.std.specs.Prelude.{◌≡◌, ◌⊎◌, ℕ, ◌+◌, List, [], ◌++◌, true, length, Option, None, Some}
-use Rattle.std.specs.Prelude.{Result, MatchResult}
+-- What `accept` does: to the input, to the sink and to the six disks.
+use Rattle.std.specs.Prelude.{◌≡◌, ◌⊎◌, ℕ, List, ◌∷◌, [], ◌++◌, Bool, true, length, Some}
+use Rattle.std.specs.Prelude.{Result, Ok, Err, MatchResult}
+use Rattle.std.specs.declared.option.Option.{Option}
 use Rattle.std.specs.Io.KnownBytes.{Appends, Consumes, IsAtEnd}
+use Rattle.fm_core.specs.Book.{ModuleState, next_number}
 use Rattle.fm_entry.specs.declared.entry.Entry.{Entry}
-use Rattle.fm_entry.specs.Entries.{entry_bytes}
-use Rattle.fm_journal.specs.Crash.{IsOldOrNew}
-use Rattle.fm_journal.specs.Format.{IsJournal, end_of}
-use Rattle.fm_top.specs.declared.stops.Stop.{Stop}
-use Rattle.fm_top.specs.declared.stops.Stop.TheVariants.{Read, Write, Disk, Full}
+use Rattle.fm_journal.specs.Format.{end_of}
+use Rattle.fm_journal.specs.declared.fault.FullKind.{FullKind}
+use Rattle.fm_logs.specs.Contents.{Contents, active_of_two}
+use Rattle.fm_logs.specs.ReadsAsBook.{IsLog, SpellsEntry, SaysBook}
+use Rattle.fm_logs.specs.StoreBook.{StoreBook}
+use Rattle.fm_store.specs.StoreLeft.{ReadsLike, ReadsLikeEither}
 use Rattle.fm_top.specs.Accounts.{Accounts}
-use Rattle.fm_top.specs.Opening.{Stood, IsThere, OpeningStops, LeftUnopened}
-use Rattle.fm_top.specs.Outside.{SourceAt, SinkAt, DiskAt}
-use Rattle.fm_top.specs.Recording.{payloads_of, FullCause}
-use Rattle.fm_top.specs.Running.{RanAll, RanUntil}
+use Rattle.fm_top.specs.Init.{AreUnwritten}
+use Rattle.fm_top.specs.Kept.{BookAt, FirstDamage}
+use Rattle.fm_top.specs.Outside.{SourceAt, SinkAt, DisksAt, Tells, Leaves, disk_counts, RoseAt}
+use Rattle.fm_top.specs.Recording.{payloads_of, store_with, FullCause}
+use Rattle.fm_top.specs.Running.{Taken, RanAll, RanUntil}
+use Rattle.fm_top.specs.declared.stops.Stop.{Stop}
+use Rattle.fm_top.specs.declared.stops.Stop.TheVariants.{Read, Write, Disk, Damaged, Memory, Full}
 
--- How an image is, once these payloads are acknowledged. Where the disk failed at one more, the
--- image has it or not.
-abbrev pub ImageIs : ℕ → List (List ℕ) → Option (Stop × Entry) → List ℕ → Type 0
-ImageIs first payloads None image = IsJournal image first payloads
-ImageIs first payloads (Some (Disk, entry)) image =
-    IsOldOrNew first payloads (entry_bytes entry) image
-ImageIs first payloads (Some (Full kind, entry)) image = IsJournal image first payloads
-ImageIs first payloads _ image = ⊥
+-- What an image reads like, once these entries are acknowledged: where a disk failed at one more,
+-- it has that one or not.
+abbrev pub ImageReads : List ModuleState → StoreBook → List Entry → Option (Stop × Entry)
+    → Contents → Type 0
+ImageReads fresh k entries (Some (Disk, entry)) image =
+    ReadsLikeEither fresh (store_with k entries) (store_with k (entries ++ entry ∷ [])) image
+ImageReads fresh k entries _ image = ReadsLike fresh (store_with k entries) image
 
--- Which limit is reached, where one is: by the first number, the number of records and the end of
--- the journal, which are those of its list where the disk tells its bytes.
-abbrev pub LimitIs : Option (List ℕ) → ℕ → List Entry → Option (Stop × Entry) → Type 0
-LimitIs seen next entries (Some (Full kind, entry)) = (first : ℕ) × (count : ℕ) × (end : ℕ)
-    × (first + count ≡ next + length entries) × FullCause first count end entry kind
-    × ((bytes : List ℕ) (from : ℕ) (before : List (List ℕ)) → seen ≡ Some bytes
-    → Stood bytes from before
-    → (first ≡ from) × (count ≡ length (before ++ payloads_of entries))
-    × (end ≡ end_of (before ++ payloads_of entries)))
-LimitIs seen next entries _ = Unit {0}
+-- One entry more would pass this limit of the active error journal, once that has these entries.
+pub record ReachesLimit (c : Contents) (fresh : List ModuleState) (k : StoreBook)
+    (entries : List Entry) (entry : Entry) (kind : FullKind) : Type 0 where
+  pub second : Bool
+  pub says : SaysBook fresh c second k
+  pub first : ℕ
+  pub logged : List Entry
+  pub active : IsLog SpellsEntry (active_of_two second c) first logged
+  pub reached : FullCause first (length (logged ++ entries))
+      (end_of (payloads_of (logged ++ entries))) entry kind
 
--- The journal's list, where its disk told its bytes before, is the list from before and the
--- spellings of these entries: in each image that a crash now may leave, what a read gives among
--- them. `next` is the number of the first.
-pub record Grew (seen : Option (List ℕ)) (images : List ℕ → Type 0) (next : ℕ)
-    (entries : List Entry) (last : Option (Stop × Entry)) : Type 0 where
-  pub numbered : (bytes : List ℕ) (first : ℕ) (before : List (List ℕ)) → seen ≡ Some bytes
-      → Stood bytes first before → next ≡ first + length before
-  pub left : (bytes : List ℕ) (first : ℕ) (before : List (List ℕ)) (image : List ℕ)
-      → seen ≡ Some bytes → Stood bytes first before
-      → images image → ImageIs first (before ++ payloads_of entries) last image
-  pub limit : LimitIs seen next entries last
+-- which limit is reached, where one is
+abbrev pub LimitIs : Contents → List ModuleState → StoreBook → List Entry
+    → Option (Stop × Entry) → Type 0
+LimitIs c fresh k entries (Some (Full kind, entry)) = ReachesLimit c fresh k entries entry kind
+LimitIs c fresh k entries _ = Unit {0}
 
--- The journal was not opened: nothing was read and nothing put.
-pub record NotOpened (seen : Option (List ℕ)) (old new : List ℕ → Type 0)
-    (puts consumes : List ℕ → Type 0) (stop : Stop) : Type 0 where
-  pub put : puts []
-  pub consumed : consumes []
-  pub why : OpeningStops seen stop
-  pub left : LeftUnopened seen old new
+-- The contents from before read as a book of which the next number is `next`; and whatever a crash
+-- now leaves reads like that book with these entries.
+pub record GrewFrom (told : Contents) (after : DisksAt) (next : ℕ) (entries : List Entry)
+    (last : Option (Stop × Entry)) : Type 0 where
+  pub stood : BookAt told
+  pub numbered : next ≡ next_number stood.book.book
+  pub left : (image : Contents) → Leaves after image
+      → ImageReads stood.fresh stood.book entries last image
+  pub limit : LimitIs told stood.fresh stood.book entries last
 
--- The journal was opened, and the input read to its end.
-pub record AcceptedAll (seen : Option (List ℕ)) (new : List ℕ → Type 0)
-    (puts consumes : List ℕ → Type 0) (at_end : Type 0) : Type 0 where
-  pub there : IsThere seen
+-- the same, where the disks told their contents before
+abbrev pub Grew : DisksAt → DisksAt → ℕ → Taken
+Grew before after next entries last =
+    (told : Contents) → Tells before told → GrewFrom told after next entries last
+
+-- why the store was not opened
+abbrev pub OpeningStops : DisksAt → Stop → Type 0
+OpeningStops disks Disk = Unit {0}
+OpeningStops disks Memory = Unit {0}
+OpeningStops disks (Damaged disk place) =
+    (told : Contents) → Tells disks told → FirstDamage told disk place
+OpeningStops disks _ = ⊥
+
+-- The store was not opened: nothing was read and nothing put, and the disks were read at most.
+pub record NotOpened (input input_now : SourceAt) (out out_now : SinkAt) (disks disks_now : DisksAt)
+    (stop : Stop) : Type 0 where
+  pub consumed : input_now ≡ input
+  pub put : out_now ≡ out
+  pub untouched : AreUnwritten disks disks_now
+  pub why : OpeningStops disks stop
+
+-- The store was opened, and the input read to its end.
+pub record AcceptedAll (input input_now : SourceAt) (out out_now : SinkAt)
+    (disks disks_now : DisksAt) : Type 0 where
   pub next : ℕ
-  pub ran : RanAll (Grew seen new next) puts true next consumes at_end
+  pub ran : RanAll (Grew disks disks_now next) (Appends out.bytes out_now.bytes) true next
+      (Consumes input.left input_now.left) (IsAtEnd input_now.left)
 
--- The journal was opened, and the run over the input stopped.
-pub record AcceptedUntil (seen : Option (List ℕ)) (new : List ℕ → Type 0)
-    (puts consumes : List ℕ → Type 0) (at_end : Type 0) (stop : Stop) : Type 0 where
-  pub there : IsThere seen
+-- The store was opened, and the run over the input stopped.
+pub record AcceptedUntil (input input_now : SourceAt) (out out_now : SinkAt)
+    (disks disks_now : DisksAt) (stop : Stop) : Type 0 where
   pub next : ℕ
-  pub ran : RanUntil (Grew seen new next) puts true next consumes at_end stop
+  pub ran : RanUntil (Grew disks disks_now next) (Appends out.bytes out_now.bytes) true next
+      (Consumes input.left input_now.left) (IsAtEnd input_now.left) stop
 
--- `accept` stopped
-abbrev pub AcceptStops : Option (List ℕ) → (List ℕ → Type 0) → (List ℕ → Type 0)
-    → (List ℕ → Type 0) → (List ℕ → Type 0) → Type 0 → Stop → Type 0
-AcceptStops seen old new puts consumes at_end stop =
-    NotOpened seen old new puts consumes stop ⊎ AcceptedUntil seen new puts consumes at_end stop
+-- how the counts of the disks go with the end of a command: one that is done leaves them, and a
+-- fault of a disk comes only where one rose
+abbrev pub DisksAccount : DisksAt → DisksAt → Result (Unit {0}) Stop → Type 0
+DisksAccount before after (Ok done) = disk_counts after ≡ disk_counts before
+DisksAccount before after (Err Disk) =
+    (at : ℕ) × RoseAt (disk_counts before) (disk_counts after) at
+DisksAccount before after (Err _) = Unit {0}
 
--- `accept` ran, from the input to the journal on the disk and to the sink
-pub record AcceptRan (input input_now : SourceAt) (out out_now : SinkAt) (disk disk_now : DiskAt)
-    (ran : Result (Unit {0}) Stop) : Type 0 where
-  pub went : MatchResult ran
-      (λ _. AcceptedAll disk.seen disk_now.images (Appends out.bytes out_now.bytes)
-      (Consumes input.left input_now.left) (IsAtEnd input_now.left))
-      (AcceptStops disk.seen disk.images disk_now.images (Appends out.bytes out_now.bytes)
-      (Consumes input.left input_now.left) (IsAtEnd input_now.left))
+-- `accept` ran, from the input to the disks and to the sink
+pub record AcceptRan (input input_now : SourceAt) (out out_now : SinkAt)
+    (disks disks_now : DisksAt) (ran : Result (Unit {0}) Stop) : Type 0 where
+  pub went : MatchResult ran (λ _. AcceptedAll input input_now out out_now disks disks_now)
+      (λ stop. NotOpened input input_now out out_now disks disks_now stop
+      ⊎ AcceptedUntil input input_now out out_now disks disks_now stop)
   pub counts_input : Accounts Read input.failures input_now.failures ran
   pub counts_out : Accounts Write out.failures out_now.failures ran
-  pub counts_disk : Accounts Disk disk.failures disk_now.failures ran
+  pub counts_disks : DisksAccount disks disks_now ran

@@ -5,6 +5,7 @@ use Rattle.fm_top.specs.Accepting.{AcceptRan}
 use Rattle.fm_top.specs.Ending.{EndsAs}
 use Rattle.fm_top.specs.Esc.{EscEnds, EscInputEnds}
 use Rattle.fm_top.specs.Order.{Goes, looks, world_of}
+use Rattle.fm_top.specs.Headline.{Headline}
 use Rattle.fm_top.specs.Init.{InitRan}
 use Rattle.fm_top.specs.Outside.{Outside, SinkAt, source_counts, disk_counts, counts_of, RoseAt}
 use Rattle.fm_top.specs.Outside.{given_of, standing}
@@ -27,7 +28,7 @@ IsCaused before after _ = Unit {0}
 -- WHAT EACH COMMAND DOES, one line a command
 abbrev pub Did : Command → Outside → Outside → Result (Unit {0}) Stop → Type 0
 Did Accept before after ran =
-    AcceptRan before.input after.input before.out after.out before.disks.err_a after.disks.err_a ran
+    AcceptRan before.input after.input before.out after.out before.disks after.disks ran
 Did Replay before after ran = ReplayRan before.input after.input before.out after.out ran
 Did (Init namespace) before after ran = InitRan namespace before after ran
 Did (Esc form) before after ran =
@@ -42,6 +43,7 @@ pub record Ran (command : Command) (before after : Outside) (ran : Result (Unit 
     pub cause : IfErr ran (IsCaused before after)
     pub quiet : OnOk ran (counts_of after ≡ counts_of before)
     pub did : Did command before after ran
+    pub headline : Headline command before after ran
 
 -- What a call does: the command of its words ran, `middle` is the sink then, and its last line was
 -- put. Where they are no command only the last line is put.
@@ -67,7 +69,7 @@ handed input rules topo disks acts =
 abbrev pub WorksOn : {S D A : Type 0} → Option Command → Handed S D A → Handed S D A → Type 0
 WorksOn None old new = new ≡ old
 WorksOn (Some Accept) old new =
-    new ≡ record old { input = new.input; disks = record old.disks { err_a = new.disks.err_a } }
+    new ≡ record old { input = new.input; disks = new.disks }
 WorksOn (Some Replay) old new = new ≡ record old { input = new.input }
 WorksOn (Some (Esc form)) old new = new ≡ record old { rules = new.rules; topo = new.topo }
 WorksOn (Some EscInput) old new = new ≡ record old { input = new.input }

@@ -7,12 +7,12 @@ pub mod Ended
 pub mod Ending
 pub mod Esc
 pub mod Halting
+pub mod Headline
 pub mod Init
+pub mod Kept
 pub mod Lending
-pub mod Opening
 pub mod Order
 pub mod Outside
-pub mod Recorders
 pub mod Recording
 pub mod RecordingLaws
 pub mod Refusing

@@ -1,6 +1,6 @@
 -- The order of refusals of each command: what it looks at before it works, what ends it there, and
 -- what stands where it goes on.
-use Rattle.std.specs.Prelude.{◌≡◌, ◌⊎◌, ℕ, ◌<◌, List, [], ◌∷◌, length, Option, IfSome, Result}
+use Rattle.std.specs.Prelude.{◌≡◌, ◌⊎◌, ℕ, List, [], ◌∷◌, Option, IfSome, Result}
 use Rattle.std.specs.Prelude.{MatchResult, Some, None, Ok}
 use Rattle.ev_file.specs.declared.made.Made.{Made}
 use Rattle.fm_esc.specs.Compiling.{AreGraphs, IsFirstPast}
@@ -8,8 +8,9 @@ use Rattle.fm_esc.specs.InputListing.{InputCause, IsListed}
 use Rattle.fm_esc.specs.declared.faults.GraphLimit.{GraphLimit}
 use Rattle.fm_esc.specs.declared.faults.InputFault.TheVariants as inputs
 use Rattle.fm_journal.specs.Crash.{IsEmptyOrNone}
-use Rattle.fm_journal.specs.Damage.{IsDamagedAt}
-use Rattle.fm_logs.specs.declared.disks.DiskName.TheVariants.{ErrA}
+use Rattle.fm_logs.specs.Contents.{Contents, content_named}
+use Rattle.fm_logs.specs.declared.disks.DiskName.{DiskName}
+use Rattle.fm_logs.specs.declared.disks.DiskName.TheVariants.{Conf}
 use Rattle.fm_sources.specs.Sources.{Given, FilesGave, FilesRefused, GaveTopology, TopologyRefused}
 use Rattle.fm_sources.specs.Sources.{ReadsSources}
 use Rattle.fm_sources.specs.declared.faults.RulesKind.{RulesKind}
@@ -25,18 +26,17 @@ use Rattle.fm_top.specs.declared.stops.Stop.TheVariants.{Disk, Memory, Full, Exi
 use Rattle.fm_top.specs.declared.stops.Stop.TheVariants.{Graph, DamagedInput}
 use Rattle.fm_top.specs.declared.words.Command.{Command}
 use Rattle.fm_top.specs.declared.words.Command.TheVariants.{Accept, Replay, Init, Esc, EscInput}
-use Rattle.fm_top.specs.Opening.{Stood}
-use Rattle.fm_top.specs.Outside.{Outside, SourceAt, given_of, standing}
+use Rattle.fm_top.specs.Kept.{BookAt, FirstDamage}
+use Rattle.fm_top.specs.Outside.{Outside, SourceAt, disk_by_name, given_of, standing}
 
 -- what the looks depend on: what the input and the sources have, and have left behind the looks;
--- and the bytes that a disk reads as, where it tells them
+-- and the bytes that each disk reads as, where it tells them
 pub record World : Type 0 where
   pub input : SourceAt
   pub input_now : SourceAt
   pub sources : Given SourceAt
   pub sources_now : Given SourceAt
-  pub conf : Option (List ℕ)
-  pub err_a : Option (List ℕ)
+  pub disks : DiskName → Option (List ℕ)
 
 abbrev pub world_of : Outside → Outside → World
 world_of before after = record {
@@ -44,23 +44,26 @@ world_of before after = record {
   input_now = after.input;
   sources = given_of before;
   sources_now = given_of after;
-  conf = before.disks.conf.seen;
-  err_a = before.disks.err_a.seen;
+  disks = λ name. (disk_by_name name before.disks).seen;
 }
 
+-- the disks read as these contents
+abbrev pub AreContents : World → Contents → Type 0
+AreContents w told = (name : DiskName) → w.disks name ≡ Some (content_named name told)
+
 -- a look: at the rule files, at the topology, at what the files come to over it, at the compiled
--- files of the input, whether there is a store, and at the journal of reports
+-- files of the input, whether there is a store, and at the whole store
 pub data Look : Type 0 where
   at_rules : Look
   at_topology : Look
   at_graphs : Look
   at_files : Look
   at_no_store : Look
-  at_reports : Look
+  at_store : Look
 
 -- THE ORDER OF REFUSALS, one line a command
 abbrev pub looks : Command → List Look
-looks Accept = at_reports ∷ []
+looks Accept = at_store ∷ []
 looks Replay = []
 looks (Init namespace) = at_rules ∷ at_topology ∷ at_no_store ∷ []
 looks (Esc form) = at_rules ∷ at_topology ∷ at_graphs ∷ []
@@ -81,10 +84,10 @@ Finds w at_graphs stop =
 Finds w at_files stop =
     (place : ℕ) × (stop ≡ DamagedInput place)
     × ((text : List ℕ) × IsListed standing w.input w.input_now text (Some place))
-Finds w at_no_store stop = (stop ≡ Exists) × IfSome w.conf HasStore
-Finds w at_reports stop =
-    (place : ℕ) × (stop ≡ Damaged ErrA place)
-    × IfSome w.err_a (λ bytes. IsDamagedAt bytes place × (0 < length bytes))
+Finds w at_no_store stop = (stop ≡ Exists) × IfSome (w.disks Conf) HasStore
+Finds w at_store stop =
+    (disk : DiskName) × (place : ℕ) × (stop ≡ Damaged disk place)
+    × ((told : Contents) → AreContents w told → FirstDamage told disk place)
 
 -- what stands where the command goes on; where the input has more bytes than are taken, it is not
 -- looked at as files
@@ -99,9 +102,8 @@ Passes w at_graphs =
 Passes w at_files =
     ((text : List ℕ) × IsListed standing w.input w.input_now text None)
     ⊎ InputCause standing w.input w.input_now inputs.Full
-Passes w at_no_store = IfSome w.conf IsEmptyOrNone
-Passes w at_reports =
-    IfSome w.err_a (λ bytes. (first : ℕ) × (payloads : List (List ℕ)) × Stood bytes first payloads)
+Passes w at_no_store = IfSome (w.disks Conf) IsEmptyOrNone
+Passes w at_store = (told : Contents) → AreContents w told → BookAt told
 
 -- the first look that ends the command ends it so
 abbrev pub FirstFinds : World → List Look → Stop → Type 0

@@ -1,76 +1,93 @@
--- Appending goes on.
-use Rattle.std.proofs.Common.{◌≡◌, ℕ, ◌+◌, List, [], ◌++◌, length, Option, Some, None, refl}
-use Rattle.std.proofs.Common.{sym, ◌∙◌, ap, subst, arith, append_assoc, append-nil, length-append}
-use Rattle.std.proofs.lemmas.List.{map-append}
-use Rattle.fm_outer.specs.declared.disk.Disk.{Ghosts}
+-- Taking entries goes on.
+use Rattle.std.proofs.Common.{◌≡◌, ◌+◌, List, [], ◌∷◌, ◌++◌, length, Option, Some}
+use Rattle.std.proofs.Common.{None, refl, sym, ◌∙◌, ap, subst, arith, append_assoc, append-nil}
+use Rattle.std.proofs.Common.{length-append}
+use Rattle.fm_core.specs.Book.{ModuleState}
 use Rattle.fm_entry.specs.declared.entry.Entry.{Entry}
-use Rattle.fm_entry.specs.Entries.{entry_bytes}
-use Rattle.fm_journal.specs.Crash.{IsOldOrNew}
-use Rattle.fm_journal.specs.JournalOf.{JournalOf}
-use Rattle.fm_journal.specs.Keeps.{Keeps}
+use Rattle.fm_logs.specs.StoreBook.{StoreBook, with_book}
+use Rattle.fm_outer.specs.Failures.{Rose}
+use Rattle.fm_outer.specs.declared.disk.Disk.{Ghosts}
+use Rattle.fm_store.specs.StoreCalls.{next_entry}
+use Rattle.fm_store.specs.StoreLeft.{store_disk, EachLeft, ReadsLikeEither}
+use Rattle.fm_store.specs.StoreOf.{StoreOf, StoreStandsFor}
+use Rattle.fm_top.specs.Recording.{store_with, LastCounts, LogsLeft, BookLeft, Recorded}
 use Rattle.fm_top.specs.declared.stops.Stop.{Stop}
 use Rattle.fm_top.specs.declared.stops.Stop.TheVariants.{Disk, Full}
-use Rattle.fm_top.specs.Recording.{payloads_of, LastLeft, LastCount, Recorded}
 
--- payloads after payloads
-payloads_on : (before : List (List ℕ)) (es fs : List Entry)
-    → (before ++ payloads_of es) ++ payloads_of fs ≡ before ++ payloads_of (es ++ fs)
-payloads_on before es fs =
-    append_assoc before (payloads_of es) (payloads_of fs)
-    ∙ ap (λ l. before ++ l) (sym (map-append entry_bytes es fs))
+-- a book with other entries
+abbrev book_of : StoreBook → List Entry → StoreBook
+book_of k entries = with_book k (record k.book { entries = entries })
 
-pub recorded_none : {D : Type 0} (g : Ghosts D) (j : JournalOf D) → Recorded g j j [] None
-recorded_none g j = record {
-  counts = refl;
-  first = refl;
-  count = omega arith;
-  left = (
-    λ is_open. is_open,
-    λ before keeps. subst (λ l. Keeps g j l) (sym (append-nil before)) keeps,
-  );
+-- a book with no entries more
+pub with_none : (k : StoreBook) → store_with k [] ≡ k
+with_none k = ap (book_of k) (append-nil k.book.entries)
+
+-- entries, and then more
+pub with_more : (k : StoreBook) (es fs : List Entry)
+    → store_with (store_with k es) fs ≡ store_with k (es ++ fs)
+with_more k es fs = ap (book_of k) (append_assoc k.book.entries es fs)
+
+-- and then one more
+pub with_last : (k : StoreBook) (es fs : List Entry) (entry : Entry)
+    → store_with (store_with k es) (fs ++ entry ∷ []) ≡ store_with k ((es ++ fs) ++ entry ∷ [])
+with_last k es fs entry =
+    with_more k es (fs ++ entry ∷ [])
+    ∙ ap (store_with k) (sym (append_assoc es fs (entry ∷ [])))
+
+pub recorded_none : {D M : Type 0} (g : Ghosts D) (store : StoreOf D M)
+    → Recorded g store store [] None
+recorded_none g store = record {
+  counts = λ name. refl;
+  base_is = refl;
+  entries_are = sym (append-nil store.logs.entries);
+  logs = λ older records keep. keep;
+  book = λ fresh k st. subst (StoreStandsFor g fresh store) (sym (with_none k)) st;
 }
 
-last_on : {D : Type 0} (g : Ghosts D) (i j k : JournalOf D) (es fs : List Entry)
-    (last : Option (Stop × Entry))
-    → j.first ≡ i.first → LastLeft g i j (payloads_of es) None
-    → LastLeft g j k (payloads_of fs) last
-    → LastLeft g i k (payloads_of (es ++ fs)) last
-last_on g i j k es fs None same (opens, keeps) (opens_on, keeps_on) = (
-  λ is_open. opens_on (opens is_open),
-  λ before kept.
-      subst (λ l. Keeps g k l) (payloads_on before es fs)
-      (keeps_on (before ++ payloads_of es) (keeps before kept)),
-)
-last_on g i j k es fs (Some (Disk, entry)) same (opens, keeps) left =
-    λ before kept image here.
-    subst (λ l. IsOldOrNew i.first l (entry_bytes entry) image) (payloads_on before es fs)
-    (subst (λ n. IsOldOrNew n ((before ++ payloads_of es) ++ payloads_of fs) (entry_bytes entry)
-    image) same
-    (left (before ++ payloads_of es) (keeps before kept) image here))
-last_on g i j k es fs (Some (Full kind, entry)) same (opens, keeps) (full, keeps_on) = (
-  full,
-  λ before kept.
-      subst (λ l. Keeps g k l) (payloads_on before es fs)
-      (keeps_on (before ++ payloads_of es) (keeps before kept)),
-)
-last_on g i j k es fs _ same first then = absurd then
+module _ {D M : Type 0} (g : Ghosts D) where
+  counts_on : (a b c : StoreOf D M) (last : Option (Stop × Entry)) → LastCounts g a b None
+      → LastCounts g b c last → LastCounts g a c last
+  counts_on a b c None first then = λ name. then name ∙ first name
+  counts_on a b c (Some (Disk, entry)) first (name, rose) =
+      (name, subst (λ n. Rose n (g.failures (store_disk name c))) (first name) rose)
+  counts_on a b c (Some (_, entry)) first then = λ name. then name ∙ first name
 
--- a count that stood, and then went so
-counts_on : (a b c : ℕ) (last : Option (Stop × Entry)) → b ≡ a → LastCount b c last
-    → LastCount a c last
-counts_on a b c last same counts = subst (λ n. LastCount n c last) same counts
+  logs_on : (a b c : StoreOf D M) (last : Option (Stop × Entry))
+      → LogsLeft g a.logs b.logs None → LogsLeft g b.logs c.logs last
+      → LogsLeft g a.logs c.logs last
+  logs_on a b c None first then = λ older records keep. then older records (first older records keep)
+  logs_on a b c (Some (Disk, entry)) first then = tt
+  logs_on a b c (Some (Full kind, entry)) first (then, full) =
+      (λ older records keep. then older records (first older records keep), full)
+  logs_on a b c (Some (_, entry)) first then = absurd then
 
-pub recorded_on : {D : Type 0} (g : Ghosts D) (i j k : JournalOf D) (es fs : List Entry)
-    (last : Option (Stop × Entry))
-    → Recorded g i j es None → Recorded g j k fs last → Recorded g i k (es ++ fs) last
-recorded_on g i j k es fs last first then = record {
-  counts = counts_on (g.failures i.disk) (g.failures j.disk) (g.failures k.disk) last first.counts
-      then.counts;
-  first = then.first ∙ first.first;
-  count = omega (arith, first.count, then.count, length-append es fs);
-  left = last_on g i j k es fs last first.first first.left then.left;
-}
+  book_on : (fresh : List ModuleState) (c : StoreOf D M) (k : StoreBook) (es fs : List Entry)
+      (last : Option (Stop × Entry)) → BookLeft g fresh c (store_with k es) fs last
+      → BookLeft g fresh c k (es ++ fs) last
+  book_on fresh c k es fs None left =
+      subst (StoreStandsFor g fresh c) (with_more k es fs) left
+  book_on fresh c k es fs (Some (Disk, entry)) left =
+      subst (λ x. EachLeft g c (ReadsLikeEither fresh (store_with k (es ++ fs)) x))
+      (with_last k es fs entry)
+      (subst (λ x. EachLeft g c (ReadsLikeEither fresh x
+      (store_with (store_with k es) (fs ++ entry ∷ [])))) (with_more k es fs) left)
+  book_on fresh c k es fs (Some (Full kind, entry)) left =
+      subst (StoreStandsFor g fresh c) (with_more k es fs) left
+  book_on fresh c k es fs (Some (_, entry)) left = absurd left
 
-pub recorded_numbers : {D : Type 0} (g : Ghosts D) (i j : JournalOf D) (es : List Entry)
-    → Recorded g i j es None → j.first + j.count ≡ i.first + i.count + length es
-recorded_numbers g i j es recorded = omega (arith, recorded.first, recorded.count)
+  pub recorded_on : (a b c : StoreOf D M) (es fs : List Entry) (last : Option (Stop × Entry))
+      → Recorded g a b es None → Recorded g b c fs last → Recorded g a c (es ++ fs) last
+  recorded_on a b c es fs last first then = record {
+    counts = counts_on a b c last first.counts then.counts;
+    base_is = then.base_is ∙ first.base_is;
+    entries_are = then.entries_are ∙ ap (λ xs. xs ++ fs) first.entries_are
+        ∙ append_assoc a.logs.entries es fs;
+    logs = logs_on a b c last first.logs then.logs;
+    book = λ fresh k st. book_on fresh c k es fs last
+        (then.book fresh (store_with k es) (first.book fresh k st));
+  }
+
+  pub recorded_numbers : (a b : StoreOf D M) (es : List Entry) → Recorded g a b es None
+      → next_entry b.logs ≡ next_entry a.logs + length es
+  recorded_numbers a b es went =
+      omega (arith, went.base_is, ap length went.entries_are, length-append a.logs.entries es)

@@ -1,74 +1,132 @@
 // The command `accept`.
-ghost use Rattle.std.specs.Prelude.{◌≡◌, ◌≤◌, Ok, Err, OnOk, IfErr};
-ghost use Rattle.std.specs.Io.KnownBytes.{Appends, Consumes, IsAtEnd};
-ghost use Rattle.fm_top.specs.Accounts.{Accounts};
-ghost use Rattle.fm_top.specs.Accepting.{AcceptedAll, AcceptStops};
+ghost use Rattle.std.specs.Prelude.{◌≡◌};
+ghost use Rattle.fm_logs.specs.Contents.{AreSameDisks};
+ghost use Rattle.fm_top.specs.Accepting.{AcceptRan};
+ghost use Rattle.fm_top.specs.Calls.{names_of, six};
+ghost use Rattle.fm_top.specs.Outside.{source_at, sink_at, disks_at};
 
 use crate::lent::Lent;
-use crate::opening::open_or_make;
 use crate::reading::run;
-use crate::recording::stop_of;
 use crate::stops::Stop;
+use fm_init::Disks;
+use fm_modules::open_store;
 use fm_outer::{Disk, Sink, Source};
 use std::alloc::Global;
 
-/// Appends the entry of each line of the input to the journal on the disk, answers each line, and
-/// gives the disk back.
-fn accept_on<'a, S: Source, K: Sink, D: Disk>(
+/// Opens the store on the disks, has it take the entry of each line of the input, answers each
+/// line, and gives the disks back. How it ran stands in `ran` afterwards.
+fn accept_on<S: Source, K: Sink, D: Disk>(
     alloc: Global,
     input: &mut S,
     out: &mut K,
-    lent: Lent<'a, D>,
-) -> (Lent<'a, D>, Result<(), Stop>)
-    ensures all { OnOk result.1
-        (AcceptedAll (D.seen lent.entry.disk.now) (D.images result.0.disk.now)
-        (Appends (K.put_bytes out.old) (K.put_bytes out.new))
-        (Consumes (S.left input.old) (S.left input.new)) (IsAtEnd (S.left input.new))) }
-    ensures until { IfErr result.1 (AcceptStops (D.seen lent.entry.disk.now)
-        (D.images lent.entry.disk.now) (D.images result.0.disk.now)
-        (Appends (K.put_bytes out.old) (K.put_bytes out.new))
-        (Consumes (S.left input.old) (S.left input.new)) (IsAtEnd (S.left input.new))) }
-    ensures same_reference { result.0.disk.ghost_name ≡ lent.entry.disk.ghost_name }
-    ensures same_disk { D.name result.0.disk.now ≡ D.name lent.entry.disk.now }
-    ensures counts_out { Accounts Stop.Write (K.failures out.old) (K.failures out.new) result.1 }
-    ensures counts_input { Accounts Stop.Read (S.failures input.old)
-        (S.failures input.new) result.1 }
-    ensures counts_disk { Accounts Stop.Disk (D.failures lent.entry.disk.now)
-        (D.failures result.0.disk.now) result.1 }
+    ran: &mut Result<(), Stop>,
+    disks: Disks<D>,
+) -> Disks<D>
+    ensures ran { AcceptRan (source_at S.Source input.old) (source_at S.Source input.new)
+        (sink_at K.Sink out.old) (sink_at K.Sink out.new) (disks_at D.Disk disks)
+        (disks_at D.Disk result) ran.new }
+    ensures same_disks { AreSameDisks D.Disk disks result }
 {
-    match open_or_make(lent) {
-        Ok(journal) => {
-            let mut journal = journal;
-            let ran = run(alloc, input, out, &mut journal);
-            (journal.into_disk(), ran)
+    match open_store(alloc, disks) {
+        Ok(opened) => {
+            let mut store = opened.store;
+            *ran = run(alloc, input, out, &mut store);
+            store.into_disks()
         }
         Err(refused) => {
-            let stop = stop_of(refused.fault);
-            (refused.into_disk(), Err(stop))
+            *ran = Err(Stop::from(refused.fault));
+            refused.disks
         }
     }
 }
 
-/// Appends the entry of each line of the input to the journal on the disk, and answers each line.
+/// Opens the store on six disks that are lent, has it take the entry of each line of the input,
+/// answers each line, and gives the disks back. How it ran stands in `ran` afterwards.
+fn accept_lent<'a, S: Source, K: Sink, D: Disk>(
+    alloc: Global,
+    input: &mut S,
+    out: &mut K,
+    ran: &mut Result<(), Stop>,
+    disks: Disks<Lent<'a, D>>,
+) -> Disks<Lent<'a, D>>
+    ensures ran { AcceptRan (source_at S.Source input.old) (source_at S.Source input.new)
+        (sink_at K.Sink out.old) (sink_at K.Sink out.new)
+        (disks_at D.Disk (six disks.entry.conf.disk.now disks.entry.err_a.disk.now
+        disks.entry.err_b.disk.now disks.entry.slot_a.disk.now disks.entry.slot_b.disk.now
+        disks.entry.flt.disk.now))
+        (disks_at D.Disk (six result.conf.disk.now result.err_a.disk.now
+        result.err_b.disk.now result.slot_a.disk.now result.slot_b.disk.now
+        result.flt.disk.now)) ran.new }
+    ensures same_conf { result.conf.disk.ghost_name ≡ disks.entry.conf.disk.ghost_name }
+    ensures same_err_a { result.err_a.disk.ghost_name ≡ disks.entry.err_a.disk.ghost_name }
+    ensures same_err_b { result.err_b.disk.ghost_name ≡ disks.entry.err_b.disk.ghost_name }
+    ensures same_slot_a { result.slot_a.disk.ghost_name ≡ disks.entry.slot_a.disk.ghost_name }
+    ensures same_slot_b { result.slot_b.disk.ghost_name ≡ disks.entry.slot_b.disk.ghost_name }
+    ensures same_flt { result.flt.disk.ghost_name ≡ disks.entry.flt.disk.ghost_name }
+    ensures same_disks { names_of D.name
+        (six result.conf.disk.now result.err_a.disk.now result.err_b.disk.now
+        result.slot_a.disk.now result.slot_b.disk.now result.flt.disk.now)
+        ≡ names_of D.name (six disks.entry.conf.disk.now disks.entry.err_a.disk.now
+        disks.entry.err_b.disk.now disks.entry.slot_a.disk.now disks.entry.slot_b.disk.now
+        disks.entry.flt.disk.now) }
+{
+    accept_on(alloc, input, out, ran, disks)
+}
+
+/// Has the store on six disks take the entry of each line of the input, and answers each line.
+fn accept_each<'a, S: Source, K: Sink, D: Disk>(
+    alloc: Global,
+    input: &mut S,
+    out: &mut K,
+    conf: &'a mut D,
+    err_a: &'a mut D,
+    err_b: &'a mut D,
+    slot_a: &'a mut D,
+    slot_b: &'a mut D,
+    flt: &'a mut D,
+) -> Result<(), Stop>
+    ensures ran { AcceptRan (source_at S.Source input.old) (source_at S.Source input.new)
+        (sink_at K.Sink out.old) (sink_at K.Sink out.new) (disks_at D.Disk
+        (six conf.old err_a.old err_b.old slot_a.old slot_b.old flt.old))
+        (disks_at D.Disk (six conf.new err_a.new err_b.new slot_a.new slot_b.new flt.new)) result }
+    ensures same_disks { names_of D.name
+        (six conf.new err_a.new err_b.new slot_a.new slot_b.new flt.new)
+        ≡ names_of D.name (six conf.old err_a.old err_b.old slot_a.old slot_b.old flt.old) }
+{
+    let lent = Disks {
+        conf: Lent { disk: conf },
+        err_a: Lent { disk: err_a },
+        err_b: Lent { disk: err_b },
+        slot_a: Lent { disk: slot_a },
+        slot_b: Lent { disk: slot_b },
+        flt: Lent { disk: flt },
+    };
+    let mut ran = Ok(());
+    let _back = accept_lent(alloc, input, out, &mut ran, lent);
+    ran
+}
+
+/// Has the store on the disks take the entry of each line of the input, and answers each line.
 pub(crate) fn accept<S: Source, K: Sink, D: Disk>(
     alloc: Global,
     input: &mut S,
     out: &mut K,
-    disk: &mut D,
+    disks: &mut Disks<D>,
 ) -> Result<(), Stop>
-    ensures all { OnOk result (AcceptedAll (D.seen disk.old) (D.images disk.new)
-        (Appends (K.put_bytes out.old) (K.put_bytes out.new))
-        (Consumes (S.left input.old) (S.left input.new)) (IsAtEnd (S.left input.new))) }
-    ensures until { IfErr result
-        (AcceptStops (D.seen disk.old) (D.images disk.old) (D.images disk.new)
-        (Appends (K.put_bytes out.old) (K.put_bytes out.new))
-        (Consumes (S.left input.old) (S.left input.new)) (IsAtEnd (S.left input.new))) }
-    ensures same_disk { D.name disk.new ≡ D.name disk.old }
-    ensures counts_out { Accounts Stop.Write (K.failures out.old) (K.failures out.new) result }
-    ensures counts_input { Accounts Stop.Read (S.failures input.old) (S.failures input.new) result }
-    ensures counts_disk { Accounts Stop.Disk (D.failures disk.old) (D.failures disk.new) result }
+    ensures ran { AcceptRan (source_at S.Source input.old) (source_at S.Source input.new)
+        (sink_at K.Sink out.old) (sink_at K.Sink out.new) (disks_at D.Disk disks.old)
+        (disks_at D.Disk disks.new) result }
+    ensures same_disks { names_of D.name disks.new ≡ names_of D.name disks.old }
 {
-    let (lent, ran) = accept_on(alloc, input, out, Lent { disk });
-    let Lent { disk: _back } = lent;
-    ran
+    accept_each(
+        alloc,
+        input,
+        out,
+        &mut disks.conf,
+        &mut disks.err_a,
+        &mut disks.err_b,
+        &mut disks.slot_a,
+        &mut disks.slot_b,
+        &mut disks.flt,
+    )
 }

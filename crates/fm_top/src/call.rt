@@ -20,8 +20,8 @@ use std::alloc::Global;
 
 /// Does what the words say, and gives the exit status.
 ///
-/// `accept` appends each line of the input that is an entry to the journal on the disk `err_a`,
-/// which is made where that disk is empty, and answers each line. `replay` takes the entries of the
+/// `accept` opens the store on the six disks, has it take each line of the input that is an entry,
+/// and answers each line. `replay` takes the entries of the
 /// input into two counters in memory, answers the lines that are refused, and puts what the
 /// counters come to. `init` reads the rule files, of which at most eight are handed in, and the
 /// topology, and makes a store of them and of the namespace. `esc` reads them and puts what each
@@ -66,7 +66,7 @@ pub fn tool<S: Source, K: Sink, D: Disk>(
 {
     let _ = now;
     match command_of(words) {
-        Some(Command::Accept) => end(alloc, accept(alloc, input, out, &mut disks.err_a), out),
+        Some(Command::Accept) => end(alloc, accept(alloc, input, out, disks), out),
         Some(Command::Replay) => end(alloc, replay(alloc, input, out), out),
         Some(Command::Init(namespace)) => {
             let ran = init(alloc, namespace, rules, topo, disks);

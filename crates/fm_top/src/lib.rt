@@ -5,10 +5,10 @@
 //! reads the rule files and the topology, and makes a store of them. `esc` puts what they come to,
 //! or lists what `esc -b` put; fm_esc makes its text. `accept` and `replay` read the input by one
 //! loop, `reading::run`: it reads pieces, cuts them into lines, and answers each line once, after
-//! its entry was taken. What takes the entries is a `takers::Taker`: for `accept` the journal of
-//! reports, which is opened or made first, for `replay` a `tally::Tally`: a core of two counters in
-//! memory, after which the next one goes on. Why a command stops before all is done is a `Stop`; it
-//! gives the last line and the status.
+//! its entry was taken. What takes the entries is a `takers::Taker`: for `accept` the store on the
+//! six disks, which is opened first with the modules of what it keeps, for `replay` a
+//! `tally::Tally`: a core of two counters in memory, after which the next one goes on. Why a command
+//! stops before all is done is a `Stop`; it gives the last line and the status.
 //!
 //! The model of a call is two records of what stands outside, before and after it
 //! (`specs/Outside`). `specs/Calls` says by the command what lies between them; `specs/Order` in
@@ -22,6 +22,12 @@
 //! bytes read before; or at a line, with each line before it answered. It says so of any taker, by
 //! what became of the entries; `specs/Accepting` and `specs/Replaying` say what that is for each
 //! command; `specs/Init` says what `init` does, and `specs/Esc` what `esc` does.
+//!
+//! **The headline.** `specs/Headline` says of every command, whatever its status, what a crash at
+//! the return leaves of the six disks: contents from before, or contents that read as a book which
+//! drains to what the book from before comes to with the entries of the first lines, of all that
+//! were answered and of one more at most. It follows from what the store says of each entry
+//! (`specs/Recording`), which goes on over a run as lines are answered.
 //!
 //! The loops carry one relation, `Moved` (`specs/Halting`): from one moment to a later one a piece
 //! was read, the lines that ended in it were answered, and whatever follows goes on from what is
@@ -43,7 +49,6 @@ mod esc;
 mod init;
 mod last;
 mod lent;
-mod opening;
 mod reading;
 mod recording;
 mod replaying;

@@ -1,5 +1,5 @@
 // A call, and what it must put.
-use crate::world::{Streams, disks_of, streams_of};
+use crate::world::{Streams, new_disks, streams_of};
 use fm_outer::{MemDisk, Source};
 use fm_text::ArgText;
 use fm_top::{Actuator, Disks, ToolStatus, tool};
@@ -61,7 +61,7 @@ pub(crate) fn puts(
     ends(rt, alloc, disks, word, &mut streams, want, text)
 }
 
-/// Asserts the same over disks without bytes.
+/// Asserts the same over a new store.
 pub(crate) fn fresh_puts(
     rt: &impl Abort,
     alloc: Global,
@@ -70,7 +70,7 @@ pub(crate) fn fresh_puts(
     want: ToolStatus,
     text: &str,
 ) -> Result<(), Fail> {
-    let mut disks = disks_of(alloc, b"")?;
+    let mut disks = new_disks(alloc)?;
     puts(rt, alloc, &mut disks, word, input, want, text)
 }
 
@@ -85,7 +85,7 @@ pub(crate) fn accepts(
     puts(rt, alloc, disks, "accept", input, ToolStatus::Done, text)
 }
 
-/// Asserts the same over disks without bytes.
+/// Asserts the same over a new store.
 pub(crate) fn fresh_accepts(
     rt: &impl Abort,
     alloc: Global,

@@ -1,7 +1,9 @@
 // What failures of the outside leave.
 use crate::asserts::{accepts, ends, puts};
+use crate::stopped::calls_over;
 use crate::world::{
-    REPORT, disks_of, failing_disks, failing_streams, streams_of, with_failing_sink,
+    EMPTY, REPORT, bare_disks, disks_of, failing_disks, failing_streams, new_disks, streams_of,
+    with_failing_sink,
 };
 use fm_outer::MemDisk;
 use fm_top::{Disks, ToolStatus};
@@ -11,7 +13,7 @@ use std::test::Fail;
 
 /// Asserts what `accept` of one report puts, where this call of the source fails.
 fn read_fault_at(rt: &impl Abort, alloc: Global, at: u64, text: &str) -> Result<(), Fail> {
-    let mut disks = disks_of(alloc, b"")?;
+    let mut disks = new_disks(alloc)?;
     let mut streams = failing_streams(alloc, at)?;
     let fault = ToolStatus::ReadFault;
     ends(rt, alloc, &mut disks, "accept", &mut streams, fault, text)
@@ -39,7 +41,7 @@ fn put_fails(
     ends(rt, alloc, disks, word, &mut streams, fault, text)
 }
 
-/// Asserts the same over disks without bytes.
+/// Asserts the same over a new store.
 fn fresh_put_fails(
     rt: &impl Abort,
     alloc: Global,
@@ -48,7 +50,7 @@ fn fresh_put_fails(
     at: u64,
     text: &str,
 ) -> Result<(), Fail> {
-    let mut disks = disks_of(alloc, b"")?;
+    let mut disks = new_disks(alloc)?;
     put_fails(rt, alloc, &mut disks, word, input, at, text)
 }
 
@@ -76,12 +78,26 @@ fn a_line_is_answered_by_one_put(rt: HostRuntime) -> Result<(), Fail> {
 #[test]
 fn an_answer_is_put_after_the_append(rt: HostRuntime) -> Result<(), Fail> {
     let alloc = rt.alloc();
-    let mut disks = disks_of(alloc, b"")?;
+    let mut disks = new_disks(alloc)?;
     put_fails(&rt, alloc, &mut disks, "accept", REPORT, 0, "")?;
     accepts(&rt, alloc, &mut disks, b"tick 1\n", "ok 1\n")
 }
 
-/// Asserts where a disk with these bytes is damaged.
+#[test]
+fn no_store_is_damage(rt: HostRuntime) -> Result<(), Fail> {
+    let mut disks = bare_disks(rt.alloc())?;
+    puts(
+        &rt,
+        rt.alloc(),
+        &mut disks,
+        "accept",
+        b"tick 1\n",
+        ToolStatus::Damaged,
+        "damaged conf 0\n",
+    )
+}
+
+/// Asserts where a store with these bytes as its error journal is damaged.
 fn damaged(rt: &impl Abort, alloc: Global, err_a: &[u8], text: &str) -> Result<(), Fail> {
     let mut disks = disks_of(alloc, err_a)?;
     let status = ToolStatus::Damaged;
@@ -119,9 +135,10 @@ fn goes_on_after(rt: &impl Abort, alloc: Global, at: u64, text: &str) -> Result<
 
 #[test]
 fn what_was_not_answered_is_there_or_not(rt: HostRuntime) -> Result<(), Fail> {
-    // the length; cut, sync, header, sync; body, sync, gate; and the last sync
-    for at in 0..8 {
+    // the last call is the sync of the gate
+    let last = calls_over(rt.alloc(), EMPTY)?.saturating_sub(1);
+    for at in 0..last {
         goes_on_after(&rt, rt.alloc(), at, "ok 0\n")?;
     }
-    goes_on_after(&rt, rt.alloc(), 8, "ok 1\n")
+    goes_on_after(&rt, rt.alloc(), last, "ok 1\n")
 }

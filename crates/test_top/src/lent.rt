@@ -1,10 +1,8 @@
 // How often a disk is called that is lent.
-use crate::asserts::accepts;
-use crate::world::{REPORT, disk_of, disks_of};
+use crate::world::disk_of;
 use fm_journal::{Frame, Journal};
 use fm_outer::{Disk, MemDisk};
 use std::alloc::Global;
-use std::process::Abort;
 use std::test::Fail;
 
 /// The disk after a journal of one payload was made on it.
@@ -36,21 +34,5 @@ fn a_lent_disk_is_called_no_more_often(rt: HostRuntime) -> Result<(), Fail> {
     with_one(alloc, &mut disk)?;
     opened(&mut disk)?;
     assert_eq!(rt; disk.calls(), own_calls(alloc)?);
-    Ok(())
-}
-
-/// How often the disk of a run over one report is called, and of a second over no line.
-fn run_calls(rt: &impl Abort, alloc: Global) -> Result<u64, Fail> {
-    let mut disks = disks_of(alloc, b"")?;
-    accepts(rt, alloc, &mut disks, REPORT.as_bytes(), "ok 0\n")?;
-    accepts(rt, alloc, &mut disks, b"", "")?;
-    Ok(disks.err_a.calls())
-}
-
-#[test]
-fn a_run_calls_its_disk_as_its_journal_does(rt: HostRuntime) -> Result<(), Fail> {
-    let calls = own_calls(rt.alloc())?;
-    // and the length once in each run
-    assert_eq!(rt; run_calls(&rt, rt.alloc())?, calls.saturating_add(2));
     Ok(())
 }

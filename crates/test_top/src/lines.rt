@@ -1,7 +1,7 @@
 // How the input is read.
 use crate::asserts::{ends, fresh_accepts};
 use crate::noting::Noting;
-use crate::world::{Streams, disks_of, pieces, sink, whole, with_input};
+use crate::world::{Streams, new_disks, pieces, sink, whole, with_input};
 use fm_outer::MemSource;
 use fm_top::ToolStatus;
 use std::alloc::Global;
@@ -16,7 +16,7 @@ fn accepts_pieces(
     piece: usize,
     text: &str,
 ) -> Result<(), Fail> {
-    let mut disks = disks_of(alloc, b"")?;
+    let mut disks = new_disks(alloc)?;
     let mut streams = with_input(alloc, pieces(alloc, input, piece)?)?;
     let done = ToolStatus::Done;
     ends(rt, alloc, &mut disks, "accept", &mut streams, done, text)
@@ -129,7 +129,7 @@ fn accepts_blanks(
     alloc: Global,
     streams: &mut Streams<Noting<MemSource>>,
 ) -> Result<(), Fail> {
-    let mut disks = disks_of(alloc, b"")?;
+    let mut disks = new_disks(alloc)?;
     ends(
         rt,
         alloc,

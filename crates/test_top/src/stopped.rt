@@ -1,7 +1,7 @@
 // What a disk leaves that stops within a run.
 use crate::asserts::{accepts, call};
 use crate::kept::WITHOUT;
-use crate::world::{REPORT, disk_of, disks_around, streams_of};
+use crate::world::{EMPTY, REPORT, disk_of, disks_around, streams_of};
 use fm_outer::{Image, MemDisk};
 use fm_top::Disks;
 use std::alloc::Global;
@@ -25,8 +25,8 @@ fn run_report(alloc: Global, disks: &mut Disks<MemDisk>) -> Result<(), Fail> {
     Ok(())
 }
 
-/// How often a run over a disk of these bytes calls it.
-fn calls_over(alloc: Global, err_a: &[u8]) -> Result<u64, Fail> {
+/// How often a run over a store calls its error journal's disk, which has these bytes.
+pub(crate) fn calls_over(alloc: Global, err_a: &[u8]) -> Result<u64, Fail> {
     let mut disks = disks_around(alloc, disk_of(alloc, err_a)?)?;
     run_report(alloc, &mut disks)?;
     Ok(disks.err_a.calls())
@@ -106,10 +106,10 @@ fn what_was_answered_is_kept(rt: HostRuntime) -> Result<(), Fail> {
 #[test]
 fn a_first_append_is_there_or_not(rt: HostRuntime) -> Result<(), Fail> {
     let alloc = rt.alloc();
-    let calls = calls_over(alloc, b"")?;
+    let calls = calls_over(alloc, EMPTY)?;
     let gate = calls.saturating_sub(2);
-    goes_on(&rt, alloc, b"", gate, Image::Old, "ok 0\n")?;
-    goes_on(&rt, alloc, b"", gate, Image::Fill(7), "ok 0\n")?;
-    goes_on(&rt, alloc, b"", gate, Image::New, "ok 1\n")?;
-    goes_on_with_all(&rt, alloc, b"", calls, "ok 1\n")
+    goes_on(&rt, alloc, EMPTY, gate, Image::Old, "ok 0\n")?;
+    goes_on(&rt, alloc, EMPTY, gate, Image::Fill(7), "ok 0\n")?;
+    goes_on(&rt, alloc, EMPTY, gate, Image::New, "ok 1\n")?;
+    goes_on_with_all(&rt, alloc, EMPTY, calls, "ok 1\n")
 }

@@ -19,23 +19,47 @@ pub(crate) fn disk_of(alloc: Global, bytes: &[u8]) -> Result<MemDisk, Fail> {
     Ok(MemDisk::new(alloc, bytes, 4096, 4096, Vec::new(alloc))?)
 }
 
-/// A disk without bytes of which this call fails.
+/// A journal without payloads.
+pub(crate) const EMPTY: &[u8] = b"FMAJRNL1\0\0\0\0\0\0\0\0\0";
+
+/// A closed slot.
+const CLOSED: &[u8] = b"\0";
+
+/// The journal of a configuration: a namespace, one rule file, a topology.
+const CONF: &[u8] = b"FMAJRNL1\0\0\0\0\0\0\0\0\
+\x01\0\0\0\x40\
+\x6b\xa7\xb8\x10\x9d\xad\x11\xd1\x80\xb4\x00\xc0\x4f\xd4\x30\xc8\
+\x01\0\0\0\x17event fault.x@chassis;\n\0\0\0\x10hc:///chassis=0\n\0";
+
+/// The disk of an empty journal, of which this call fails.
 fn failing_disk(alloc: Global, call: u64) -> Result<MemDisk, Fail> {
-    Ok(MemDisk::new(alloc, b"", 4096, 4096, one(alloc, call)?)?)
+    Ok(MemDisk::new(alloc, EMPTY, 4096, 4096, one(alloc, call)?)?)
 }
 
-/// Two disks without bytes.
-fn blank_pair(alloc: Global) -> Result<(MemDisk, MemDisk), Fail> {
-    let first = disk_of(alloc, b"")?;
-    let second = disk_of(alloc, b"")?;
+/// The disks of two slots that are closed.
+fn slots(alloc: Global) -> Result<(MemDisk, MemDisk), Fail> {
+    let first = disk_of(alloc, CLOSED)?;
+    let second = disk_of(alloc, CLOSED)?;
     Ok((first, second))
 }
 
-/// Six disks, of which only `err_a` may have bytes.
+/// Six disks without bytes.
+pub(crate) fn bare_disks(alloc: Global) -> Result<Disks<MemDisk>, Fail> {
+    let mut disks = new_disks(alloc)?;
+    disks.conf = disk_of(alloc, b"")?;
+    disks.err_a = disk_of(alloc, b"")?;
+    disks.slot_a = disk_of(alloc, b"")?;
+    disks.slot_b = disk_of(alloc, b"")?;
+    disks.flt = disk_of(alloc, b"")?;
+    Ok(disks)
+}
+
+/// The disks of a new store around this one of its error journal.
 pub(crate) fn disks_around(alloc: Global, err_a: MemDisk) -> Result<Disks<MemDisk>, Fail> {
-    let (conf, err_b) = blank_pair(alloc)?;
-    let (slot_a, slot_b) = blank_pair(alloc)?;
-    let flt = disk_of(alloc, b"")?;
+    let conf = disk_of(alloc, CONF)?;
+    let err_b = disk_of(alloc, b"")?;
+    let (slot_a, slot_b) = slots(alloc)?;
+    let flt = disk_of(alloc, EMPTY)?;
     Ok(Disks {
         conf,
         err_a,
@@ -46,12 +70,17 @@ pub(crate) fn disks_around(alloc: Global, err_a: MemDisk) -> Result<Disks<MemDis
     })
 }
 
-/// Six disks, of which only `err_a` has these bytes.
+/// The disks of a new store.
+pub(crate) fn new_disks(alloc: Global) -> Result<Disks<MemDisk>, Fail> {
+    disks_of(alloc, EMPTY)
+}
+
+/// The disks of a new store, of which `err_a` has these bytes.
 pub(crate) fn disks_of(alloc: Global, err_a: &[u8]) -> Result<Disks<MemDisk>, Fail> {
     disks_around(alloc, disk_of(alloc, err_a)?)
 }
 
-/// Six disks without bytes, and this call of `err_a` fails.
+/// The disks of a new store, and this call of `err_a` fails.
 pub(crate) fn failing_disks(alloc: Global, call: u64) -> Result<Disks<MemDisk>, Fail> {
     disks_around(alloc, failing_disk(alloc, call)?)
 }

@@ -1,53 +1,30 @@
-use Rattle.std.proofs.Common.{◌∙◌}
-use Rattle.fm_top.proofs.Accepts.{accepted_all, accepted_until, ran_counts, counts_after}
-use Rattle.fm_top.proofs.Accepts.{opening_counts, not_opened}
-use Rattle.fm_top.proofs.Lending.{first_of_pair, second_of_pair}
+use Rattle.fm_top.specs.Outside.{source_at, sink_at}
+use Rattle.fm_top.proofs.Accepts.{opened_ran, not_opened, stands_of, same_back, read_back}
 use Rattle.fm_top.proofs.accept.accept_on.Goals as goal
 
-pub returns-in-Ok-clause-all : goal.returns-in-Ok-clause-all
-returns-in-Ok-clause-all g c =
-    rw c.into_disk.ensures
-    (accepted_all _ _ c.in-Ok.journal c.run-ran.new.taker _ _ _ c.run-ran.result
-    c.in-Ok.ensures.list c.in-Ok.ensures.there c.run-ran.ensures.all)
+pub returns-in-Ok-clause-ran : goal.returns-in-Ok-clause-ran
+returns-in-Ok-clause-ran g c =
+    opened_ran g.D.Disk g.met.D.Disk.seen_is_image c.args.disks c.into_disks.result
+    c.in-Ok.opened.store c.run.new.taker
+    (source_at g.S.Source c.args.input.now) (source_at g.S.Source c.run.new.input)
+    (sink_at g.K.Sink c.args.out.now) (sink_at g.K.Sink c.run.new.out) c.run.result
+    c.in-Ok.ensures.read c.in-Ok.ensures.counts_kept
+    (λ contents told. stands_of g.D.Disk g.met.D.Disk.seen_is_image contents c.in-Ok.opened
+    (c.in-Ok.ensures.opens contents told)) c.into_disks.ensures c.run.ensures.all
+    c.run.ensures.until c.run.ensures.counts_input c.run.ensures.counts_out
 
-pub returns-in-Ok-clause-until : goal.returns-in-Ok-clause-until
-returns-in-Ok-clause-until g c =
-    rw c.into_disk.ensures
-    (accepted_until _ _ _ c.in-Ok.journal c.run-ran.new.taker _ _ _ c.run-ran.result
-    c.in-Ok.ensures.list c.in-Ok.ensures.there c.run-ran.ensures.until)
+pub returns-in-Ok-clause-same_disks : goal.returns-in-Ok-clause-same_disks
+returns-in-Ok-clause-same_disks g c =
+    same_back g.D.Disk c.args.disks c.into_disks.result c.in-Ok.opened.store c.run.new.taker
+    c.in-Ok.ensures.read c.run.ensures.same_taker c.into_disks.ensures
 
-pub returns-in-Ok-clause-same_reference : goal.returns-in-Ok-clause-same_reference
-returns-in-Ok-clause-same_reference g c =
-    rw c.into_disk.ensures
-    (first_of_pair _ _ _ _ (c.run-ran.ensures.same_taker ∙ c.in-Ok.ensures.same_disk))
+pub returns-in-Err-clause-ran : goal.returns-in-Err-clause-ran
+returns-in-Err-clause-ran g c =
+    rw c.from.ensures
+    (not_opened g.D.Disk c.args.disks c.in-Err.refused.disks
+    (source_at g.S.Source c.args.input.now) (sink_at g.K.Sink c.args.out.now)
+    c.in-Err.refused.fault c.in-Err.ensures.refused c.in-Err.ensures.back)
 
-pub returns-in-Ok-clause-same_disk : goal.returns-in-Ok-clause-same_disk
-returns-in-Ok-clause-same_disk g c =
-    rw c.into_disk.ensures
-    (second_of_pair _ _ _ _ (c.run-ran.ensures.same_taker ∙ c.in-Ok.ensures.same_disk))
-
-pub returns-in-Ok-clause-counts_disk : goal.returns-in-Ok-clause-counts_disk
-returns-in-Ok-clause-counts_disk g c =
-    rw c.into_disk.ensures
-    (counts_after _ _ _ c.run-ran.result c.in-Ok.ensures.quiet
-    (ran_counts _ c.in-Ok.journal c.run-ran.new.taker _ _ _ _ _ c.run-ran.result
-    c.run-ran.ensures.all c.run-ran.ensures.until))
-
-pub returns-in-Err-clause-until : goal.returns-in-Err-clause-until
-returns-in-Err-clause-until g c =
-    rw (c.stop_of-stop.ensures, c.into_disk-in-Err.ensures)
-    (not_opened _ _ _ _ _ _ _ _ c.in-Err.refused.fault c.in-Err.ensures.cause
-    c.in-Err.ensures.left_back)
-
-pub returns-in-Err-clause-same_reference : goal.returns-in-Err-clause-same_reference
-returns-in-Err-clause-same_reference g c =
-    rw c.into_disk-in-Err.ensures (first_of_pair _ _ _ _ c.in-Err.ensures.same_disk_back)
-
-pub returns-in-Err-clause-same_disk : goal.returns-in-Err-clause-same_disk
-returns-in-Err-clause-same_disk g c =
-    rw c.into_disk-in-Err.ensures (second_of_pair _ _ _ _ c.in-Err.ensures.same_disk_back)
-
-pub returns-in-Err-clause-counts_disk : goal.returns-in-Err-clause-counts_disk
-returns-in-Err-clause-counts_disk g c =
-    rw (c.stop_of-stop.ensures, c.into_disk-in-Err.ensures)
-    (opening_counts _ _ _ c.in-Err.refused.fault c.in-Err.ensures.cause)
+pub returns-in-Err-clause-same_disks : goal.returns-in-Err-clause-same_disks
+returns-in-Err-clause-same_disks g c =
+    read_back g.D.Disk c.args.disks c.in-Err.refused.disks c.in-Err.ensures.back

@@ -9,10 +9,8 @@ use Rattle.fm_top.proofs.call.tool.Goals as goal
 pub returns-in-Some-Accept-clause-does : goal.returns-in-Some-Accept-clause-does
 returns-in-Some-Accept-clause-does g c =
     does_as _ (Some Accept) _ _ _ (search rules)
-    (does_accept _ _ (sink_at g.K.Sink c.accept.new.out) c.accept.result _
-    c.accept.ensures.all c.accept.ensures.until
-    c.accept.ensures.counts_input c.accept.ensures.counts_out c.accept.ensures.counts_disk
-    c.end.ensures (record { rules = refl; topo = refl; acts = refl; disks = λ n. refl }))
+    (does_accept _ _ (sink_at g.K.Sink c.accept.new.out) c.accept.result _ c.accept.ensures.ran
+    c.end.ensures (record { rules = refl; topo = refl; acts = refl }))
 
 pub returns-in-Some-Replay-clause-does : goal.returns-in-Some-Replay-clause-does
 returns-in-Some-Replay-clause-does g c =
@@ -21,7 +19,7 @@ returns-in-Some-Replay-clause-does g c =
     c.replay.ensures.all c.replay.ensures.until c.replay.ensures.counts_input
     c.replay.ensures.counts_out
     c.end-in-Some-Replay.ensures
-    (record { rules = refl; topo = refl; acts = refl; disks = λ n. refl }) refl)
+    (record { rules = refl; topo = refl; acts = refl }) refl (λ image leaves. leaves))
 
 pub returns-in-Some-Init-clause-does : goal.returns-in-Some-Init-clause-does
 returns-in-Some-Init-clause-does g c =
@@ -35,11 +33,11 @@ returns-in-Some-Esc-clause-does g c =
     does_as _ (Some (Esc c.in-Some-Esc.form)) _ _ _ (search rules)
     (does_esc _ _ (sink_at g.K.Sink c.esc-ran.new.out) _ c.esc-ran.result _
     (esc_standing g.S.Source _ _ _ _ _ _ _ c.esc-ran.result c.esc-ran.ensures)
-    c.end-in-Some-Esc.ensures refl refl refl)
+    c.end-in-Some-Esc.ensures refl refl refl (λ image leaves. leaves))
 
 pub returns-in-Some-EscInput-clause-does : goal.returns-in-Some-EscInput-clause-does
 returns-in-Some-EscInput-clause-does g c =
     does_as _ (Some EscInput) _ _ _ (search rules)
     (does_input _ _ (sink_at g.K.Sink c.esc_input.new.out) c.esc_input.result _
     (input_standing g.S.Source _ _ _ _ c.esc_input.result c.esc_input.ensures)
-    c.end-in-Some-EscInput.ensures refl refl refl refl)
+    c.end-in-Some-EscInput.ensures refl refl refl refl (λ image leaves. leaves))

@@ -12,7 +12,7 @@ use Rattle.fm_looks.specs.Looks.{LookCause}
 use Rattle.fm_store.specs.StoreOf.{made_modules}
 use Rattle.fm_store.proofs.Adopted.{adopted_read, cursors_length, is_adopted, loaded_numbers}
 use Rattle.fm_store.proofs.Adopted.{refused_back, refused_base, refused_log, same_many}
-use Rattle.fm_store.proofs.Adopted.{store_adopts}
+use Rattle.fm_store.proofs.Adopted.{adopted_counts, store_adopts}
 use Rattle.fm_store.proofs.opened.Opened.adopt.Goals as goal
 
 pub returns-in-Err-clause-refused : goal.returns-in-Err-clause-refused
@@ -148,6 +148,15 @@ returns-in-Ok-hands_of-clause-read g c =
     c.in-Ok.found.saves c.store.result c.store.ensures g.D.Disk g.met.D.Disk.only_now
     (subst (λ d. OnlyRead g.D.Disk d c.in-Ok-open_records.read.journal.disk)
     c.apart-beside.ensures.flt c.in-Ok-open_records.ensures.still)
+
+pub returns-in-Ok-hands_of-clause-counts_kept : goal.returns-in-Ok-hands_of-clause-counts_kept
+returns-in-Ok-hands_of-clause-counts_kept g c =
+    adopted_counts c.args.self c.apart-beside.result.beside c.apart-beside.ensures.beside
+    c.in-Ok-open_records.read.journal c.apart-beside.result.entries.items
+    c.apart-beside.ensures.entries c.in-Ok-hands_of.cursors.items c.args.kept.items
+    c.in-Ok.found.saves c.store.result c.store.ensures g.D.Disk
+    (subst (λ d. g.D.Disk.failures c.in-Ok-open_records.read.journal.disk ≡ g.D.Disk.failures d)
+    c.apart-beside.ensures.flt c.in-Ok-open_records.ensures.count_kept)
 
 pub returns-in-Err-hands_of-clause-back : goal.returns-in-Err-hands_of-clause-back
 returns-in-Err-hands_of-clause-back g c =

@@ -1,0 +1,82 @@
+-- The headline at the top call: what a crash leaves of a store, whatever a call ends with.
+use Rattle.std.specs.Prelude.{◌≡◌, ◌⊎◌, ℕ, ◌≤◌, List, ◌++◌, true, length, take, Result, MatchResult}
+use Rattle.std.specs.Prelude.{OnOk}
+use Rattle.std.specs.Io.KnownBytes.{Appends, Consumes, IsAtEnd}
+use Rattle.fm_core.specs.Book.{next_number}
+use Rattle.fm_line.specs.Lines.{lines_of}
+use Rattle.fm_logs.specs.Contents.{Contents}
+use Rattle.fm_store.specs.StoreLeft.{ReadsLike}
+use Rattle.fm_top.specs.Answers.{answers, entries_of}
+use Rattle.fm_top.specs.Kept.{BookAt}
+use Rattle.fm_top.specs.Outside.{Outside, DisksAt, Tells, Leaves}
+use Rattle.fm_top.specs.Recording.{store_with}
+use Rattle.fm_top.specs.Running.{Line, AreRead}
+use Rattle.fm_top.specs.declared.stops.Stop.{Stop}
+use Rattle.fm_top.specs.declared.words.Command.{Command}
+use Rattle.fm_top.specs.declared.words.Command.TheVariants.{Accept, Init}
+
+-- Of these lines all but the last one at most were answered whole, and what was put is a front of
+-- their answers: so whoever was told `ok` has the entry among theirs. `next` is the number of the
+-- first entry.
+pub record WereAnswered (puts : List ℕ → Type 0) (next : ℕ) (lines : List Line) : Type 0 where
+  pub whole : List Line
+  pub last : List Line
+  pub lines_are : lines ≡ whole ++ last
+  pub one_at_most : length last ≤ 1
+  pub count : ℕ
+  pub past : length (answers true 1 next whole) ≤ count
+  pub put : puts (take count (answers true 1 next lines))
+
+-- The contents read as a book that drains to what the book from before comes to with the entries of
+-- the first lines of the input: of those that were answered, and of one more at most.
+pub record HasAnswered (before after : Outside) (told : Contents) (stood : BookAt told)
+    (image : Contents) : Type 0 where
+  pub read : List ℕ
+  pub consumed : Consumes before.input.left after.input.left read
+  pub lines : List Line
+  pub others : List Line
+  pub first : AreRead read (IsAtEnd after.input.left) (lines ++ others)
+  pub answered : WereAnswered (Appends before.out.bytes after.out.bytes)
+      (next_number stood.book.book) lines
+  pub reads : ReadsLike stood.fresh (store_with stood.book (entries_of lines)) image
+
+-- The same with the entries of all lines, each of which was answered.
+pub record HasAll (before after : Outside) (told : Contents) (stood : BookAt told)
+    (image : Contents) : Type 0 where
+  pub read : List ℕ
+  pub consumed : Consumes before.input.left after.input.left read
+  pub at_end : IsAtEnd after.input.left
+  pub put : Appends before.out.bytes after.out.bytes
+      (answers true 1 (next_number stood.book.book) (lines_of read))
+  pub reads : ReadsLike stood.fresh (store_with stood.book (entries_of (lines_of read))) image
+
+-- The disks told contents that read as a book, and each image that a crash now leaves has it with
+-- the entries that were acknowledged, and perhaps one in flight; where all is done, with all.
+pub record Held (before after : Outside) (told : Contents) (ran : Result (Unit {0}) Stop) : Type 0
+  where
+    pub stood : BookAt told
+    pub left : (image : Contents) → Leaves after.disks image
+        → MatchResult ran (λ _. HasAll before after told stood image)
+        (λ _. HasAnswered before after told stood image)
+
+-- each image is one from before
+abbrev pub AreFromBefore : DisksAt → DisksAt → Type 0
+AreFromBefore before after = (image : Contents) → Leaves after image → Leaves before image
+
+-- The opening ended before it had synced each disk that it reads: nothing was read of the input,
+-- nothing put, and each image is one from before.
+pub record Unopened (before after : Outside) (ran : Result (Unit {0}) Stop) : Type 0 where
+  pub refused : OnOk ran ⊥
+  pub unread : after.input ≡ before.input
+  pub unsaid : after.out ≡ before.out
+  pub left : AreFromBefore before.disks after.disks
+
+-- THE HEADLINE, one line a command
+abbrev pub Headline : Command → Outside → Outside → Result (Unit {0}) Stop → Type 0
+Headline Accept before after ran =
+    Unopened before after ran
+    ⊎ ((told : Contents) → Tells before.disks told → Held before after told ran)
+Headline (Init namespace) before after ran =
+    (told : Contents) → Tells before.disks told → BookAt told
+    → AreFromBefore before.disks after.disks
+Headline _ before after ran = AreFromBefore before.disks after.disks
