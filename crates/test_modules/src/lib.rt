@@ -1,0 +1,9 @@
+//! Tests of stores that are opened with the modules of what they keep, over disks in memory.
+#![tactic(auto)]
+
+#[cfg(test)]
+mod opening;
+#[cfg(test)]
+mod refused;
+#[cfg(test)]
+mod stores;
