@@ -41,7 +41,8 @@ impl Model for Diagnoser {
 }
 
 impl Diagnoser {
-    /// The module with these rules, as `dx_standing::can_begin` asks, to which nothing has happened.
+    /// The module with these rules, as `dx_standing::can_begin` asks, to which nothing has
+    /// happened.
     pub fn with_rules(alloc: Global, rules: Rulebook) -> Result<Diagnoser, NoMemory>
         requires rules { IsTrue (are_rules (rules_of rules)) }
         requires there { IsTrue (is_there (found_at (rules_of rules).configurations

@@ -14,7 +14,8 @@ use Rattle.dx_sets.specs.Engine.{CutsOf}
 abbrev pub no_other_report : List Node → NodeSet → NodeSet
 no_other_report nodes allowed e = not (is_report_node nodes e) || allowed e
 
--- a story of the root, in the graph less the links that are cut, with reports within what is allowed
+-- a story of the root, in the graph less the links that are cut, with reports within what is
+-- allowed
 pub record IsAllowedStory (g : GraphValue) (cut : CutsOf) (root : ℕ) (allowed X : NodeSet) : Type 0
   where
     pub story : IsStory g.nodes (without (wiring g.instances) cut) root X

@@ -4,8 +4,8 @@
 //! **Model.** [`Loaded`] has the parts of a state: its open cases as [`Case`]s that have come to
 //! the state's time, its engines, the last words of solved cases, the time, and the numbers of the
 //! next case and of the configuration. `loaded_state` is the state that they are of
-//! (`specs/Parts`). [`Parts`] are the same to be saved, whoever holds them. What bytes spell a state
-//! is said in dx_state, and which states are lawful in dx_step.
+//! (`specs/Parts`). [`Parts`] are the same to be saved, whoever holds them. What bytes spell a
+//! state is said in dx_state, and which states are lawful in dx_step.
 //!
 //! **Promises.** [`load`] gives the parts of the lawful state that some bytes spell, and says that
 //! they are bad exactly where they spell none: what each open case waits for, which is not saved,

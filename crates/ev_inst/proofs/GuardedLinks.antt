@@ -10,7 +10,8 @@ use Rattle.ev_expr.specs.declared.settings.Prop.{Prop}
 use Rattle.ev_graph.specs.Cutting.{is_cut}
 use Rattle.ev_graph.specs.declared.instances.Link.{Link}
 use Rattle.ev_inst.specs.Guards.{GuardsValue, broken_by, broken_of, guard_instance, guarded_links}
-use Rattle.ev_inst.specs.Guards.{guards_if_any, is_broken, is_guard_of, is_guarded, link_to, links_to}
+use Rattle.ev_inst.specs.Guards.{guards_if_any, is_broken, is_guard_of, is_guarded, link_to}
+use Rattle.ev_inst.specs.Guards.{links_to}
 use Rattle.ev_inst.specs.declared.guards.Guard.{Guard}
 use Rattle.ev_inst.specs.declared.guards.GuardedNode.{GuardedNode}
 

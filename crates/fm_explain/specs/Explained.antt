@@ -1,5 +1,6 @@
 -- What is printed of a case's row: each suspect, and the greatest story of it.
-use Rattle.std.specs.Prelude.{◌≡◌, ◌⊎◌, ◌<◌, ℕ, Bool, true, List, [], ◌∷◌, ◌++◌, length, map, slice_get}
+use Rattle.std.specs.Prelude.{◌≡◌, ◌⊎◌, ◌<◌, ℕ, Bool, true, List, [], ◌∷◌, ◌++◌, length, map}
+use Rattle.std.specs.Prelude.{slice_get}
 use Rattle.std.specs.Prelude.{Some, None, IfSome, codes, flat_map}
 use Rattle.std.specs.declared.option.Option.{Option}
 use Rattle.std.specs.List.{AllZip}

@@ -7,7 +7,8 @@ ghost use Rattle.ev_graph.specs.Sets.{ascends};
 ghost use Rattle.ev_graph.specs.Wiring.{wiring};
 ghost use Rattle.ev_graph.specs.Cutting.{AreLinks, is_cut};
 ghost use Rattle.dx_explain.specs.Explaining.{AreMembers, FitsGraph, set_of};
-ghost use Rattle.fm_explain.specs.Explained.{event_line, node_line, node_lines, suspect_head, IsStoryTold};
+ghost use Rattle.fm_explain.specs.Explained.{event_line, node_line, node_lines, suspect_head};
+ghost use Rattle.fm_explain.specs.Explained.{IsStoryTold};
 ghost use Rattle.fm_explain.specs.Explained.{IsSuspectTold, AreTold, IsRowTold, IsRowForeign};
 ghost use Rattle.fm_explain.specs.Explained.{IsExplained};
 

@@ -47,7 +47,8 @@ tick_left ended reports turns x moment e t = rw (e, t) (end_is reports x moment)
 
 -- what is left where a turn is to come, by the values that it comes to
 pub turn_left : (ended : Bool) (reports : List EventName)
-    (turns left x moment first second later : ℕ) (event : EventName) → ended ≡ false → turns ≡ left + 1 → first ≡ drawn x
+    (turns left x moment first second later : ℕ) (event : EventName)
+    → ended ≡ false → turns ≡ left + 1 → first ≡ drawn x
     → second ≡ drawn first → later ≡ moment + draw_of second % 2000000000
     → picked reports (draw_of first) ≡ Some event
     → cond ended [] (entries_from reports turns x moment)

@@ -127,28 +127,32 @@ report_sound (Some c) (Some p) (Some t) (Some y) hc hp ht = record {
 tick_sound : (t : Option ℕ) → IfSome t IsMoment → IsLineAnswer (tick t)
 unfolding tick
 tick_sound None ht = no_part
-tick_sound (Some t) ht = record { spelled = λ _. record { moment_fits = ht; body = tt }; no_reload = refl }
+tick_sound (Some t) ht =
+    record { spelled = λ _. record { moment_fits = ht; body = tt }; no_reload = refl }
 
 repaired_sound : (p : Option (List ℕ)) (t : Option ℕ) → IfSome p (λ p. IsTrue (is_path p))
     → IfSome t IsMoment → IsLineAnswer (repaired p t)
 unfolding repaired
 repaired_sound None t hp ht = no_part
 repaired_sound (Some p) None hp ht = no_part
-repaired_sound (Some p) (Some t) hp ht = record { spelled = λ _. record { moment_fits = ht; body = hp }; no_reload = refl }
+repaired_sound (Some p) (Some t) hp ht =
+    record { spelled = λ _. record { moment_fits = ht; body = hp }; no_reload = refl }
 
 replaced_sound : (p : Option (List ℕ)) (t : Option ℕ) → IfSome p (λ p. IsTrue (is_path p))
     → IfSome t IsMoment → IsLineAnswer (replaced p t)
 unfolding replaced
 replaced_sound None t hp ht = no_part
 replaced_sound (Some p) None hp ht = no_part
-replaced_sound (Some p) (Some t) hp ht = record { spelled = λ _. record { moment_fits = ht; body = hp }; no_reload = refl }
+replaced_sound (Some p) (Some t) hp ht =
+    record { spelled = λ _. record { moment_fits = ht; body = hp }; no_reload = refl }
 
 acquit_sound : (c : Option CaseName) (t : Option ℕ) → IfSome c IsCaseName → IfSome t IsMoment
     → IsLineAnswer (acquit c t)
 unfolding acquit
 acquit_sound c None hc ht = no_part
 acquit_sound None (Some t) hc ht = no_part
-acquit_sound (Some c) (Some t) hc ht = record { spelled = λ _. record { moment_fits = ht; body = hc }; no_reload = refl }
+acquit_sound (Some c) (Some t) hc ht =
+    record { spelled = λ _. record { moment_fits = ht; body = hc }; no_reload = refl }
 
 if_sound : (b : Bool) (x y : Result Entry LineFault) → IsLineAnswer x → IsLineAnswer y
     → IsLineAnswer (cond b x y)

@@ -11,15 +11,15 @@
 //! rest of the piece and what follows. Both buffers are made once, so neither call takes memory.
 //!
 //! `line_entry` is what a line says, by cases over its bytes: an entry, or the first of its faults.
-//! Of JSON it speaks by the value that the bytes read as. `read_line` answers just this, but for want
-//! of memory, and what it answers has a spelling as bytes and is no reload. `code_of` numbers the
-//! faults. Lines of blanks are skipped: `is_blank_line` tells them.
+//! Of JSON it speaks by the value that the bytes read as. `read_line` answers just this, but for
+//! want of memory, and what it answers has a spelling as bytes and is no reload. `code_of` numbers
+//! the faults. Lines of blanks are skipped: `is_blank_line` tells them.
 //!
 //! `line_text` is the line of an entry that is no reload. `print_line` appends it.
 //!
 //! The laws above these definitions stand in `fm_line_laws`: what a line says, by one case for each
-//! fault; that a printed line reads back and is the shortest; that names of payloads ascend; that any
-//! cutting of a stream gives the same lines.
+//! fault; that a printed line reads back and is the shortest; that names of payloads ascend; that
+//! any cutting of a stream gives the same lines.
 //!
 //! A payload is a JSON object. It becomes a list of names and values by `list_of`, and
 //! `payload_data` is the way back; a list that a line gives is what its own JSON says.

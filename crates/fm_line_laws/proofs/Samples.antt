@@ -121,7 +121,9 @@ class_first = refl
 
 -- a payload, in byte order of the names
 payload : line_entry (codes
-    "{\"class\":\"ereport.cpu.ue\",\"path\":\"hc:///chassis=0/cpu=1\",\"time\":10000000000,\"payload\":{\"ena\":17,\"bank\":3}}") ≡ Ok (Report (codes "ereport.cpu.ue") (codes "hc:///chassis=0/cpu=1") 10000000000 (pair (codes "bank") (unsigned 3) (pair (codes "ena") (unsigned 17) no_pairs)))
+    "{\"class\":\"ereport.cpu.ue\",\"path\":\"hc:///chassis=0/cpu=1\",\"time\":10000000000,\"payload\":{\"ena\":17,\"bank\":3}}")
+    ≡ Ok (Report (codes "ereport.cpu.ue") (codes "hc:///chassis=0/cpu=1") 10000000000 (pair (codes
+      "bank") (unsigned 3) (pair (codes "ena") (unsigned 17) no_pairs)))
 unfolding on_lines
 payload = refl
 
@@ -172,34 +174,44 @@ empty_array = refl
 -- 2^64 - 1
 greatest : line_entry
     (codes
-    "{\"class\":\"ereport.a.b\",\"path\":\"hc:///c=0\",\"time\":1,\"payload\":{\"x\":18446744073709551615}}") ≡ Ok (Report (codes "ereport.a.b") (codes "hc:///c=0") 1 (pair (codes "x") (unsigned 18446744073709551615) no_pairs))
+    "{\"class\":\"ereport.a.b\",\"path\":\"hc:///c=0\",\"time\":1,\"payload\":{\"x\":18446744073709551615}}")
+    ≡ Ok (Report (codes "ereport.a.b") (codes "hc:///c=0") 1 (pair (codes "x") (unsigned
+      18446744073709551615) no_pairs))
 unfolding on_lines
 greatest = refl
 
 -- 2^64
 too_great : line_entry
     (codes
-    "{\"class\":\"ereport.a.b\",\"path\":\"hc:///c=0\",\"time\":1,\"payload\":{\"x\":18446744073709551616}}") ≡ Err Value
+    "{\"class\":\"ereport.a.b\",\"path\":\"hc:///c=0\",\"time\":1,\"payload\":{\"x\":18446744073709551616}}")
+    ≡ Err Value
 unfolding on_lines
 too_great = refl
 
 -- -2^63
 least : line_entry (codes
-    "{\"class\":\"ereport.a.b\",\"path\":\"hc:///c=0\",\"time\":1,\"payload\":{\"x\":-9223372036854775808}}") ≡ Ok (Report (codes "ereport.a.b") (codes "hc:///c=0") 1 (pair (codes "x") (signed (negsuc 9223372036854775807)) no_pairs))
+    "{\"class\":\"ereport.a.b\",\"path\":\"hc:///c=0\",\"time\":1,\"payload\":{\"x\":-9223372036854775808}}")
+    ≡ Ok (Report (codes "ereport.a.b") (codes "hc:///c=0") 1 (pair (codes "x") (signed (negsuc
+      9223372036854775807)) no_pairs))
 unfolding on_lines
 least = refl
 
 -- eight objects in one another
 depth_eight : line_entry
     (codes
-    "{\"class\":\"ereport.a.b\",\"path\":\"hc:///c=0\",\"time\":1,\"payload\":{\"a\":{\"a\":{\"a\":{\"a\":{\"a\":{\"a\":{\"a\":{\"a\":1}}}}}}}}}") ≡ Ok (Report (codes "ereport.a.b") (codes "hc:///c=0") 1 (pair (codes "a") (nested (pair (codes "a") (nested (pair (codes "a") (nested (pair (codes "a") (nested (pair (codes "a") (nested (pair (codes "a") (nested (pair (codes "a") (nested (pair (codes "a") (unsigned 1) no_pairs)) no_pairs)) no_pairs)) no_pairs)) no_pairs)) no_pairs)) no_pairs)) no_pairs))
+    "{\"class\":\"ereport.a.b\",\"path\":\"hc:///c=0\",\"time\":1,\"payload\":{\"a\":{\"a\":{\"a\":{\"a\":{\"a\":{\"a\":{\"a\":{\"a\":1}}}}}}}}}")
+    ≡ Ok (Report (codes "ereport.a.b") (codes "hc:///c=0") 1 (pair (codes "a") (nested (pair (codes
+      "a") (nested (pair (codes "a") (nested (pair (codes "a") (nested (pair (codes "a") (nested
+      (pair (codes "a") (nested (pair (codes "a") (nested (pair (codes "a") (unsigned 1) no_pairs))
+      no_pairs)) no_pairs)) no_pairs)) no_pairs)) no_pairs)) no_pairs)) no_pairs))
 unfolding on_lines
 depth_eight = refl
 
 -- nine objects in one another
 depth_nine : line_entry
     (codes
-    "{\"class\":\"ereport.a.b\",\"path\":\"hc:///c=0\",\"time\":1,\"payload\":{\"a\":{\"a\":{\"a\":{\"a\":{\"a\":{\"a\":{\"a\":{\"a\":{\"a\":1}}}}}}}}}}") ≡ Err Value
+    "{\"class\":\"ereport.a.b\",\"path\":\"hc:///c=0\",\"time\":1,\"payload\":{\"a\":{\"a\":{\"a\":{\"a\":{\"a\":{\"a\":{\"a\":{\"a\":{\"a\":1}}}}}}}}}}")
+    ≡ Err Value
 unfolding on_lines
 depth_nine = refl
 

@@ -1,5 +1,6 @@
 -- Logs of which one was read: they keep what they kept, and the values are what they keep.
-use Rattle.std.proofs.Common.{◌≡◌, ◌+◌, ◌∙◌, ◌++◌, List, ℕ, None, Result, Ok, Err, IfOk, IfErr, OnOk}
+use Rattle.std.proofs.Common.{◌≡◌, ◌+◌, ◌∙◌, ◌++◌, List, ℕ, None, Result, Ok, Err, IfOk, IfErr}
+use Rattle.std.proofs.Common.{OnOk}
 use Rattle.std.proofs.Common.{ap, subst, sym, length}
 use Rattle.std.specs.Global.{Vec}
 use Rattle.fm_entry.specs.declared.entry.Entry.{Entry}

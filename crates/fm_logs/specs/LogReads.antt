@@ -28,8 +28,8 @@ pub record AreOrdered (log records : List Spoken) : Type 0 where
   pub stable : IsStable record_order log records
 
 -- Why the values of an open log on this disk were not read. Its disk failed; or a payload spells
--- none, or the disk no longer gives what the journal keeps, which comes only where the journal keeps
--- no payloads that spell values. Want of memory alone is free.
+-- none, or the disk no longer gives what the journal keeps, which comes only where the journal
+-- keeps no payloads that spell values. Want of memory alone is free.
 abbrev pub ValuesCause : {D A : Type 0} → Ghosts D → (List ℕ → A → Type 0) → DiskName → JournalOf D
     → JournalOf D → StoreFault → Type 0
 ValuesCause g spells name old new Disk = Rose (g.failures old.disk) (g.failures new.disk)

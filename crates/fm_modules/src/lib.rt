@@ -1,8 +1,8 @@
 //! The diagnosis modules of the texts that a store keeps, and a store that is opened with them.
 //!
-//! A store keeps configurations: rule files and a topology, as bytes. Here these are read again: for
-//! each rule file number a module is made, which knows the graph of that file in each configuration,
-//! and the store adopts the modules.
+//! A store keeps configurations: rule files and a topology, as bytes. Here these are read again:
+//! for each rule file number a module is made, which knows the graph of that file in each
+//! configuration, and the store adopts the modules.
 //!
 //! **Model.** What a configuration makes is a row, for each of its rule files a configuration of a
 //! module (`ConfMakes`, specs/KeptTexts); the modules are a function of the rows (`first_modules`,
@@ -15,8 +15,8 @@
 //!
 //! **Promises.** [`make_modules`] answers two equal lists of modules to which nothing has happened,
 //! or the first configuration of which a text is refused. [`open_store`] answers the store with its
-//! modules, a hand of each, and the configuration in force; or the disks, which were only read, with
-//! the first damage in the order of the looks.
+//! modules, a hand of each, and the configuration in force; or the disks, which were only read,
+//! with the first damage in the order of the looks.
 #![tactic(auto)]
 
 mod fault;

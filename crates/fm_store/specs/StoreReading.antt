@@ -10,8 +10,8 @@ abbrev pub IsNoDamage : StoreFault → Type 0
 IsNoDamage (Damaged disk place) = ⊥
 IsNoDamage _ = Unit {0}
 
--- these are the entries from this number on: older ones up to the base of the book, and those of the
--- book
+-- these are the entries from this number on: older ones up to the base of the book, and those of
+-- the book
 pub record HasLogged (first : ℕ) (k : Book) (found : List Entry) : Type 0 where
   pub older : List Entry
   pub begins : first + length older ≡ k.base

@@ -5,10 +5,10 @@
 //! entries, steps and checkpoints, rotates its error journals, and tells what it logged.
 //!
 //! **Model.** Contracts see six disks as one record. A store that is open is a record (`OpenedOf`),
-//! which has what the looks of an opening read (`Opens`). A store that is there is two parts (`StoreOf`): its logs,
-//! which a lock may hold, and what stands beside them, the modules as they were made among it. It
-//! stands for a book (`StoreStandsFor`) where its logs keep the book's entries and records and its
-//! other disks say the rest, in each image.
+//! which has what the looks of an opening read (`Opens`). A store that is there is two parts
+//! (`StoreOf`): its logs, which a lock may hold, and what stands beside them, the modules as they
+//! were made among it. It stands for a book (`StoreStandsFor`) where its logs keep the book's
+//! entries and records and its other disks say the rest, in each image.
 //!
 //! **Promises.** `Opened::open` writes nothing. It answers `Damaged` with the first place that a
 //! look finds, and by `damage_is_no_book` the contents then read as no book; so it never does on an

@@ -162,8 +162,8 @@ impl<D: Disk, M> Store<D, M> {
     }
 
     /// The records of the fault log, by number and those of one number by module. The disk is only
-    /// read, once, and the store stands for the same book. `Damaged` never comes while it stands for
-    /// one; a closed store answers `Closed`.
+    /// read, once, and the store stands for the same book. `Damaged` never comes while it stands
+    /// for one; a closed store answers `Closed`.
     pub fn spoken(&mut self, alloc: Global) -> Result<Vec<Spoken>, StoreFault>
         ensures reads { ReadsSpoken D.Disk self.old.logs self.new.logs }
         ensures base_same { self.new.base ≡ self.old.base }
@@ -183,8 +183,8 @@ impl<D: Disk, M> Store<D, M> {
         self.logs.spoken(alloc)
     }
 
-    /// The entries of the active error journal, which are those since the last rotation. The disk is
-    /// only read, once, and the store stands for the same book. `Damaged` never comes while it
+    /// The entries of the active error journal, which are those since the last rotation. The disk
+    /// is only read, once, and the store stands for the same book. `Damaged` never comes while it
     /// stands for one; a closed store answers `Closed`.
     pub fn logged(&mut self, alloc: Global) -> Result<Vec<Entry>, StoreFault>
         ensures reads { ReadsLogged D.Disk self.old.logs self.new.logs }

@@ -14,8 +14,8 @@ use std::test::Fail;
 const PARTS: &str = "hc:///chassis=0\nhc:///chassis=0/cpu=0\nhc:///chassis=0/cpu=1\n\
 hc:///chassis=0/cpu=2\n";
 
-/// The nodes at a processor are in order ue, wd, cache, core. Three instances lead from a core, then
-/// three from a cache to ue; the link of instance 4 leads to node 4.
+/// The nodes at a processor are in order ue, wd, cache, core. Three instances lead from a core,
+/// then three from a cache to ue; the link of instance 4 leads to node 4.
 const BOUND: &str = "event fault.cpu.cache@chassis/cpu; event fault.cpu.core@chassis/cpu;\
 event ereport.cpu.ue@chassis/cpu; event ereport.cpu.wd@chassis/cpu;\
 prop fault.cpu.core@chassis/cpu -> ereport.cpu.ue@chassis/cpu;\

@@ -1,4 +1,5 @@
-use Rattle.std.proofs.Common.{◌≡◌, ◌&&◌, not, eqb, ℕ, List, length, get_or, arith, ap, sym, ◌∙◌, subst}
+use Rattle.std.proofs.Common.{◌≡◌, ◌&&◌, not, eqb, ℕ, List, length, get_or, arith, ap, sym, ◌∙◌}
+use Rattle.std.proofs.Common.{subst}
 use Rattle.dx_sets.specs.Engine.{is_ungiven, HaveLeftBelow}
 use Rattle.dx_sets.proofs.Beginning.{left_here, left_past, ungiven_keeps}
 use Rattle.dx_sets.proofs.start.remove_ungiven.Goals as goal

@@ -1,6 +1,7 @@
 -- The store stands for the same book, and the entries are its entries, behind older ones.
 use Rattle.std.proofs.Common.{rules}
-use Rattle.fm_store.proofs.StoreReading.{entries_told, logged_same, logged_sound, stands_logged, told_undamaged}
+use Rattle.fm_store.proofs.StoreReading.{entries_told, logged_same, logged_sound, stands_logged}
+use Rattle.fm_store.proofs.StoreReading.{told_undamaged}
 use Rattle.fm_store.specs.StoreLimits.{store_of}
 use Rattle.fm_store.proofs.store.Store.logged.Goals as goal
 

@@ -1,6 +1,7 @@
 -- The store stands for the same book, and the records are its records, in order.
 use Rattle.std.proofs.Common.{rules}
-use Rattle.fm_store.proofs.StoreReading.{records_told, spoken_same, spoken_sound, stands_spoken, told_undamaged}
+use Rattle.fm_store.proofs.StoreReading.{records_told, spoken_same, spoken_sound, stands_spoken}
+use Rattle.fm_store.proofs.StoreReading.{told_undamaged}
 use Rattle.fm_store.specs.StoreLimits.{store_of}
 use Rattle.fm_store.proofs.store.Store.spoken.Goals as goal
 
