@@ -123,7 +123,7 @@ class_first = refl
 payload : line_entry (codes
     "{\"class\":\"ereport.cpu.ue\",\"path\":\"hc:///chassis=0/cpu=1\",\"time\":10000000000,\"payload\":{\"ena\":17,\"bank\":3}}")
     ≡ Ok (Report (codes "ereport.cpu.ue") (codes "hc:///chassis=0/cpu=1") 10000000000 (pair (codes
-      "bank") (unsigned 3) (pair (codes "ena") (unsigned 17) no_pairs)))
+    "bank") (unsigned 3) (pair (codes "ena") (unsigned 17) no_pairs)))
 unfolding on_lines
 payload = refl
 
@@ -176,7 +176,7 @@ greatest : line_entry
     (codes
     "{\"class\":\"ereport.a.b\",\"path\":\"hc:///c=0\",\"time\":1,\"payload\":{\"x\":18446744073709551615}}")
     ≡ Ok (Report (codes "ereport.a.b") (codes "hc:///c=0") 1 (pair (codes "x") (unsigned
-      18446744073709551615) no_pairs))
+    18446744073709551615) no_pairs))
 unfolding on_lines
 greatest = refl
 
@@ -192,7 +192,7 @@ too_great = refl
 least : line_entry (codes
     "{\"class\":\"ereport.a.b\",\"path\":\"hc:///c=0\",\"time\":1,\"payload\":{\"x\":-9223372036854775808}}")
     ≡ Ok (Report (codes "ereport.a.b") (codes "hc:///c=0") 1 (pair (codes "x") (signed (negsuc
-      9223372036854775807)) no_pairs))
+    9223372036854775807)) no_pairs))
 unfolding on_lines
 least = refl
 
@@ -201,9 +201,9 @@ depth_eight : line_entry
     (codes
     "{\"class\":\"ereport.a.b\",\"path\":\"hc:///c=0\",\"time\":1,\"payload\":{\"a\":{\"a\":{\"a\":{\"a\":{\"a\":{\"a\":{\"a\":{\"a\":1}}}}}}}}}")
     ≡ Ok (Report (codes "ereport.a.b") (codes "hc:///c=0") 1 (pair (codes "a") (nested (pair (codes
-      "a") (nested (pair (codes "a") (nested (pair (codes "a") (nested (pair (codes "a") (nested
-      (pair (codes "a") (nested (pair (codes "a") (nested (pair (codes "a") (unsigned 1) no_pairs))
-      no_pairs)) no_pairs)) no_pairs)) no_pairs)) no_pairs)) no_pairs)) no_pairs))
+    "a") (nested (pair (codes "a") (nested (pair (codes "a") (nested (pair (codes "a") (nested
+    (pair (codes "a") (nested (pair (codes "a") (nested (pair (codes "a") (unsigned 1) no_pairs))
+    no_pairs)) no_pairs)) no_pairs)) no_pairs)) no_pairs)) no_pairs)) no_pairs))
 unfolding on_lines
 depth_eight = refl
 

@@ -163,9 +163,12 @@ module _ {D : Type 0} (g : Ghosts D) where
   pub opening_refused : (old new : Disks D) (fault : StoreFault) → OpenRefused g old new fault
       → OpenStoreRefused g old new fault
   opening_refused old new (Damaged disk place) refused = λ c told.
-      let finds = refused c told in
-      ([], finds.0, found [] c finds.0 (record { disk = disk; place = place })
-          open_looks (at_modules ∷ map at_disk adopt_looks) finds.1)
+      let finds = refused c told in (
+        [],
+        finds.0,
+        found [] c finds.0 (record { disk = disk; place = place })
+            open_looks (at_modules ∷ map at_disk adopt_looks) finds.1,
+      )
   opening_refused old new Disk refused = refused
   opening_refused old new NoMemory refused = tt
   opening_refused old new (Full kind) refused = absurd refused

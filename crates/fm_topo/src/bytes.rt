@@ -94,16 +94,8 @@ pub fn text_of(bytes: &[u8]) -> &str
     }
 }
 
-#[tactic(
-    auto,
-    using(
-        crate::proofs::Pieces::words_some,
-        crate::proofs::Pieces::words_none,
-        crate::proofs::Pieces::path_none
-    ),
-    unfolding(crate::specs::Line::path_of)
-)]
 /// A line as its path and what stands behind the first space.
+#[tactic(auto, using(crate::proofs::Pieces::words_some, crate::proofs::Pieces::words_none, crate::proofs::Pieces::path_none), unfolding(crate::specs::Line::path_of))]
 pub fn cut_line(content: &[u8]) -> (&[u8], Option<&[u8]>)
     requires { IsTrue (list_all is_clean_byte content.now) }
     ensures path { result.0.now ≡ path_of content.now }
@@ -135,16 +127,8 @@ fn first_word_end(text: &[u8]) -> usize
     text.len()
 }
 
-#[tactic(
-    auto,
-    using(
-        crate::proofs::Pieces::all_take,
-        crate::proofs::Pieces::all_drop,
-        crate::proofs::Pieces::word_cut,
-        crate::proofs::Pieces::word_all
-    )
-)]
 /// The first word of a text, and what is left behind the space after it.
+#[tactic(auto, using(crate::proofs::Pieces::all_take, crate::proofs::Pieces::all_drop, crate::proofs::Pieces::word_cut, crate::proofs::Pieces::word_all))]
 pub fn cut_word(text: &[u8]) -> (&[u8], Option<&[u8]>)
     requires { IsTrue (list_all is_clean_byte text.now) }
     ensures words { words_from false text.now
