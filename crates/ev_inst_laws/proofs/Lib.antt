@@ -1,0 +1,3 @@
+mod Rising
+mod Once
+pub mod OneGraph
