@@ -1,10 +1,9 @@
 //! Rule files and a topology.
 
 use dx_rules::{Configs, Rulebook, Ruled};
-use ev_check::{Checked, check};
+use ev_check::Checked;
 use ev_inst::instantiate;
-use ev_lex::lex;
-use ev_parse::parse;
+use fm_sources::read_rules;
 use fm_topo::{Topo, read_topo};
 use std::alloc::{AllocError, Global};
 use std::test::Fail;
@@ -54,19 +53,9 @@ fn joined(alloc: Global, parts: &[&str]) -> Result<String, AllocError> {
 }
 
 fn checked(alloc: Global, text: &str) -> Result<Checked, Fail> {
-    let bytes = text.as_bytes();
-    if bytes.len() > 1_048_576 {
-        return Err(Fail::new("a long text"));
-    }
-    let Ok(tokens) = lex(alloc, bytes) else {
-        return Err(Fail::new("no tokens"));
-    };
-    let Ok(tree) = parse(alloc, bytes, tokens.as_slice()) else {
-        return Err(Fail::new("no tree"));
-    };
-    match check(alloc, &tree) {
+    match read_rules(alloc, text.as_bytes()) {
         Ok(checked) => Ok(checked),
-        Err(_) => Err(Fail::new("a fault")),
+        Err(_) => Err(Fail::new("no rule file")),
     }
 }
 

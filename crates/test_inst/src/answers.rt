@@ -1,10 +1,9 @@
 //! What a rule text comes to over a topology text, as a line.
 
-use ev_check::{Checked, check};
+use ev_check::Checked;
 use ev_graph::Instance;
 use ev_inst::{InstFault, Made, instantiate};
-use ev_lex::lex;
-use ev_parse::parse;
+use fm_sources::read_rules;
 use fm_topo::{Topo, read_topo};
 use std::alloc::{AllocError, Global};
 use std::process::Abort;
@@ -12,19 +11,9 @@ use std::test::Fail;
 
 /// The checked rule file of a text, which no phase refuses.
 pub fn checked(alloc: Global, text: &str) -> Result<Checked, Fail> {
-    let bytes = text.as_bytes();
-    if bytes.len() > 1_048_576 {
-        return Err(Fail::new("a long text"));
-    }
-    let Ok(tokens) = lex(alloc, bytes) else {
-        return Err(Fail::new("no tokens"));
-    };
-    let Ok(tree) = parse(alloc, bytes, tokens.as_slice()) else {
-        return Err(Fail::new("no tree"));
-    };
-    match check(alloc, &tree) {
+    match read_rules(alloc, text.as_bytes()) {
         Ok(checked) => Ok(checked),
-        Err(_) => Err(Fail::new("a fault")),
+        Err(_) => Err(Fail::new("no rule file")),
     }
 }
 
