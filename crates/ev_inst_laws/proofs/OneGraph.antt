@@ -168,7 +168,8 @@ module _ (f copy : CheckedFile) (topology : Topology) (declares : DeclaresOnce f
     (engines : AreEngines f topology ns es) (others : AreEngines copy topology ms gs) where
   node_names : map node_name ns ≡ map node_name ms
   node_names =
-      names_one (map node_name ns) (map node_name ms) (sym (ascends_named node_name ns) ∙ own.ascend)
+      names_one (map node_name ns) (map node_name ms)
+      (sym (ascends_named node_name ns) ∙ own.ascend)
       (sym (ascends_named node_name ms) ∙ other.ascend)
       (nodes_within f copy topology same ns ms es gs own other)
       (nodes_within copy f topology (copied_back f copy same) ms ns gs es other own)

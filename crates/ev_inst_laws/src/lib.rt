@@ -1,8 +1,8 @@
 //! The law of instances: what a rule file comes to over a topology is one.
 //!
-//! **Model.** `IsGraphOf` of ev_inst is a relation between a checked file, a topology, a graph and a
-//! number of skipped candidates. It says which nodes, engines and instances a graph has, and in what
-//! order they stand; it does not say that there is one such graph.
+//! **Model.** `IsGraphOf` of ev_inst is a relation between a checked file, a topology, a graph and
+//! a number of skipped candidates. It says which nodes, engines and instances a graph has, and in
+//! what order they stand; it does not say that there is one such graph.
 //!
 //! **Law.** There is one ([`a_rule_file_has_one_graph`]): two graphs of one file over one topology
 //! are equal, and so are their numbers of skipped candidates. It holds as well of two files that

@@ -1,0 +1,2 @@
+pub mod OneFile
+mod NoFault
