@@ -1,0 +1,61 @@
+-- What a configuration makes is one row, and the modules of configurations are one list.
+use Rattle.std.proofs.Common.{◌≡◌, ℕ, List, [], ◌∷◌, refl, sym, ap, ◌∙◌, subst}
+use Rattle.fm_core.specs.Book.{ModuleState}
+use Rattle.fm_saved.specs.declared.conf.Conf.{Conf}
+use Rattle.fm_topo.specs.Topology.{Topology}
+use Rattle.ev_check.specs.CheckedFile.{CheckedFile}
+use Rattle.ev_check.specs.Sound.{IsSound}
+use Rattle.ev_inst_laws.proofs.OneGraph.{graphs_one}
+use Rattle.dx_state.specs.Configured.{Configuration}
+use Rattle.fm_sources.specs.Rules.{IsRuleFile}
+use Rattle.fm_sources_laws.proofs.OneFile.{rule_files_one}
+use Rattle.fm_modules.specs.KeptTexts.{ConfMakes, EachHas, TextMakes}
+use Rattle.fm_modules.specs.Modules.{AreModulesOf, file_count, first_modules}
+
+sound_of : (text : List ℕ) (f : CheckedFile) → IsRuleFile text f → IsSound f
+sound_of text f h = record {
+  statements = h.tree.statements;
+  checked = h.passes;
+  file = h.file_is;
+}
+
+text_one : (topo : Topology) (text : List ℕ) (x y : Configuration) → TextMakes topo text x
+    → TextMakes topo text y → x ≡ y
+text_one topo text x y a b =
+    let one = a.makes.made in
+    let other = b.makes.made in
+    let graph : one.graph ≡ other.graph =
+    (graphs_one a.checked b.checked topo one.graph other.graph one.skipped other.skipped
+    (sound_of text a.checked a.is_rules)
+    (rule_files_one text a.checked b.checked a.is_rules b.is_rules) a.makes.is_made.graph
+    b.makes.is_made.graph).0 in
+    let same : x.graph ≡ y.graph = a.makes.graph_is ∙ graph ∙ sym b.makes.graph_is in
+    let guarding : x.guarding ≡ y.guarding = a.makes.guarding_is ∙ sym b.makes.guarding_is in
+    λ i. record { graph = same i; guarding = guarding i }
+
+each_one : {A B : Type 0} (has : A → B → Type 0)
+    → ((x : A) (y z : B) → has x y → has x z → y ≡ z) → (xs : List A) (ys zs : List B)
+    → EachHas has xs ys → EachHas has xs zs → ys ≡ zs
+each_one has one [] [] [] a b = refl
+each_one has one [] [] (z ∷ zs) a b = absurd b
+each_one has one [] (y ∷ ys) zs a b = absurd a
+each_one has one (x ∷ xs) [] zs a b = absurd a
+each_one has one (x ∷ xs) (y ∷ ys) [] a b = absurd b
+each_one has one (x ∷ xs) (y ∷ ys) (z ∷ zs) a b =
+    let first : y ≡ z = one x y z a.0 b.0 in
+    let more = each_one has one xs ys zs a.1 b.1 in
+    λ i. first i ∷ more i
+
+pub row_one : (conf : Conf) (row other : List Configuration) → ConfMakes conf row
+    → ConfMakes conf other → row ≡ other
+row_one conf row other a b =
+    let topo : a.topo ≡ b.topo = a.topo_is.topology_is ∙ sym b.topo_is.topology_is in
+    let files : EachHas (TextMakes a.topo) conf.rules other =
+    subst (λ (t : Topology). EachHas (TextMakes t) conf.rules other) (sym topo) b.files in
+    each_one (TextMakes a.topo) (text_one a.topo) conf.rules row other a.files files
+
+pub modules_one : (confs : List Conf) (modules others : List ModuleState)
+    → AreModulesOf confs modules → AreModulesOf confs others → modules ≡ others
+modules_one confs modules others a b =
+    let rows : a.rows ≡ b.rows = each_one ConfMakes row_one confs a.rows b.rows a.make b.make in
+    a.modules_are ∙ ap (first_modules (file_count confs)) rows ∙ sym b.modules_are

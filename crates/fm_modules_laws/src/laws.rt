@@ -1,0 +1,32 @@
+//! The laws, each as the contract of a call that does nothing.
+
+ghost use Rattle.std.specs.Prelude.{◌≡◌, List};
+ghost use Rattle.fm_core.specs.Book.{ModuleState};
+ghost use Rattle.fm_logs.specs.Contents.{Contents};
+ghost use Rattle.fm_logs.specs.ReadsAsBook.{ReadsAsBook};
+ghost use Rattle.fm_logs.specs.StoreBook.{StoreBook};
+ghost use Rattle.fm_saved.specs.declared.conf.Conf.{Conf};
+ghost use Rattle.dx_state.specs.Configured.{Configuration};
+ghost use Rattle.fm_modules.specs.KeptTexts.{ConfMakes};
+ghost use Rattle.fm_modules.specs.Modules.{AreModulesOf};
+
+/// A configuration makes one row: of each of its rule files one configuration of a module.
+pub fn a_configuration_makes_one_row()
+    ensures { (conf : Conf) (row other : List Configuration) → ConfMakes conf row
+        → ConfMakes conf other → row ≡ other }
+{}
+
+/// Configurations make one list of modules.
+pub fn configurations_make_one_list_of_modules()
+    ensures { (confs : List Conf) (modules others : List ModuleState)
+        → AreModulesOf confs modules → AreModulesOf confs others → modules ≡ others }
+{}
+
+/// The contents of six disks read as one book of the modules that the configurations in them make,
+/// and these modules are one list.
+pub fn contents_read_as_one_book()
+    ensures { (c : Contents) (fresh others : List ModuleState) (book other : StoreBook)
+        → AreModulesOf book.confs fresh → ReadsAsBook fresh c book
+        → AreModulesOf other.confs others → ReadsAsBook others c other
+        → (fresh ≡ others) × (book ≡ other) }
+{}
