@@ -28,8 +28,8 @@ use Rattle.dx_standing.specs.Standing.{state_of}
 use Rattle.dx_state.specs.Configured.{Configuration, or_none}
 use Rattle.dx_step.specs.Longer.{rules_of}
 use Rattle.fm_modules.specs.KeptTexts.{ConfMakes, EachHas, TextMakes, conf_row, conf_rows}
-use Rattle.fm_modules.specs.Modules.{configurations_at, diagnosers, file_count, first_module}
-use Rattle.fm_modules.specs.Modules.{first_modules}
+use Rattle.fm_modules.specs.Modules.{AreModulesOf, configurations_at, diagnosers, file_count}
+use Rattle.fm_modules.specs.Modules.{first_module, first_modules}
 use Rattle.fm_modules.specs.declared.kept.MadeConf.{MadeConf}
 use Rattle.fm_modules.proofs.KeptRows.{each_count}
 
@@ -132,6 +132,24 @@ first_know count known rows many = λ i p s there x is.
 pub few_files : (confs : List Conf) → AreKeptConfs confs → file_count confs ≤ 8
 few_files [] kept = omega arith
 few_files (conf ∷ confs) kept = (kept.spelled 0 conf (omega arith)).few
+
+-- modules of kept configurations are no more than eight
+pub few_modules : (confs : List Conf) (kept : List DiagnoserOf) → AreKeptConfs confs
+    → AreModulesOf confs (made_modules diagnosers kept) → length kept ≤ 8
+few_modules confs kept are modules =
+    let made = ap length modules.modules_are in
+    let as_many : length (made_modules diagnosers kept) ≡ length kept =
+    length-map kept _ in
+    let numbers = length-map (range_with_len 0 (file_count confs))
+    (λ i. first_module i (configurations_at i modules.rows)) in
+    omega (
+      arith,
+      few_files confs are,
+      made,
+      numbers,
+      length-range_with_len 0 (file_count confs),
+      as_many,
+    )
 
 all_first : (count : ℕ) (made : MadeConf) (mades : List MadeConf)
     → length made.files.items ≡ count

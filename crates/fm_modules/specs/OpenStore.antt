@@ -1,5 +1,5 @@
 -- A store that is open with its modules, and why one is not.
-use Rattle.std.specs.Prelude.{◌≡◌, ℕ, List, slice_get, Some}
+use Rattle.std.specs.Prelude.{◌≡◌, ℕ, ◌≤◌, List, length, slice_get, Some}
 use Rattle.fm_outer.specs.declared.disk.Disk.{Ghosts}
 use Rattle.fm_core.specs.Book.{ModuleState}
 use Rattle.fm_logs.specs.Contents.{Contents, AreTold}
@@ -30,12 +30,13 @@ pub record OpensStore {D : Type 0} (g : Ghosts D) (c : Contents) (open_store : O
   pub conf_is : slice_get adopts.read.confs
       (force_along adopts.read.checkpoint.conf (from_base adopts.read)) ≡ Some open_store.conf
 
--- what is in memory, whatever the disks tell: modules as they were made, adopted by a store that
--- was open, and its configuration in force
+-- what is in memory, whatever the disks tell: modules as they were made, eight at most, adopted by
+-- a store that was open, and its configuration in force
 pub record IsOpenStore {D : Type 0} (open_store : OpenStore D) : Type 0 where
   pub opened : OpenedOf D
   pub kept : List DiagnoserOf
   pub modules : AreModulesOf opened.confs (made_modules diagnosers kept)
+  pub few : length kept ≤ 8
   pub adopted : IsAdopted diagnosers opened kept open_store.store open_store.hands.items
   pub conf_is : slice_get opened.confs
       (force_along opened.checkpoint.conf opened.entries) ≡ Some open_store.conf

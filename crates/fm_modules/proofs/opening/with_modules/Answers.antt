@@ -4,6 +4,7 @@ use Rattle.fm_saved.specs.declared.conf.Conf.{Conf}
 use Rattle.fm_store.specs.StoreOf.{made_modules}
 use Rattle.fm_modules.specs.Modules.{AreModulesOf, ModulesCause, diagnosers}
 use Rattle.fm_modules.specs.OpenStore.{fault_of_modules}
+use Rattle.fm_modules.proofs.FirstModules.{few_modules}
 use Rattle.fm_modules.proofs.StoreModules.{adopting_refused, closed_for_texts, opens_store}
 use Rattle.fm_modules.proofs.opening.with_modules.Goals as goal
 
@@ -26,6 +27,10 @@ returns-in-Ok-adopt-clause-is g c = record {
   modules = subst (λ (l : List Conf). AreModulesOf l
       (made_modules diagnosers c.in-Ok-make_modules.kept.items)) c.confs.ensures.confs
       c.in-Ok-make_modules.ensures.are;
+  few = few_modules c.args.opened.confs c.in-Ok-make_modules.kept.items c.confs.ensures.kept
+      (subst (λ (l : List Conf). AreModulesOf l
+      (made_modules diagnosers c.in-Ok-make_modules.kept.items)) c.confs.ensures.confs
+      c.in-Ok-make_modules.ensures.are);
   adopted = c.in-Ok-adopt.ensures.is;
   conf_is = c.conf.ensures ∙ ap Some (sym c.in-Ok.ensures);
 }
