@@ -1,0 +1,20 @@
+//! The laws of `esc`: what it puts is a function of what its sources tell.
+//!
+//! **Model.** `IsCompiled` of fm_esc says of sources before and after and of a text that the
+//! sources gave rule files and a topology, and that the text is that of the graphs which the rule
+//! files come to over it. It is a relation, as `AreGraphs` is between rule files and what they come
+//! to.
+//!
+//! **Laws.** Rule files with the same texts come to one list over a topology
+//! ([`rule_files_come_to_one_list`]). Of sources that tell their bytes one text is put
+//! ([`told_sources_compile_to_one_text`]), by whatever reads they are read and wherever in memory
+//! what is read of them lies.
+//!
+//! **Proof.** A source that tells its bytes gives all of them, since a rule file and a topology are
+//! read to their end. A text is one rule file but for memory (fm_sources_laws), and a rule file has
+//! one graph over a topology (ev_inst_laws). Each law is the contract of a function without a body.
+#![tactic(auto)]
+
+mod laws;
+
+pub use laws::{rule_files_come_to_one_list, told_sources_compile_to_one_text};
