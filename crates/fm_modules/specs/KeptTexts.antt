@@ -10,6 +10,7 @@ use Rattle.fm_sources.specs.Rules.{IsRuleFile, IsRulesFault}
 use Rattle.fm_sources.specs.declared.faults.RulesKind.{RulesKind}
 use Rattle.ev_check.specs.CheckedFile.{CheckedFile}
 use Rattle.ev_file.specs.declared.made.Made.{Made}
+use Rattle.ev_graph.specs.Lawful.{IsGraph}
 use Rattle.ev_inst.specs.Instances.{IsInstFault, IsMadeOf}
 use Rattle.ev_inst.specs.declared.fault.InstFault.TheVariants.{Nodes, Links}
 use Rattle.dx_rules.specs.Rulebooks.{ruled_of}
@@ -29,13 +30,14 @@ pub record IsTopologyText (text : List ℕ) (topo : Topology) : Type 0 where
   pub clean : IsClean text
   pub topology_is : topo ≡ topology_of text
 
--- a checked rule file makes this configuration of a module over the topology: its graph, no link of
--- which a payload breaks
+-- a checked rule file makes this configuration of a module over the topology: its graph, which is
+-- one, and no link of which a payload breaks
 pub record MakesConfiguration (checked : CheckedFile) (topo : Topology) (x : Configuration)
     : Type 0 where
   pub made : Made
   pub is_made : IsMadeOf checked topo made
   pub graph_is : x.graph ≡ made.graph
+  pub is_graph : IsGraph x.graph
   pub guarding_is : x.guarding ≡ unguarded
 
 -- the text is a rule file, which makes this configuration of a module

@@ -30,6 +30,8 @@ fn make_ruled(alloc: Global, checked: &Checked, topo: &Topo) -> Result<Ruled, In
     ensures refused { IfErr result (IsInstFault checked.now topo.now) }
 {
     let made = instantiate(alloc, checked, topo)?;
+    // for the proof alone: that it is a graph
+    let _nodes = made.graph.nodes();
     Ok(Ruled { graph: made.graph })
 }
 
