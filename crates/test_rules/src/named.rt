@@ -2,6 +2,8 @@
 use crate::answers::{checked, says, says_behind};
 use ev_check::{Checked, DeclKind};
 use ev_tree::Count;
+use std::process::Abort;
+use std::test::Fail;
 
 /// Two faults of a processor and their reports.
 const CPU: &str = "event fault.cpu.cache@chassis/cpu, FITrate=200;
@@ -53,50 +55,38 @@ prop fault.mem.dimm@chassis/dimm (0)-> ereport.mem.ue@chassis/dimm, ereport.mem.
 ";
 
 #[test]
-fn rule_files_have_no_fault(rt: HostRuntime) {
-    let alloc = rt.alloc();
-    says(&rt, alloc, CPU, "ok");
-    says(&rt, alloc, CPU_ALL, "ok");
-    says(&rt, alloc, FAN, "ok");
-    says(&rt, alloc, CORRECTED, "ok");
-    says(&rt, alloc, MEMORY, "ok");
-    let slow = "prop fault.fan.dead@chassis -> error.fan.slow@chassis;";
-    says_behind(&rt, alloc, FAN, slow, "ok");
-    let warm = "prop error.fan.hot@chassis (0)-> ereport.fan.warm@chassis;";
-    says_behind(&rt, alloc, FAN, warm, "ok");
+fn rule_files_have_no_fault(rt: HostRuntime) -> Result<(), Fail> {
+    let texts = [CPU, CPU_ALL, FAN, CORRECTED, MEMORY];
+    says(&rt, rt.alloc(), &texts, "ok|ok|ok|ok|ok|")
 }
 
 #[test]
-fn rule_files_with_iterators_have_no_fault(rt: HostRuntime) {
-    let alloc = rt.alloc();
-    let events = "event fault.chassis.hot@chassis; event ereport.cpu.temp@chassis/cpu; \
-        prop fault.chassis.hot@chassis ";
-    says_behind(
-        &rt,
-        alloc,
-        events,
-        "(1)-> ereport.cpu.temp@chassis/cpu[c];",
-        "ok",
-    );
-    says_behind(
-        &rt,
-        alloc,
-        events,
-        "(1)-> ereport.cpu.temp@chassis/cpu<c>;",
-        "ok",
-    );
-    says_behind(
-        &rt,
-        alloc,
-        events,
-        "(4)-> ereport.cpu.temp@chassis/cpu<c>;",
-        "ok",
-    );
+fn one_propagation_more_has_no_fault(rt: HostRuntime) -> Result<(), Fail> {
+    let props = [
+        "prop fault.fan.dead@chassis -> error.fan.slow@chassis;",
+        "prop error.fan.hot@chassis (0)-> ereport.fan.warm@chassis;",
+    ];
+    says_behind(&rt, rt.alloc(), FAN, &props, "ok|ok|")
 }
 
-/// What the event of that number is.
-fn kind_at(file: &Checked, number: usize) -> Option<DeclKind> {
-    file.events().get(number).map(|event| event.kind)
+#[test]
+fn rule_files_with_iterators_have_no_fault(rt: HostRuntime) -> Result<(), Fail> {
+    let events = "event fault.chassis.hot@chassis; event ereport.cpu.temp@chassis/cpu; \
+        prop fault.chassis.hot@chassis ";
+    let arrows = [
+        "(1)-> ereport.cpu.temp@chassis/cpu[c];",
+        "(1)-> ereport.cpu.temp@chassis/cpu<c>;",
+        "(4)-> ereport.cpu.temp@chassis/cpu<c>;",
+    ];
+    says_behind(&rt, rt.alloc(), events, &arrows, "ok|ok|ok|")
+}
+
+/// Asserts what the event of that number is.
+fn has_event(rt: &impl Abort, file: &Checked, number: usize, want: DeclKind) {
+    match file.events().get(number) {
+        Some(event) => assert!(rt; event.kind == want),
+        None => panic!(rt; "no event"),
+    }
 }
 
 /// N, T and the trip of the engine of that number.
@@ -105,60 +95,56 @@ fn engine_at(file: &Checked, number: usize) -> Option<(u32, u64, u32)> {
     Some((engine.n, engine.t, engine.trip))
 }
 
-/// N and K of the propagation of that number.
-fn counts_at(file: &Checked, number: usize) -> Option<(Count, Count)> {
-    let prop = file.props().get(number)?;
-    Some((prop.n, prop.k))
+/// Asserts N and K of the propagation of that number.
+fn has_counts(rt: &impl Abort, file: &Checked, number: usize, n: Count, k: Count) {
+    match file.props().get(number) {
+        Some(prop) => assert!(rt; prop.n == n && prop.k == k),
+        None => panic!(rt; "no propagation"),
+    }
+}
+
+/// A fault whose attributes are not given, a defect whose are, an error, a report and an upset.
+const FIVE_KINDS: &str = "event fault.a@c; event defect.b@c, retire=0, FITrate=7; event error.d@c; \
+    event ereport.e@c; event upset.f@c; prop fault.a@c -> ereport.e@c;";
+
+#[test]
+fn a_checked_file_has_its_defaults(rt: HostRuntime) -> Result<(), Fail> {
+    let file = checked(rt.alloc(), FIVE_KINDS)?.copy(rt.alloc())?;
+    let retire = true;
+    has_event(&rt, &file, 0, DeclKind::Fault { fit: 1, retire });
+    let within = 5_000_000_000;
+    has_event(&rt, &file, 3, DeclKind::Report { within });
+    has_event(&rt, &file, 4, DeclKind::Upset { engine: None });
+    has_counts(&rt, &file, 0, Count::All, Count::Number(1));
+    Ok(())
 }
 
 #[test]
-fn a_checked_file_has_its_defaults(rt: HostRuntime) {
-    let alloc = rt.alloc();
-    let text = "event fault.a@c; event defect.b@c, retire=0, FITrate=7; event error.d@c; \
-        event ereport.e@c; event upset.f@c; prop fault.a@c -> ereport.e@c;";
-    let Ok(file) = checked(&rt, alloc, text).copy(alloc) else {
-        panic!(rt; "memory ran out")
-    };
-    let fault = DeclKind::Fault {
-        fit: 1,
-        retire: true,
-    };
-    assert_eq!(rt; kind_at(&file, 0), Some(fault));
-    let defect = DeclKind::Defect {
-        fit: 7,
-        retire: false,
-    };
-    assert_eq!(rt; kind_at(&file, 1), Some(defect));
-    assert_eq!(rt; kind_at(&file, 2), Some(DeclKind::Inner));
-    let report = DeclKind::Report {
-        within: 5_000_000_000,
-    };
-    assert_eq!(rt; kind_at(&file, 3), Some(report));
-    let upset = DeclKind::Upset { engine: None };
-    assert_eq!(rt; kind_at(&file, 4), Some(upset));
-    assert_eq!(rt; kind_at(&file, 5), None);
-    assert_eq!(rt; counts_at(&file, 0), Some((Count::All, Count::Number(1))));
+fn a_checked_file_has_its_attributes(rt: HostRuntime) -> Result<(), Fail> {
+    let file = checked(rt.alloc(), FIVE_KINDS)?;
+    let retire = false;
+    has_event(&rt, &file, 1, DeclKind::Defect { fit: 7, retire });
+    has_event(&rt, &file, 2, DeclKind::Inner);
+    assert!(rt; file.events().len() == 5);
+    Ok(())
 }
 
 #[test]
-fn a_checked_file_has_its_numbers(rt: HostRuntime) {
-    let alloc = rt.alloc();
-    let file = checked(&rt, alloc, MEMORY);
-    let upset = DeclKind::Upset { engine: Some(0) };
-    assert_eq!(rt; kind_at(&file, 0), Some(upset));
-    let fault = DeclKind::Fault {
-        fit: 4000,
-        retire: true,
-    };
-    assert_eq!(rt; kind_at(&file, 1), Some(fault));
-    let report = DeclKind::Report {
-        within: 1_000_000_000,
-    };
-    assert_eq!(rt; kind_at(&file, 4), Some(report));
-    assert_eq!(rt; engine_at(&file, 0), Some((2, 3_600_000_000_000, 3)));
-    assert_eq!(rt; engine_at(&file, 1), None);
-    assert_eq!(rt;
-        counts_at(&file, 1),
-        Some((Count::Number(0), Count::Number(1)))
-    );
+fn a_checked_file_has_its_numbers(rt: HostRuntime) -> Result<(), Fail> {
+    let file = checked(rt.alloc(), MEMORY)?;
+    has_event(&rt, &file, 0, DeclKind::Upset { engine: Some(0) });
+    let retire = true;
+    has_event(&rt, &file, 1, DeclKind::Fault { fit: 4000, retire });
+    let within = 1_000_000_000;
+    has_event(&rt, &file, 4, DeclKind::Report { within });
+    has_counts(&rt, &file, 1, Count::Number(0), Count::Number(1));
+    Ok(())
+}
+
+#[test]
+fn a_checked_file_has_its_engines(rt: HostRuntime) -> Result<(), Fail> {
+    let file = checked(rt.alloc(), MEMORY)?;
+    assert!(rt; engine_at(&file, 0) == Some((2, 3_600_000_000_000, 3)));
+    assert!(rt; engine_at(&file, 1).is_none());
+    Ok(())
 }

@@ -4,6 +4,7 @@ use fm_sources::{RulesFault, RulesKind, SourceFault, Sources, read_rules, read_s
 use fm_topo::TopoKind;
 use std::alloc::{AllocError, Global};
 use std::process::Abort;
+use std::test::Fail;
 
 /// A rule file without a fault.
 const FAN: &str = "event fault.fan.dead@chassis; event ereport.fan.stop@chassis;
@@ -27,35 +28,31 @@ fn failing(alloc: Global, text: &str) -> Result<MemSource, AllocError> {
     Ok(MemSource::new(text.as_bytes().to_vec(alloc)?, 7, fails))
 }
 
-/// What is read of two rule files and a topology.
-fn read_two(
-    alloc: Global,
-    first: MemSource,
-    second: MemSource,
-    topo: &mut MemSource,
-) -> Result<Result<Sources, SourceFault>, AllocError> {
-    let mut rules = Vec::new(alloc);
-    rules.push(first)?;
-    rules.push(second)?;
-    if rules.len() > 8 {
-        return Err(AllocError);
+/// What is told of what was read: how many files and paths, or what was refused.
+fn put_told(got: &Result<Sources, SourceFault>, line: &mut String) -> Result<(), AllocError> {
+    match got {
+        Ok(sources) => put_read(sources, line),
+        Err(SourceFault::Read) => line.push_str("fault"),
+        Err(SourceFault::Rules { file, place, kind }) => {
+            let word = word_of(kind);
+            write!(line, "{word} {file} {place}")
+        }
+        Err(SourceFault::Topology { line: number, kind }) => {
+            let word = if *kind == TopoKind::Parent {
+                "parent"
+            } else {
+                "topology"
+            };
+            write!(line, "{word} {number}")
+        }
+        Err(SourceFault::NoMemory) => Err(AllocError),
     }
-    Ok(read_sources(alloc, rules.as_mut_slice(), topo))
 }
 
-/// How many files and paths were read, or what was refused: its kind, file or line, and place.
-fn told(got: &Result<Sources, SourceFault>) -> (&'static str, u32, u32) {
-    match got {
-        Ok(sources) if sources.files.len() == 2 && sources.topo.len() == 3 => ("read", 2, 3),
-        Ok(_) => ("other", 0, 0),
-        Err(SourceFault::Read) => ("fault", 0, 0),
-        Err(SourceFault::Rules { file, place, kind }) => (word_of(kind), *file, *place),
-        Err(SourceFault::Topology { line, kind }) => match kind {
-            TopoKind::Parent => ("parent", *line, 0),
-            _ => ("topology", *line, 0),
-        },
-        Err(SourceFault::NoMemory) => ("memory", 0, 0),
-    }
+fn put_read(sources: &Sources, line: &mut String) -> Result<(), AllocError> {
+    let files = sources.files.len();
+    let paths = sources.topo.len();
+    write!(line, "read {files} {paths}")
 }
 
 fn word_of(kind: &RulesKind) -> &'static str {
@@ -67,102 +64,89 @@ fn word_of(kind: &RulesKind) -> &'static str {
     }
 }
 
-/// What is told of two rule files and a topology, and how many bytes of the topology are left.
+/// What is told of two rule files and a topology.
 fn answer(
     alloc: Global,
-    first: &str,
-    second: &str,
+    rules: &mut [MemSource; 2],
+    topo: &mut MemSource,
+) -> Result<String, AllocError> {
+    let got = read_sources(alloc, rules, topo);
+    let mut line = String::new(alloc);
+    put_told(&got, &mut line)?;
+    Ok(line)
+}
+
+/// The same, and how many bytes of the topology are left.
+fn answer_and_left(
+    alloc: Global,
+    first: MemSource,
+    second: MemSource,
     topo: &str,
-) -> Result<((&'static str, u32, u32), usize), AllocError> {
+) -> Result<String, AllocError> {
     let mut topo = source_of(alloc, topo)?;
-    let got = read_two(
-        alloc,
-        source_of(alloc, first)?,
-        source_of(alloc, second)?,
-        &mut topo,
-    )?;
-    Ok((told(&got), topo.rest().len()))
+    let mut line = answer(alloc, &mut [first, second], &mut topo)?;
+    let left = topo.rest().len();
+    write!(line, ", {left} left")?;
+    Ok(line)
 }
 
-fn expect(
+/// Asserts it of these texts.
+fn tells(
     rt: &impl Abort,
-    got: Result<((&'static str, u32, u32), usize), AllocError>,
-    word: &str,
-    numbers: (u32, u32),
-    left: usize,
-) {
-    let Ok(((said, first, second), rest)) = got else {
-        panic!(rt; "memory ran out")
-    };
-    assert_eq!(rt; said, word);
-    assert_eq!(rt; (first, second), numbers);
-    assert_eq!(rt; rest, left);
+    alloc: Global,
+    rules: [&str; 2],
+    topo: &str,
+    want: &str,
+) -> Result<(), Fail> {
+    let first = source_of(alloc, rules[0])?;
+    let second = source_of(alloc, rules[1])?;
+    let line = answer_and_left(alloc, first, second, topo)?;
+    assert_eq!(rt; line.as_str(), want);
+    Ok(())
 }
 
 #[test]
-fn reads_rule_files_and_a_topology(rt: HostRuntime) {
-    expect(
-        &rt,
-        answer(rt.alloc(), FAN, FAN, CHASSIS),
-        "read",
-        (2, 3),
-        0,
-    );
+fn reads_rule_files_and_a_topology(rt: HostRuntime) -> Result<(), Fail> {
+    tells(&rt, rt.alloc(), [FAN, FAN], CHASSIS, "read 2 3, 0 left")
 }
 
 #[test]
-fn refuses_the_second_rule_file_and_reads_no_topology(rt: HostRuntime) {
-    let got = answer(rt.alloc(), FAN, "event fault.x@chassis", CHASSIS);
-    expect(&rt, got, "grammar", (1, 21), 60);
+fn refuses_the_second_rule_file_and_reads_no_topology(rt: HostRuntime) -> Result<(), Fail> {
+    let rules = [FAN, "event fault.x@chassis"];
+    tells(&rt, rt.alloc(), rules, CHASSIS, "grammar 1 21, 60 left")
 }
 
 #[test]
-fn refuses_the_first_rule_file_by_a_token(rt: HostRuntime) {
-    let got = answer(rt.alloc(), "event ~", "event fault.x@chassis", CHASSIS);
-    expect(&rt, got, "token", (0, 6), 60);
+fn refuses_the_first_rule_file_by_a_token(rt: HostRuntime) -> Result<(), Fail> {
+    let rules = ["event ~", "event fault.x@chassis"];
+    tells(&rt, rt.alloc(), rules, CHASSIS, "token 0 6, 60 left")
 }
 
 #[test]
-fn refuses_a_rule_file_by_a_check(rt: HostRuntime) {
-    let got = answer(rt.alloc(), " event list.a.x@chassis;", FAN, CHASSIS);
-    expect(&rt, got, "check", (0, 1), 60);
+fn refuses_a_rule_file_by_a_check(rt: HostRuntime) -> Result<(), Fail> {
+    let rules = [" event list.a.x@chassis;", FAN];
+    tells(&rt, rt.alloc(), rules, CHASSIS, "check 0 1, 60 left")
 }
 
 #[test]
-fn refuses_a_topology_by_its_line(rt: HostRuntime) {
-    let got = answer(rt.alloc(), FAN, FAN, "hc:///chassis=0/cpu=0");
-    expect(&rt, got, "parent", (1, 0), 0);
-}
-
-/// What is told where the second rule file's source fails.
-fn answer_of_failing(alloc: Global) -> Result<((&'static str, u32, u32), usize), AllocError> {
-    let mut topo = source_of(alloc, CHASSIS)?;
-    let got = read_two(
-        alloc,
-        source_of(alloc, FAN)?,
-        failing(alloc, FAN)?,
-        &mut topo,
-    )?;
-    Ok((told(&got), topo.rest().len()))
+fn refuses_a_topology_by_its_line(rt: HostRuntime) -> Result<(), Fail> {
+    let topo = "hc:///chassis=0/cpu=0";
+    tells(&rt, rt.alloc(), [FAN, FAN], topo, "parent 1, 0 left")
 }
 
 #[test]
-fn answers_a_source_that_fails(rt: HostRuntime) {
-    expect(&rt, answer_of_failing(rt.alloc()), "fault", (0, 0), 60);
-}
-
-/// So many blanks.
-fn blanks(alloc: Global, count: usize) -> Result<Vec<u8>, AllocError> {
-    let mut text = Vec::new(alloc);
-    for _ in 0..count {
-        text.push(b' ')?;
-    }
-    Ok(text)
+fn answers_a_source_that_fails(rt: HostRuntime) -> Result<(), Fail> {
+    let first = source_of(rt.alloc(), FAN)?;
+    let second = failing(rt.alloc(), FAN)?;
+    let line = answer_and_left(rt.alloc(), first, second, CHASSIS)?;
+    assert!(rt; line.as_str() == "fault, 60 left");
+    Ok(())
 }
 
 /// The place at which so many blanks are too long for a rule file, if they are.
-fn too_long_at(alloc: Global, count: usize) -> Result<Option<u32>, AllocError> {
-    match read_rules(alloc, blanks(alloc, count)?.as_slice()) {
+fn too_long_at(alloc: Global, count: usize) -> Result<Option<u32>, Fail> {
+    let blanks = vec![in alloc; b' '; count]?;
+    match read_rules(alloc, blanks.as_slice()) {
         Ok(_) => Ok(None),
         Err(
             RulesFault::At {
@@ -170,12 +154,13 @@ fn too_long_at(alloc: Global, count: usize) -> Result<Option<u32>, AllocError> {
                 kind: RulesKind::Length,
             },
         ) => Ok(Some(place)),
-        Err(_) => Err(AllocError),
+        Err(_) => Err(Fail::new("another fault")),
     }
 }
 
 #[test]
-fn a_rule_file_has_a_greatest_length(rt: HostRuntime) {
-    assert!(rt; too_long_at(rt.alloc(), 1_048_576).is_ok_and(|place| place.is_none()));
-    assert!(rt; too_long_at(rt.alloc(), 1_048_577).is_ok_and(|place| place == Some(1_048_576)));
+fn a_rule_file_has_a_greatest_length(rt: HostRuntime) -> Result<(), Fail> {
+    assert!(rt; too_long_at(rt.alloc(), 1_048_576)?.is_none());
+    assert!(rt; too_long_at(rt.alloc(), 1_048_577)? == Some(1_048_576));
+    Ok(())
 }
