@@ -9,7 +9,7 @@ use fm_name::Fmri;
 
 /// What the calls of an actuator say, without the law of the order of its paths. That law of a
 /// boxed object can't be named where the box meets a trait.
-pub(crate) trait ActCalls {
+pub trait ActCalls {
     /// The paths that it holds, in path order and each once, where it tells them.
     ghost held: { Self → Option (List (List ℕ)) };
 

@@ -25,9 +25,10 @@ mod mem_actuator;
 mod reconciling;
 mod settling;
 
+pub use act_calls::ActCalls;
 pub use actuator::Actuator;
 pub use faults::{ActFault, ActRefused};
 pub use fm_bytes::NoMemory;
 pub use kind::ActKind;
 pub use mem_actuator::MemActuator;
-pub use reconciling::reconcile;
+pub use reconciling::{reconcile, settle_actuators};

@@ -22,9 +22,10 @@ fn act_refusal(at: usize) -> ActRefused
     }
 }
 
-/// Brings each actuator to hold what is wanted of its kind, up to want of memory.
+/// What `reconcile` does, to actuators of one type: a function over boxed actuators of another
+/// crate that called `reconcile` would be refused by the gate, as one that may make such a box.
 #[tactic(auto, using(crate::proofs::Walked::gone_none))]
-fn settle_actuators<A: ActCalls>(
+pub fn settle_actuators<A: ActCalls>(
     alloc: Global,
     acts: &mut [A],
     wanted: &[Fmri],
