@@ -242,7 +242,7 @@ module _ {D M : Type 0} (g : Ghosts D)
   StandsAt store c = (stood : BookAt c) × StoreStandsFor g stood.fresh store stood.book
 
   -- what became of the store, in the words of its disks
-  grew_of : (disks disks_now : Disks D) (store now : StoreOf D M)
+  pub grew_of : (disks disks_now : Disks D) (store now : StoreOf D M)
       → ((name : DiskName) → OnlyRead g (disk_named name disks) (store_disk name store))
       → ((c : Contents) → AreTold g disks c → StandsAt store c) → AreDisksOf now disks_now
       → (es : List Entry) (last : Option (Stop × Entry)) → Recorded g store now es last
@@ -386,7 +386,7 @@ read_back g disks disks_now read name = (read name).same_disk
 -- ---- a store that was not opened
 
 -- no fault of a store is one of the input or of the sink
-of_no_stream : (fault : StoreFault) → (of_store fault ≡ Read → ⊥) × (of_store fault ≡ Write → ⊥)
+pub of_no_stream : (fault : StoreFault) → (of_store fault ≡ Read → ⊥) × (of_store fault ≡ Write → ⊥)
 of_no_stream store.Disk = (λ e. cc, λ e. cc)
 of_no_stream (store.Full kind) = (λ e. cc, λ e. cc)
 of_no_stream (store.Closed disk failures) = (λ e. cc, λ e. cc)
@@ -395,6 +395,24 @@ of_no_stream store.Exists = (λ e. cc, λ e. cc)
 of_no_stream store.NoMemory = (λ e. cc, λ e. cc)
 
 module _ {D : Type 0} (g : Ghosts D) where
+  -- why the opening stopped, and how the counts of the disks go with that
+  pub opening_stops : (disks disks_now : Disks D) (fault : StoreFault)
+      → OpenStoreRefused g disks disks_now fault
+      → OpeningStops (disks_at g disks) (of_store fault)
+  opening_stops disks disks_now store.Disk refused = tt
+  opening_stops disks disks_now store.NoMemory refused = tt
+  opening_stops disks disks_now (store.Damaged disk place) refused =
+      λ told tells. refused told (told_all g disks told tells)
+  opening_stops disks disks_now _ refused = absurd refused
+
+  pub opening_account : (T : Type 0) (disks disks_now : Disks D) (fault : StoreFault)
+      → OpenStoreRefused g disks disks_now fault
+      → DisksAccount {T = T} (disks_at g disks) (disks_at g disks_now) (Err (of_store fault))
+  opening_account T disks disks_now store.Disk why = rose_any g disks disks_now why
+  opening_account T disks disks_now store.NoMemory why = tt
+  opening_account T disks disks_now (store.Damaged disk place) why = tt
+  opening_account T disks disks_now _ why = absurd why
+
   -- the whole command, where its store was not opened
   pub not_opened : (disks disks_now : Disks D) (input : SourceAt) (out : SinkAt)
       (fault : StoreFault) → OpenStoreRefused g disks disks_now fault
@@ -406,24 +424,9 @@ module _ {D : Type 0} (g : Ghosts D) where
       consumed = refl;
       put = refl;
       untouched = all_only_read g disks disks_now read;
-      why = why fault refused;
+      why = opening_stops disks disks_now fault refused;
     });
     counts_input = (omega arith, λ e. absurd ((of_no_stream fault).0 e));
     counts_out = (omega arith, λ e. absurd ((of_no_stream fault).1 e));
-    counts_disks = account fault refused;
+    counts_disks = opening_account (Unit {0}) disks disks_now fault refused;
   }
-    where
-      why : (fault : StoreFault) → OpenStoreRefused g disks disks_now fault
-          → OpeningStops (disks_at g disks) (of_store fault)
-      why store.Disk refused = tt
-      why store.NoMemory refused = tt
-      why (store.Damaged disk place) refused =
-          λ told tells. refused told (told_all g disks told tells)
-      why _ refused = absurd refused
-
-      account : (fault : StoreFault) → OpenStoreRefused g disks disks_now fault
-          → DisksAccount (disks_at g disks) (disks_at g disks_now) (Err (of_store fault))
-      account store.Disk refused = rose_any g disks disks_now refused
-      account store.NoMemory refused = tt
-      account (store.Damaged disk place) refused = tt
-      account _ refused = absurd refused

@@ -16,7 +16,7 @@ use Rattle.fm_top.specs.Running.{Taken, RanUntil}
 use Rattle.fm_top.specs.declared.status.ToolStatus.{ToolStatus}
 use Rattle.fm_top.specs.declared.stops.Stop.{Stop}
 use Rattle.fm_top.specs.declared.stops.Stop.TheVariants.{Damaged, Read, Write, Disk, Memory}
-use Rattle.fm_top.specs.declared.stops.Stop.TheVariants.{Full}
+use Rattle.fm_top.specs.declared.stops.Stop.TheVariants.{Full, Act}
 use Rattle.fm_top.specs.declared.words.Command.{Command}
 use Rattle.fm_top.specs.declared.words.Command.TheVariants.{Accept, Replay}
 use Rattle.fm_top.proofs.Headlines.{headline_accept}
@@ -36,7 +36,7 @@ both (Ok done) P Q all until = all
 both (Err e) P Q all until = until
 
 -- a run over the input ends by a fault or at a limit
-run_ends : (taken : Taken) (puts : List ℕ → Type 0) (is_told : Bool) (next : ℕ)
+pub run_ends : (taken : Taken) (puts : List ℕ → Type 0) (is_told : Bool) (next : ℕ)
     (consumes : List ℕ → Type 0)
     (at_end : Type 0) (stop : Stop)
     → RanUntil taken puts is_told next consumes at_end stop → IsOutsideFault stop ⊎ IsLimit stop
@@ -89,6 +89,11 @@ accept_caused before after (Ok done) did = tt
 accept_caused before after (Err Read) did = (0, (_, _, refl, refl, did.counts_input.1 refl))
 accept_caused before after (Err Write) did = did.counts_out.1 refl
 accept_caused before after (Err Disk) did = did.counts_disks
+accept_caused before after (Err (Act index)) did =
+    elim did.went [
+      | inl refused ↦ absurd refused.why
+      | inr until ↦ elim until.ran [ inl ran ↦ absurd ran.why | inr ran ↦ absurd ran.stops ]
+    ]
 accept_caused before after (Err _) did = tt
 
 -- what a run over the input leaves alone
@@ -147,12 +152,18 @@ replay_goes before after puts consumes at_end (Err Write) (inr cut) = inl tt
 replay_goes before after puts consumes at_end (Err Memory) (inr cut) = inl tt
 replay_goes before after puts consumes at_end (Err _) (inr cut) = absurd cut.why
 
--- `replay` is stopped by no disk
+-- `replay` is stopped by no disk, and by no actuator
 no_disk : (puts consumes : List ℕ → Type 0) (at_end : Type 0)
     → ReplayStops puts consumes at_end Disk → ⊥
 no_disk puts consumes at_end (inl (inl between)) = between.why
 no_disk puts consumes at_end (inl (inr (at_line))) = at_line.stops.1.2
 no_disk puts consumes at_end (inr cut) = cut.why
+
+no_act : (puts consumes : List ℕ → Type 0) (at_end : Type 0) (index : ℕ)
+    → ReplayStops puts consumes at_end (Act index) → ⊥
+no_act puts consumes at_end index (inl (inl between)) = between.why
+no_act puts consumes at_end index (inl (inr (at_line))) = at_line.stops
+no_act puts consumes at_end index (inr cut) = cut.why
 
 replay_caused : (before after : Outside) (puts consumes : List ℕ → Type 0) (at_end : Type 0)
     (ran : Result (Unit {0}) Stop)
@@ -166,6 +177,8 @@ replay_caused before after puts consumes at_end (Err Read) until input out =
 replay_caused before after puts consumes at_end (Err Write) until input out = out.1 refl
 replay_caused before after puts consumes at_end (Err Disk) until input out =
     absurd (no_disk puts consumes at_end until)
+replay_caused before after puts consumes at_end (Err (Act index)) until input out =
+    absurd (no_act puts consumes at_end index until)
 replay_caused before after puts consumes at_end (Err _) until input out = tt
 
 replay_quiet : (before after : Outside) (ran : Result (Unit {0}) Stop) → Rests before after

@@ -15,7 +15,7 @@ use Rattle.fm_top.specs.Ending.{EndsAs}
 use Rattle.fm_top.specs.Esc.{EscEnds, EscInputEnds, TextEnds}
 use Rattle.fm_top.specs.Esc.{after_listing}
 use Rattle.fm_top.specs.Headline.{AreFromBefore}
-use Rattle.fm_top.specs.Order.{Goes, at_graphs, looks, world_of}
+use Rattle.fm_top.specs.Order.{Goes, Look, at_rules, at_topology, at_graphs, looks, world_of}
 use Rattle.fm_top.specs.Outside.{Outside, SinkAt, standing, source_at, given_of}
 use Rattle.fm_top.specs.Outside.{disk_counts, counts_of}
 use Rattle.fm_top.specs.Refusing.{PutCut}
@@ -44,17 +44,19 @@ text_goes before after form text (Err Write) is cut = inl tt
 text_goes before after form text (Err Memory) is cut = inl tt
 text_goes before after form text (Err _) is cut = absurd cut
 
-cause_goes : (before after : Outside) (form : GraphForm) (fault : CompileFault)
+-- sources that come to nothing, of a command that looks at them first
+pub cause_goes : (before after : Outside) (more : List Look) (fault : CompileFault)
     → CompileCause standing (given_of before) (given_of after) fault
-    → Goes (world_of before after) (looks (Esc form)) (Err (of_compiling fault))
-cause_goes before after form (compiling.Sources fault) cause =
-    refused_goes (world_of before after) (at_graphs ∷ []) fault cause
-cause_goes before after form (compiling.Graph file limit) (got, read, past) =
+    → Goes (world_of before after) (at_rules ∷ at_topology ∷ at_graphs ∷ more)
+    (Err (of_compiling fault))
+cause_goes before after more (compiling.Sources fault) cause =
+    refused_goes (world_of before after) (at_graphs ∷ more) fault cause
+cause_goes before after more (compiling.Graph file limit) (got, read, past) =
     inr (inl (inr (
       (got.files.items, read.0),
       inr ((got.topo_text.items, got.topo, read.1), inl (file, limit, refl, (got, read, past))),
     )))
-cause_goes before after form compiling.NoMemory cause = inl tt
+cause_goes before after more compiling.NoMemory cause = inl tt
 
 esc_goes : (before after : Outside) (form : GraphForm) (ran : Result (Unit {0}) Stop)
     → EscEnds standing form (given_of before) (given_of after) before.out after.out ran
@@ -63,7 +65,7 @@ esc_goes before after form ran (inl (text, is, put)) =
     text_goes before after form text ran is put
 esc_goes before after form ran (inr (fault, cause, same, rest)) =
     subst (Goes (world_of before after) (looks (Esc form))) (sym same)
-    (cause_goes before after form fault cause)
+    (cause_goes before after [] fault cause)
 
 text_caused : (before after : Outside) (text : List ℕ) (ran : Result (Unit {0}) Stop)
     → TextEnds before.out after.out text ran → IfErr ran (IsCaused before after)
@@ -72,7 +74,7 @@ text_caused before after text (Err Write) cut = cut.0
 text_caused before after text (Err Memory) cut = tt
 text_caused before after text (Err _) cut = absurd cut
 
-cause_caused : (before after : Outside) (fault : CompileFault)
+pub cause_caused : (before after : Outside) (fault : CompileFault)
     → CompileCause standing (given_of before) (given_of after) fault
     → IsCaused before after (of_compiling fault)
 cause_caused before after (compiling.Sources fault) cause =
@@ -88,7 +90,7 @@ esc_caused before after form ran (inr (fault, cause, same, rest)) =
     subst (λ r. IfErr r (IsCaused before after)) (sym same)
     (cause_caused before after fault cause)
 
-ok_no_err : (done : Unit {0}) (stop : Stop) → Ok done ≡ Err stop → ⊥
+pub ok_no_err : (done : Unit {0}) (stop : Stop) → Ok done ≡ Err stop → ⊥
 ok_no_err done stop e = cc
 
 esc_quiet : (before after : Outside) (form : GraphForm) (ran : Result (Unit {0}) Stop)
@@ -138,7 +140,7 @@ module _ {S : Type 0} (g : Ghosts S) (olds news : List S) (old new : S) where
     text_is = is.text_is;
   }
 
-  cause_standing : (fault : CompileFault)
+  pub cause_standing : (fault : CompileFault)
       → CompileCause g (given olds old) (given news new) fault
       → CompileCause standing (given (map (source_at g) olds) (source_at g old))
       (given (map (source_at g) news) (source_at g new)) fault

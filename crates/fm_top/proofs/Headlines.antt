@@ -25,7 +25,7 @@ use Rattle.fm_top.specs.declared.words.Command.TheVariants.{Accept}
 use Rattle.fm_top.proofs.AnswerLists.{entries_append, entries_one, answers_append}
 
 -- all of these lines were answered whole
-whole_answered : (puts : List ℕ → Type 0) (next : ℕ) (lines : List Line)
+pub whole_answered : (puts : List ℕ → Type 0) (next : ℕ) (lines : List Line)
     → puts (answers true 1 next lines) → WereAnswered puts next lines
 whole_answered puts next lines put = record {
   whole = lines;
@@ -150,7 +150,7 @@ module _ (before after : Outside) (told : Contents) where
       }
   halted_at next read lines line _ tells consumed there stops = absurd stops
 
-  until_held : (stop : Stop) → Tells before.disks told
+  pub until_held : (stop : Stop) → Tells before.disks told
       → AcceptedUntil before.input after.input before.out after.out before.disks after.disks stop
       → Held before after told (Err stop)
   until_held stop tells until = by_run until.ran

@@ -140,7 +140,7 @@ init_caused before after namespace ran (Err fault) read went =
 
 -- ---- the counts of a command that is done
 
-rules_quiet : (olds news : List SourceAt) (files : List RuleFile)
+pub rules_quiet : (olds news : List SourceAt) (files : List RuleFile)
     → FilesGave standing olds news files → map failures_of news ≡ map failures_of olds
 rules_quiet [] [] [] gave = refl
 rules_quiet (old ∷ olds) (new ∷ news) (file ∷ files) (one, more) =

@@ -5,6 +5,8 @@ pub mod CountLines
 pub mod Cuts
 pub mod Doing
 pub mod Escs
+pub mod FmdDoing
+pub mod Fmds
 pub mod Feeding
 pub mod Halts
 pub mod Headlines

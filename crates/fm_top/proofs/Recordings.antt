@@ -97,6 +97,7 @@ module _ {D M : Type 0} (g : Ghosts D) where
     counts = counts_taken old new e n base takes;
     base_is = ap (λ (l : LogsOf D). l.base) takes.logs_are;
     entries_are = ap (λ (l : LogsOf D). l.entries) takes.logs_are;
+    cursors_are = ap (λ (l : LogsOf D). l.cursors) takes.logs_are;
     logs = takes.keeps;
     book = λ fresh k st. (on_book fresh k st (lawful_with k e st.lawful admitted)).stands;
   }
@@ -119,6 +120,7 @@ module _ {D M : Type 0} (g : Ghosts D) where
         counts = λ name. refl;
         base_is = refl;
         entries_are = sym (append-nil old.logs.entries);
+        cursors_are = refl;
         logs = (λ older records keep. keep, full);
         book = λ fresh k st. subst (StoreStandsFor g fresh old) (sym (with_none k)) st;
       })
@@ -136,6 +138,7 @@ module _ {D M : Type 0} (g : Ghosts D) where
         base_is = ap (λ (l : LogsOf D). l.base) closes.logs_are;
         entries_are = ap (λ (l : LogsOf D). l.entries) closes.logs_are
             ∙ sym (append-nil old.logs.entries);
+        cursors_are = ap (λ (l : LogsOf D). l.cursors) closes.logs_are;
         logs = tt;
         book = λ fresh k st.
             subst (λ x. EachLeft g new (ReadsLikeEither fresh x (store_accepted k e)))

@@ -92,7 +92,7 @@ pub record AcceptedUntil (input input_now : SourceAt) (out out_now : SinkAt)
 
 -- how the counts of the disks go with the end of a command: one that is done leaves them, and a
 -- fault of a disk comes only where one rose
-abbrev pub DisksAccount : DisksAt → DisksAt → Result (Unit {0}) Stop → Type 0
+abbrev pub DisksAccount : {T : Type 0} → DisksAt → DisksAt → Result T Stop → Type 0
 DisksAccount before after (Ok done) = disk_counts after ≡ disk_counts before
 DisksAccount before after (Err Disk) =
     (at : ℕ) × RoseAt (disk_counts before) (disk_counts after) at

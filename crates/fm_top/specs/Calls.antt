@@ -4,18 +4,20 @@ use Rattle.fm_outer.specs.Failures.{Rose}
 use Rattle.fm_top.specs.Accepting.{AcceptRan}
 use Rattle.fm_top.specs.Ending.{EndsAs}
 use Rattle.fm_top.specs.Esc.{EscEnds, EscInputEnds}
+use Rattle.fm_top.specs.Fmd.{FmdRan}
 use Rattle.fm_top.specs.Order.{Goes, looks, world_of}
 use Rattle.fm_top.specs.Headline.{Headline}
 use Rattle.fm_top.specs.Init.{InitRan}
 use Rattle.fm_top.specs.Outside.{Outside, SinkAt, source_counts, disk_counts, counts_of, RoseAt}
-use Rattle.fm_top.specs.Outside.{given_of, standing}
+use Rattle.fm_top.specs.Outside.{given_of, standing, act_counts}
 use Rattle.fm_top.specs.Replaying.{ReplayRan}
 use Rattle.fm_logs.specs.declared.disks.Disks.{Disks}
 use Rattle.fm_top.specs.declared.status.ToolStatus.{ToolStatus}
 use Rattle.fm_top.specs.declared.stops.Stop.{Stop}
-use Rattle.fm_top.specs.declared.stops.Stop.TheVariants.{Usage, Read, Write, Disk}
+use Rattle.fm_top.specs.declared.stops.Stop.TheVariants.{Usage, Read, Write, Disk, Act}
 use Rattle.fm_top.specs.declared.words.Command.{Command}
-use Rattle.fm_top.specs.declared.words.Command.TheVariants.{Accept, Replay, Init, Esc, EscInput}
+use Rattle.fm_top.specs.declared.words.Command.TheVariants.{Accept, Fmd, Replay, Init, Esc}
+use Rattle.fm_top.specs.declared.words.Command.TheVariants.{EscInput}
 
 -- EACH FAULT OF THE OUTSIDE, one line a fault: it comes only where a count of that kind rose
 abbrev pub IsCaused : Outside → Outside → Stop → Type 0
@@ -23,12 +25,14 @@ IsCaused before after Read = (at : ℕ) × RoseAt (source_counts before) (source
 IsCaused before after Write = Rose before.out.failures after.out.failures
 IsCaused before after Disk = (at : ℕ)
     × RoseAt (disk_counts before.disks) (disk_counts after.disks) at
+IsCaused before after (Act index) = RoseAt (act_counts before.acts) (act_counts after.acts) index
 IsCaused before after _ = Unit {0}
 
 -- WHAT EACH COMMAND DOES, one line a command
 abbrev pub Did : Command → Outside → Outside → Result (Unit {0}) Stop → Type 0
 Did Accept before after ran =
     AcceptRan before.input after.input before.out after.out before.disks after.disks ran
+Did Fmd before after ran = FmdRan before after ran
 Did Replay before after ran = ReplayRan before.input after.input before.out after.out ran
 Did (Init namespace) before after ran = InitRan namespace before after ran
 Did (Esc form) before after ran =
@@ -70,6 +74,7 @@ abbrev pub WorksOn : {S D A : Type 0} → Option Command → Handed S D A → Ha
 WorksOn None old new = new ≡ old
 WorksOn (Some Accept) old new =
     new ≡ record old { input = new.input; disks = new.disks }
+WorksOn (Some Fmd) old new = Unit {0}
 WorksOn (Some Replay) old new = new ≡ record old { input = new.input }
 WorksOn (Some (Esc form)) old new = new ≡ record old { rules = new.rules; topo = new.topo }
 WorksOn (Some EscInput) old new = new ≡ record old { input = new.input }

@@ -1,6 +1,6 @@
 -- The headline at the top call: what a crash leaves of a store, whatever a call ends with.
 use Rattle.std.specs.Prelude.{◌≡◌, ◌⊎◌, ℕ, ◌≤◌, List, ◌++◌, true, length, take, Result, MatchResult}
-use Rattle.std.specs.Prelude.{OnOk}
+use Rattle.std.specs.Prelude.{OnOk, Ok, Err}
 use Rattle.std.specs.Io.KnownBytes.{Appends, Consumes, IsAtEnd}
 use Rattle.fm_core.specs.Book.{next_number}
 use Rattle.fm_line.specs.Lines.{lines_of}
@@ -13,7 +13,8 @@ use Rattle.fm_top.specs.Recording.{store_with}
 use Rattle.fm_top.specs.Running.{Line, AreRead}
 use Rattle.fm_top.specs.declared.stops.Stop.{Stop}
 use Rattle.fm_top.specs.declared.words.Command.{Command}
-use Rattle.fm_top.specs.declared.words.Command.TheVariants.{Accept, Init}
+use Rattle.fm_top.specs.declared.stops.Stop.TheVariants.{Act}
+use Rattle.fm_top.specs.declared.words.Command.TheVariants.{Accept, Fmd, Init}
 
 -- Of these lines all but the last one at most were answered whole, and what was put is a front of
 -- their answers: so whoever was told `ok` has the entry among theirs. `next` is the number of the
@@ -50,6 +51,14 @@ pub record HasAll (before after : Outside) (told : Contents) (stood : BookAt tol
       (answers true 1 (next_number stood.book.book) (lines_of read))
   pub reads : ReadsLike stood.fresh (store_with stood.book (entries_of (lines_of read))) image
 
+-- The same with the entries of all lines, whatever was put behind their answers.
+pub record HasEach (before after : Outside) (told : Contents) (stood : BookAt told)
+    (image : Contents) : Type 0 where
+  pub read : List ℕ
+  pub consumed : Consumes before.input.left after.input.left read
+  pub at_end : IsAtEnd after.input.left
+  pub reads : ReadsLike stood.fresh (store_with stood.book (entries_of (lines_of read))) image
+
 -- The disks told contents that read as a book, and each image that a crash now leaves has it with
 -- the entries that were acknowledged, and perhaps one in flight; where all is done, with all.
 pub record Held (before after : Outside) (told : Contents) (ran : Result (Unit {0}) Stop) : Type 0
@@ -58,6 +67,22 @@ pub record Held (before after : Outside) (told : Contents) (ran : Result (Unit {
     pub left : (image : Contents) → Leaves after.disks image
         → MatchResult ran (λ _. HasAll before after told stood image)
         (λ _. HasAnswered before after told stood image)
+
+-- of a command that goes on behind the last line: where all is done, or an actuator failed at the
+-- end, with the entries of all lines
+abbrev pub HasAfter : (before after : Outside) (told : Contents) → BookAt told → Contents
+    → Result (Unit {0}) Stop → Type 0
+HasAfter before after told stood image (Ok done) = HasEach before after told stood image
+HasAfter before after told stood image (Err (Act index)) = HasEach before after told stood image
+HasAfter before after told stood image (Err _) =
+    HasAnswered before after told stood image ⊎ HasEach before after told stood image
+
+-- the disks told contents that read as a book, and each image that a crash now leaves is so
+pub record HeldAfter (before after : Outside) (told : Contents) (ran : Result (Unit {0}) Stop)
+    : Type 0 where
+  pub stood : BookAt told
+  pub left : (image : Contents) → Leaves after.disks image
+      → HasAfter before after told stood image ran
 
 -- each image is one from before
 abbrev pub AreFromBefore : DisksAt → DisksAt → Type 0
@@ -76,6 +101,9 @@ abbrev pub Headline : Command → Outside → Outside → Result (Unit {0}) Stop
 Headline Accept before after ran =
     Unopened before after ran
     ⊎ ((told : Contents) → Tells before.disks told → Held before after told ran)
+Headline Fmd before after ran =
+    Unopened before after ran
+    ⊎ ((told : Contents) → Tells before.disks told → HeldAfter before after told ran)
 Headline (Init namespace) before after ran =
     (told : Contents) → Tells before.disks told → BookAt told
     → AreFromBefore before.disks after.disks

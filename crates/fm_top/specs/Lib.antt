@@ -6,6 +6,8 @@ pub mod Draining
 pub mod Ended
 pub mod Ending
 pub mod Esc
+pub mod Fmd
+pub mod FmdStore
 pub mod Halting
 pub mod Headline
 pub mod Init

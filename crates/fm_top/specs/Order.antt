@@ -23,10 +23,11 @@ use Rattle.fm_topo.specs.declared.faults.TopoKind.{TopoKind}
 use Rattle.fm_top.specs.declared.stops.Stop.{Stop}
 use Rattle.fm_top.specs.declared.stops.Stop.TheVariants.{Rules, Topology, Damaged, Read, Write}
 use Rattle.fm_top.specs.declared.stops.Stop.TheVariants.{Disk, Memory, Full, Exists}
-use Rattle.fm_top.specs.declared.stops.Stop.TheVariants.{Graph, DamagedInput}
+use Rattle.fm_top.specs.declared.stops.Stop.TheVariants.{Graph, DamagedInput, Differs, Act}
 use Rattle.fm_top.specs.declared.words.Command.{Command}
-use Rattle.fm_top.specs.declared.words.Command.TheVariants.{Accept, Replay, Init, Esc, EscInput}
-use Rattle.fm_top.specs.Kept.{BookAt, FirstDamage}
+use Rattle.fm_top.specs.declared.words.Command.TheVariants.{Accept, Fmd, Replay, Init, Esc}
+use Rattle.fm_top.specs.declared.words.Command.TheVariants.{EscInput}
+use Rattle.fm_top.specs.Kept.{BookAt, FirstDamage, KeepsAsRead, KeepsOther}
 use Rattle.fm_top.specs.Outside.{Outside, SourceAt, disk_by_name, given_of, standing}
 
 -- what the looks depend on: what the input and the sources have, and have left behind the looks;
@@ -52,7 +53,8 @@ abbrev pub AreContents : World → Contents → Type 0
 AreContents w told = (name : DiskName) → w.disks name ≡ Some (content_named name told)
 
 -- a look: at the rule files, at the topology, at what the files come to over it, at the compiled
--- files of the input, whether there is a store, and at the whole store
+-- files of the input, whether there is a store, at the whole store, and whether what it keeps is
+-- what was read
 pub data Look : Type 0 where
   at_rules : Look
   at_topology : Look
@@ -60,10 +62,12 @@ pub data Look : Type 0 where
   at_files : Look
   at_no_store : Look
   at_store : Look
+  at_same : Look
 
 -- THE ORDER OF REFUSALS, one line a command
 abbrev pub looks : Command → List Look
 looks Accept = at_store ∷ []
+looks Fmd = at_rules ∷ at_topology ∷ at_graphs ∷ at_store ∷ at_same ∷ []
 looks Replay = []
 looks (Init namespace) = at_rules ∷ at_topology ∷ at_no_store ∷ []
 looks (Esc form) = at_rules ∷ at_topology ∷ at_graphs ∷ []
@@ -88,6 +92,9 @@ Finds w at_no_store stop = (stop ≡ Exists) × IfSome (w.disks Conf) HasStore
 Finds w at_store stop =
     (disk : DiskName) × (place : ℕ) × (stop ≡ Damaged disk place)
     × ((told : Contents) → AreContents w told → FirstDamage told disk place)
+Finds w at_same stop =
+    (stop ≡ Differs) × (got : Sources) × ReadsSources standing w.sources w.sources_now (Ok got)
+    × ((told : Contents) → AreContents w told → KeepsOther told got)
 
 -- what stands where the command goes on; where the input has more bytes than are taken, it is not
 -- looked at as files
@@ -104,6 +111,9 @@ Passes w at_files =
     ⊎ InputCause standing w.input w.input_now inputs.Full
 Passes w at_no_store = IfSome (w.disks Conf) IsEmptyOrNone
 Passes w at_store = (told : Contents) → AreContents w told → BookAt told
+Passes w at_same =
+    (got : Sources) × ReadsSources standing w.sources w.sources_now (Ok got)
+    × ((told : Contents) → AreContents w told → KeepsAsRead told got)
 
 -- the first look that ends the command ends it so
 abbrev pub FirstFinds : World → List Look → Stop → Type 0
@@ -119,6 +129,7 @@ abbrev pub IsOutsideFault : Stop → Type 0
 IsOutsideFault Read = Unit {0}
 IsOutsideFault Write = Unit {0}
 IsOutsideFault Disk = Unit {0}
+IsOutsideFault (Act index) = Unit {0}
 IsOutsideFault Memory = Unit {0}
 IsOutsideFault _ = ⊥
 

@@ -1,6 +1,7 @@
 -- What stands outside at one moment, as plain records: what each object tells, and its count of
 -- faults.
 use Rattle.std.specs.Prelude.{◌≡◌, ℕ, List, [], ◌∷◌, map, slice_get, Option, Some}
+use Rattle.fm_act.specs.Reconciled.{ActuatorState}
 use Rattle.fm_logs.specs.Contents.{Contents, content_named}
 use Rattle.fm_logs.specs.declared.disks.DiskName.{DiskName}
 use Rattle.fm_logs.specs.declared.disks.DiskName.TheVariants.{Conf, ErrA, ErrB, SlotA, SlotB, Flt}
@@ -19,11 +20,6 @@ pub record SourceAt : Type 0 where
 -- the bytes that were put, where the sink tells them
 pub record SinkAt : Type 0 where
   pub bytes : Option (List ℕ)
-  pub failures : ℕ
-
--- the paths that an actuator holds, where it tells them
-pub record ActAt : Type 0 where
-  pub held : Option (List (List ℕ))
   pub failures : ℕ
 
 -- what a read of a disk gives, where it tells that, and the images that a crash may leave
@@ -46,7 +42,7 @@ pub record Outside : Type 1 where
   pub topo : SourceAt
   pub out : SinkAt
   pub disks : DisksAt
-  pub acts : List ActAt
+  pub acts : List ActuatorState
 
 -- each object as it stands
 
@@ -55,9 +51,6 @@ source_at g source = record { left = g.left source; failures = g.failures source
 
 abbrev pub sink_at : {K : Type 0} → SinkGhosts K → K → SinkAt
 sink_at g sink = record { bytes = g.put_bytes sink; failures = g.failures sink }
-
-abbrev pub act_at : Option (List (List ℕ)) → ℕ → ActAt
-act_at held failures = record { held = held; failures = failures }
 
 abbrev pub disk_at : {D : Type 0} → DiskGhosts D → D → DiskAt
 disk_at g disk = record { seen = g.seen disk; images = g.images disk; failures = g.failures disk }
@@ -107,8 +100,8 @@ disk_counts d =
     d.conf.failures ∷ d.err_a.failures ∷ d.err_b.failures
     ∷ d.slot_a.failures ∷ d.slot_b.failures ∷ d.flt.failures ∷ []
 
-abbrev pub act_counts : Outside → List ℕ
-act_counts o = map (λ a. a.failures) o.acts
+abbrev pub act_counts : List ActuatorState → List ℕ
+act_counts acts = map (λ a. a.failures) acts
 
 -- the count at a place rose
 abbrev pub RoseAt : List ℕ → List ℕ → ℕ → Type 0
@@ -126,5 +119,5 @@ counts_of o = record {
   sources = source_counts o;
   out = o.out.failures;
   disks = disk_counts o.disks;
-  acts = act_counts o;
+  acts = act_counts o.acts;
 }

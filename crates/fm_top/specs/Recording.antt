@@ -82,6 +82,7 @@ pub record Recorded {D M : Type 0} (g : Ghosts D) (old new : StoreOf D M) (entri
   pub counts : LastCounts g old new last
   pub base_is : new.logs.base ≡ old.logs.base
   pub entries_are : new.logs.entries ≡ old.logs.entries ++ entries
+  pub cursors_are : new.logs.cursors ≡ old.logs.cursors
   pub logs : LogsLeft g old.logs new.logs last
   pub book : (fresh : List ModuleState) (k : StoreBook) → StoreStandsFor g fresh old k
       → BookLeft g fresh new k entries last

@@ -40,6 +40,7 @@ recorded_none g store = record {
   counts = λ name. refl;
   base_is = refl;
   entries_are = sym (append-nil store.logs.entries);
+  cursors_are = refl;
   logs = λ older records keep. keep;
   book = λ fresh k st. subst (StoreStandsFor g fresh store) (sym (with_none k)) st;
 }
@@ -82,6 +83,7 @@ module _ {D M : Type 0} (g : Ghosts D) where
     base_is = then.base_is ∙ first.base_is;
     entries_are = then.entries_are ∙ ap (λ xs. xs ++ fs) first.entries_are
         ∙ append_assoc a.logs.entries es fs;
+    cursors_are = then.cursors_are ∙ first.cursors_are;
     logs = logs_on a b c last first.logs then.logs;
     book = λ fresh k st. book_on fresh c k es fs last
         (then.book fresh (store_with k es) (first.book fresh k st));

@@ -21,7 +21,7 @@ use Rattle.fm_top.specs.declared.status.ToolStatus.TheVariants as status
 use Rattle.fm_top.specs.declared.stops.Stop.{Stop}
 use Rattle.fm_top.specs.declared.stops.Stop.TheVariants.{Usage, Rules, Topology, Damaged, Read}
 use Rattle.fm_top.specs.declared.stops.Stop.TheVariants.{Write, Disk, Memory, Full, Exists}
-use Rattle.fm_top.specs.declared.stops.Stop.TheVariants.{Graph, DamagedInput}
+use Rattle.fm_top.specs.declared.stops.Stop.TheVariants.{Graph, DamagedInput, Differs, Act}
 
 -- the status that tells it
 abbrev pub status_of : Stop → ToolStatus
@@ -37,6 +37,8 @@ status_of Disk = status.DiskFault
 status_of Memory = status.NoMemory
 status_of (Full kind) = status.Full
 status_of Exists = status.Exists
+status_of Differs = status.Differs
+status_of (Act index) = status.ActFault
 
 -- what the sources were refused for
 abbrev pub of_sources : SourceFault → Stop
@@ -109,3 +111,5 @@ last_text Disk = codes "disk fault\n"
 last_text Memory = []
 last_text (Full kind) = codes "full " ++ (kind_text kind ++ codes "\n")
 last_text Exists = codes "store exists\n"
+last_text Differs = codes "configuration differs\n"
+last_text (Act index) = codes "actuator fault " ++ (decimal index ++ codes "\n")

@@ -8,6 +8,7 @@ ghost use Rattle.fm_top.specs.Outside.{source_at, sink_at, disks_at};
 use crate::lent::Lent;
 use crate::reading::run;
 use crate::stops::Stop;
+use crate::streams::Streams;
 use fm_init::Disks;
 use fm_modules::open_store;
 use fm_outer::{Disk, Sink, Source};
@@ -16,21 +17,22 @@ use std::alloc::Global;
 /// Opens the store on the disks, has it take the entry of each line of the input, answers each
 /// line, and gives the disks back. How it ran stands in `ran` afterwards.
 fn accept_on<S: Source, K: Sink, D: Disk>(
-    alloc: Global,
-    input: &mut S,
-    out: &mut K,
+    streams: &mut Streams<'_, '_, S, K>,
     ran: &mut Result<(), Stop>,
     disks: Disks<D>,
 ) -> Disks<D>
-    ensures ran { AcceptRan (source_at S.Source input.old) (source_at S.Source input.new)
-        (sink_at K.Sink out.old) (sink_at K.Sink out.new) (disks_at D.Disk disks)
-        (disks_at D.Disk result) ran.new }
+    ensures ran { AcceptRan (source_at S.Source streams.old.input.now)
+        (source_at S.Source streams.new.input.now) (sink_at K.Sink streams.old.out.now)
+        (sink_at K.Sink streams.new.out.now) (disks_at D.Disk disks) (disks_at D.Disk result)
+        ran.new }
     ensures same_disks { AreSameDisks D.Disk disks result }
+    ensures same_input { streams.new.input.ghost_name ≡ streams.old.input.ghost_name }
+    ensures same_out { streams.new.out.ghost_name ≡ streams.old.out.ghost_name }
 {
-    match open_store(alloc, disks) {
+    match open_store(streams.alloc, disks) {
         Ok(opened) => {
             let mut store = opened.store;
-            *ran = run(alloc, input, out, &mut store);
+            *ran = run(streams.alloc, streams.input, streams.out, &mut store);
             store.into_disks()
         }
         Err(refused) => {
@@ -43,14 +45,13 @@ fn accept_on<S: Source, K: Sink, D: Disk>(
 /// Opens the store on six disks that are lent, has it take the entry of each line of the input,
 /// answers each line, and gives the disks back. How it ran stands in `ran` afterwards.
 fn accept_lent<'a, S: Source, K: Sink, D: Disk>(
-    alloc: Global,
-    input: &mut S,
-    out: &mut K,
+    streams: &mut Streams<'_, '_, S, K>,
     ran: &mut Result<(), Stop>,
     disks: Disks<Lent<'a, D>>,
 ) -> Disks<Lent<'a, D>>
-    ensures ran { AcceptRan (source_at S.Source input.old) (source_at S.Source input.new)
-        (sink_at K.Sink out.old) (sink_at K.Sink out.new)
+    ensures ran { AcceptRan (source_at S.Source streams.old.input.now)
+        (source_at S.Source streams.new.input.now) (sink_at K.Sink streams.old.out.now)
+        (sink_at K.Sink streams.new.out.now)
         (disks_at D.Disk (six disks.entry.conf.disk.now disks.entry.err_a.disk.now
         disks.entry.err_b.disk.now disks.entry.slot_a.disk.now disks.entry.slot_b.disk.now
         disks.entry.flt.disk.now))
@@ -69,15 +70,15 @@ fn accept_lent<'a, S: Source, K: Sink, D: Disk>(
         ≡ names_of D.name (six disks.entry.conf.disk.now disks.entry.err_a.disk.now
         disks.entry.err_b.disk.now disks.entry.slot_a.disk.now disks.entry.slot_b.disk.now
         disks.entry.flt.disk.now) }
+    ensures same_input { streams.new.input.ghost_name ≡ streams.old.input.ghost_name }
+    ensures same_out { streams.new.out.ghost_name ≡ streams.old.out.ghost_name }
 {
-    accept_on(alloc, input, out, ran, disks)
+    accept_on(streams, ran, disks)
 }
 
 /// Has the store on six disks take the entry of each line of the input, and answers each line.
 fn accept_each<'a, S: Source, K: Sink, D: Disk>(
-    alloc: Global,
-    input: &mut S,
-    out: &mut K,
+    streams: &mut Streams<'_, '_, S, K>,
     conf: &'a mut D,
     err_a: &'a mut D,
     err_b: &'a mut D,
@@ -85,13 +86,16 @@ fn accept_each<'a, S: Source, K: Sink, D: Disk>(
     slot_b: &'a mut D,
     flt: &'a mut D,
 ) -> Result<(), Stop>
-    ensures ran { AcceptRan (source_at S.Source input.old) (source_at S.Source input.new)
-        (sink_at K.Sink out.old) (sink_at K.Sink out.new) (disks_at D.Disk
+    ensures ran { AcceptRan (source_at S.Source streams.old.input.now)
+        (source_at S.Source streams.new.input.now) (sink_at K.Sink streams.old.out.now)
+        (sink_at K.Sink streams.new.out.now) (disks_at D.Disk
         (six conf.old err_a.old err_b.old slot_a.old slot_b.old flt.old))
         (disks_at D.Disk (six conf.new err_a.new err_b.new slot_a.new slot_b.new flt.new)) result }
     ensures same_disks { names_of D.name
         (six conf.new err_a.new err_b.new slot_a.new slot_b.new flt.new)
         ≡ names_of D.name (six conf.old err_a.old err_b.old slot_a.old slot_b.old flt.old) }
+    ensures same_input { streams.new.input.ghost_name ≡ streams.old.input.ghost_name }
+    ensures same_out { streams.new.out.ghost_name ≡ streams.old.out.ghost_name }
 {
     let lent = Disks {
         conf: Lent { disk: conf },
@@ -102,7 +106,7 @@ fn accept_each<'a, S: Source, K: Sink, D: Disk>(
         flt: Lent { disk: flt },
     };
     let mut ran = Ok(());
-    let _back = accept_lent(alloc, input, out, &mut ran, lent);
+    let _back = accept_lent(streams, &mut ran, lent);
     ran
 }
 
@@ -118,10 +122,9 @@ pub(crate) fn accept<S: Source, K: Sink, D: Disk>(
         (disks_at D.Disk disks.new) result }
     ensures same_disks { names_of D.name disks.new ≡ names_of D.name disks.old }
 {
+    let mut streams = Streams { alloc, input, out };
     accept_each(
-        alloc,
-        input,
-        out,
+        &mut streams,
         &mut disks.conf,
         &mut disks.err_a,
         &mut disks.err_b,

@@ -1,11 +1,13 @@
 // The top call.
 ghost use Rattle.std.specs.Prelude.{◌≡◌, ◌<◌, ◌≤◌, ◌^◌, length, map};
 ghost use Rattle.fm_top.specs.Calls.{Does, WorksOn, handed, names_of};
-ghost use Rattle.fm_top.specs.Outside.{Outside, source_at, sink_at, disks_at, act_at};
+ghost use Rattle.fm_act.specs.Reconciled.{actuator_state};
+ghost use Rattle.fm_top.specs.Outside.{Outside, source_at, sink_at, disks_at};
 ghost use Rattle.fm_top.specs.Words.{command_of};
 
 use crate::accept::accept;
 use crate::esc::{esc, esc_input};
+use crate::fmd::fmd;
 use crate::init::init;
 use crate::last::end;
 use crate::replaying::replay;
@@ -21,8 +23,10 @@ use std::alloc::Global;
 /// Does what the words say, and gives the exit status.
 ///
 /// `accept` opens the store on the six disks, has it take each line of the input that is an entry,
-/// and answers each line. `replay` takes the entries of the
-/// input into two counters in memory, answers the lines that are refused, and puts what the
+/// and answers each line. `fmd -1` reads the rule files and the topology, does as `accept` over a
+/// store that keeps just these, and then drains the store and moves its base, brings the actuators
+/// to hold what is wanted out of use, and puts the summary. `replay` takes the entries of the input
+/// into two counters in memory, answers the lines that are refused, and puts what the
 /// counters come to. `init` reads the rule files, of which at most eight are handed in, and the
 /// topology, and makes a store of them and of the namespace. `esc` reads them and puts what each
 /// rule file comes to over the topology: a line of its sizes, or with `-b` its compiled file.
@@ -48,7 +52,7 @@ pub fn tool<S: Source, K: Sink, D: Disk>(
       topo = source_at S.Source topo.old;
       out = sink_at K.Sink out.old;
       disks = disks_at D.Disk disks.old;
-      acts = map (λ a. act_at (held a) (act_failures a)) acts.old;
+      acts = map (λ a. actuator_state (kind_text a) (held a) (act_failures a)) acts.old;
     } in
         let after : Outside = record {
           input = source_at S.Source input.new;
@@ -56,7 +60,7 @@ pub fn tool<S: Source, K: Sink, D: Disk>(
           topo = source_at S.Source topo.new;
           out = sink_at K.Sink out.new;
           disks = disks_at D.Disk disks.new;
-          acts = map (λ a. act_at (held a) (act_failures a)) acts.new;
+          acts = map (λ a. actuator_state (kind_text a) (held a) (act_failures a)) acts.new;
         } in
         Does (command_of words.now) before after result }
     ensures works_on { WorksOn (command_of words.now)
@@ -67,6 +71,10 @@ pub fn tool<S: Source, K: Sink, D: Disk>(
     let _ = now;
     match command_of(words) {
         Some(Command::Accept) => end(alloc, accept(alloc, input, out, disks), out),
+        Some(Command::Fmd) => {
+            let ran = fmd(alloc, input, rules, topo, out, disks, acts);
+            end(alloc, ran, out)
+        }
         Some(Command::Replay) => end(alloc, replay(alloc, input, out), out),
         Some(Command::Init(namespace)) => {
             let ran = init(alloc, namespace, rules, topo, disks);

@@ -144,6 +144,19 @@ fn put_damaged_input<K: Sink>(alloc: Global, place: u64, out: &mut K) -> Result<
     put_text(out, text.as_str())
 }
 
+/// Tells which actuator failed.
+#[tactic(auto, using(crate::proofs::Sinks::appends_none))]
+fn put_act<K: Sink>(alloc: Global, index: u32, out: &mut K) -> Result<(), Stop>
+    ensures ok { OnOk result
+        (Appends (K.put_bytes out.old) (K.put_bytes out.new) (last_text (Stop.Act index))) }
+    ensures err { IfErr result
+        (PutCut (sink_at K.Sink out.old) (sink_at K.Sink out.new) (last_text (Stop.Act index))) }
+    ensures counts { Accounts Stop.Write (K.failures out.old) (K.failures out.new) result }
+{
+    let text = format!(in alloc; "actuator fault {index}\n")?;
+    put_text(out, text.as_str())
+}
+
 /// Puts the last line, if there is one.
 fn put_last<K: Sink>(alloc: Global, stop: &Stop, out: &mut K) -> Result<(), Stop>
     ensures ok { OnOk result
@@ -163,6 +176,8 @@ fn put_last<K: Sink>(alloc: Global, stop: &Stop, out: &mut K) -> Result<(), Stop
         Stop::Disk => put_text(out, "disk fault\n"),
         Stop::Full(kind) => put_full(*kind, out),
         Stop::Exists => put_text(out, "store exists\n"),
+        Stop::Differs => put_text(out, "configuration differs\n"),
+        Stop::Act { index } => put_act(alloc, *index, out),
         Stop::Write | Stop::Memory => Ok(()),
     }
 }

@@ -1,5 +1,5 @@
-//! The top call: what one run of the fault manager does with its words, its input, its sink and its
-//! disks.
+//! The top call: what one run of the fault manager does with its words, its input, its sink, its
+//! disks and its actuators.
 //!
 //! `tool` finds the command in the words and runs it, and `last::end` puts its last line. `init`
 //! reads the rule files and the topology, and makes a store of them. `esc` puts what they come to,
@@ -7,8 +7,13 @@
 //! loop, `reading::run`: it reads pieces, cuts them into lines, and answers each line once, after
 //! its entry was taken. What takes the entries is a `takers::Taker`: for `accept` the store on the
 //! six disks, which is opened first with the modules of what it keeps, for `replay` a
-//! `tally::Tally`: a core of two counters in memory, after which the next one goes on. Why a command
-//! stops before all is done is a `Stop`; it gives the last line and the status.
+//! `tally::Tally`: a core of two counters in memory, after which the next one goes on. Why a
+//! command stops before all is done is a `Stop`; it gives the last line and the status.
+//!
+//! `fmd -1` reads the sources as `esc` does, opens the store and has it keep entries as `accept`
+//! does, where it keeps just what was read (`as_read`). It then has fm_conclude drain the store and
+//! move its base to its end, brings the actuators to hold what the drained book wants out of use,
+//! and puts the summary (`settle`).
 //!
 //! The model of a call is two records of what stands outside, before and after it
 //! (`specs/Outside`). `specs/Calls` says by the command what lies between them; `specs/Order` in
@@ -21,7 +26,8 @@
 //! input with each line answered; between two lines, with each line answered that ended in the
 //! bytes read before; or at a line, with each line before it answered. It says so of any taker, by
 //! what became of the entries; `specs/Accepting` and `specs/Replaying` say what that is for each
-//! command; `specs/Init` says what `init` does, and `specs/Esc` what `esc` does.
+//! command; `specs/Init` says what `init` does, `specs/Esc` what `esc` does, and `specs/Fmd` what
+//! `fmd -1` does.
 //!
 //! **The headline.** `specs/Headline` says of every command, whatever its status, what a crash at
 //! the return leaves of the six disks: contents from before, or contents that read as a book which
@@ -43,17 +49,21 @@
 
 mod accept;
 mod answering;
+mod as_read;
 mod call;
 mod counts;
 mod esc;
+mod fmd;
 mod init;
 mod last;
 mod lent;
 mod reading;
 mod recording;
 mod replaying;
+mod settle;
 mod status;
 mod stops;
+mod streams;
 mod takers;
 mod tally;
 mod words;

@@ -53,6 +53,12 @@ pub enum Stop {
     Full(FullKind),
     /// There is a store already.
     Exists,
+    /// The kept configuration in force isn't the one that was handed in.
+    Differs,
+    /// An actuator failed, the first that did; its place among those handed in.
+    Act {
+        index: u32,
+    },
 }
 
 impl Stop {
@@ -72,6 +78,8 @@ impl Stop {
             Stop::Memory => ToolStatus::NoMemory,
             Stop::Full(_) => ToolStatus::Full,
             Stop::Exists => ToolStatus::Exists,
+            Stop::Differs => ToolStatus::Differs,
+            Stop::Act { .. } => ToolStatus::ActFault,
         }
     }
 }

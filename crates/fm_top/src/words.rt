@@ -2,7 +2,7 @@
 ghost use Rattle.std.specs.Prelude.{◌≡◌};
 ghost use Rattle.std.specs.Str.{bytes_eq};
 ghost use Rattle.uuid.specs.Text.{parsed};
-ghost use Rattle.fm_top.specs.Words.{command_in, command_with, command_of, esc_with};
+ghost use Rattle.fm_top.specs.Words.{command_in, command_with, command_of, esc_with, fmd_with};
 
 use fm_esc::GraphForm;
 use fm_text::ArgText;
@@ -13,6 +13,9 @@ use uuid::Uuid;
 pub enum Command {
     /// The input's entries are appended to the journal of reports.
     Accept,
+    /// The input's entries are appended to the journal of reports, the store is drained and its
+    /// base moved, what is faulty is taken out of use, and the summary is put.
+    Fmd,
     /// The input's entries go through two counters, whose counts are put.
     Replay,
     /// A store is made of this namespace, the rule files and the topology.
@@ -68,6 +71,17 @@ fn esc_with(option: &ArgText) -> Option<Command>
     }
 }
 
+/// The command `fmd` with an option.
+fn fmd_with(option: &ArgText) -> Option<Command>
+    ensures { result ≡ fmd_with option.now }
+{
+    if is_word(option, "-1") {
+        Some(Command::Fmd)
+    } else {
+        None
+    }
+}
+
 /// The command of two words.
 #[tactic(auto, unfolding(crate::specs::Words::command_with))]
 fn command_with(word: &ArgText, second: &ArgText) -> Option<Command>
@@ -80,6 +94,8 @@ fn command_with(word: &ArgText, second: &ArgText) -> Option<Command>
         }
     } else if is_word(word, "esc") {
         esc_with(second)
+    } else if is_word(word, "fmd") {
+        fmd_with(second)
     } else {
         None
     }

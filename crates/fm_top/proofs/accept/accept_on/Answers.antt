@@ -1,13 +1,10 @@
-use Rattle.fm_top.specs.Outside.{source_at, sink_at}
 use Rattle.fm_top.proofs.Accepts.{opened_ran, not_opened, stands_of, same_back, read_back}
 use Rattle.fm_top.proofs.accept.accept_on.Goals as goal
 
 pub returns-in-Ok-clause-ran : goal.returns-in-Ok-clause-ran
 returns-in-Ok-clause-ran g c =
     opened_ran g.D.Disk g.met.D.Disk.seen_is_image c.args.disks c.into_disks.result
-    c.in-Ok.opened.store c.run.new.taker
-    (source_at g.S.Source c.args.input.now) (source_at g.S.Source c.run.new.input)
-    (sink_at g.K.Sink c.args.out.now) (sink_at g.K.Sink c.run.new.out) c.run.result
+    c.in-Ok.opened.store c.run.new.taker _ _ _ _ c.run.result
     c.in-Ok.ensures.read c.in-Ok.ensures.counts_kept
     (λ contents told. stands_of g.D.Disk g.met.D.Disk.seen_is_image contents c.in-Ok.opened
     (c.in-Ok.ensures.opens contents told)) c.into_disks.ensures c.run.ensures.all
@@ -21,8 +18,7 @@ returns-in-Ok-clause-same_disks g c =
 pub returns-in-Err-clause-ran : goal.returns-in-Err-clause-ran
 returns-in-Err-clause-ran g c =
     rw c.from.ensures
-    (not_opened g.D.Disk c.args.disks c.in-Err.refused.disks
-    (source_at g.S.Source c.args.input.now) (sink_at g.K.Sink c.args.out.now)
+    (not_opened g.D.Disk c.args.disks c.in-Err.refused.disks _ _
     c.in-Err.refused.fault c.in-Err.ensures.refused c.in-Err.ensures.back)
 
 pub returns-in-Err-clause-same_disks : goal.returns-in-Err-clause-same_disks

@@ -1,8 +1,10 @@
 use Rattle.std.proofs.Common.{refl, rules, Some}
 use Rattle.fm_top.specs.Outside.{sink_at}
-use Rattle.fm_top.specs.declared.words.Command.TheVariants.{Accept, Replay, Init, Esc, EscInput}
+use Rattle.fm_top.specs.declared.words.Command.TheVariants.{Accept, Fmd, Replay, Init, Esc}
+use Rattle.fm_top.specs.declared.words.Command.TheVariants.{EscInput}
 use Rattle.fm_top.proofs.Doing.{does_as, does_accept, does_replay}
 use Rattle.fm_top.proofs.Escs.{does_esc, does_input, esc_standing, input_standing}
+use Rattle.fm_top.proofs.FmdDoing.{does_fmd}
 use Rattle.fm_top.proofs.Inits.{does_init, ends_standing}
 use Rattle.fm_top.proofs.call.tool.Goals as goal
 
@@ -11,6 +13,12 @@ returns-in-Some-Accept-clause-does g c =
     does_as _ (Some Accept) _ _ _ (search rules)
     (does_accept _ _ (sink_at g.K.Sink c.accept.new.out) c.accept.result _ c.accept.ensures.ran
     c.end.ensures (record { rules = refl; topo = refl; acts = refl }))
+
+pub returns-in-Some-Fmd-clause-does : goal.returns-in-Some-Fmd-clause-does
+returns-in-Some-Fmd-clause-does g c =
+    does_as _ (Some Fmd) _ _ _ (search rules)
+    (does_fmd _ _ (sink_at g.K.Sink c.fmd-ran.new.out) c.fmd-ran.result _ c.fmd-ran.ensures.ran
+    c.end-in-Some-Fmd.ensures)
 
 pub returns-in-Some-Replay-clause-does : goal.returns-in-Some-Replay-clause-does
 returns-in-Some-Replay-clause-does g c =

@@ -8,3 +8,6 @@ returns-in-Disk-clause-ok g c = rw c.in-Disk.is c.put_text-in-Disk.ensures.ok
 
 pub returns-in-Disk-clause-err : goal.returns-in-Disk-clause-err
 returns-in-Disk-clause-err g c = rw c.in-Disk.is c.put_text-in-Disk.ensures.err
+
+pub returns-in-Differs-clause-err : goal.returns-in-Differs-clause-err
+returns-in-Differs-clause-err g c = rw c.in-Differs.is c.put_text-in-Differs.ensures.err

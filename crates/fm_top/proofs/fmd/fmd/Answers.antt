@@ -1,0 +1,44 @@
+use Rattle.std.proofs.Common.{inl, inr, refl, Ok}
+use Rattle.std.proofs.lemmas.Result.{err_from_is_err_and}
+use Rattle.fm_top.specs.Outside.{sink_at}
+use Rattle.fm_top.proofs.FmdDoing.{stopped_ran}
+use Rattle.fm_top.proofs.Standing.{reads_standing}
+use Rattle.fm_top.proofs.fmd.fmd.Goals as goal
+
+pub returns-clause-ran : goal.returns-clause-ran
+returns-clause-ran g c = inr (inr (record {
+  got = c.in_ok-got.got;
+  sources = record {
+    read = reads_standing g.S.Source _ _ _ _ (Ok c.in_ok-got.got) c.in_ok-got.ensures.read;
+    mades = c.in_ok-got.ensures.graphs.0;
+    graphs = c.in_ok-got.ensures.graphs.1;
+  };
+  conclusion = c.in_ok-conclusion.conclusion;
+  middle = sink_at g.K.Sink c.fmd_store.new.out;
+  store = c.in_ok-conclusion.ensures.ran;
+  settled = c.settle.ensures.ends;
+}))
+
+pub returns-in_err-conclusion-clause-ran : goal.returns-in_err-conclusion-clause-ran
+returns-in_err-conclusion-clause-ran g c =
+    let p = err_from_is_err_and c.from_residual-in_err-conclusion.result
+    c.from_residual-in_err-conclusion.ensures.1 in
+    rw (p.1, p.2) (inr (inl (record {
+      got = c.in_ok-got.got;
+      sources = record {
+        read = reads_standing g.S.Source _ _ _ _ (Ok c.in_ok-got.got) c.in_ok-got.ensures.read;
+        mades = c.in_ok-got.ensures.graphs.0;
+        graphs = c.in_ok-got.ensures.graphs.1;
+      };
+      stop = c.in_err-conclusion.field-0.0;
+      told = refl;
+      store = c.in_err-conclusion.ensures.ran;
+      unmoved = refl;
+    })))
+
+pub returns-in_err-got-clause-ran : goal.returns-in_err-got-clause-ran
+returns-in_err-got-clause-ran g c =
+    let p = err_from_is_err_and c.from_residual.result
+    c.from_residual.ensures.1 in
+    rw (p.1, p.2) (stopped_ran g.S.Source _ _ _ _ _ _ _ _ c.in_err-got.field-0.0
+    c.in_err-got.ensures.refused)
