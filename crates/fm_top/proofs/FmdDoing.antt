@@ -20,7 +20,7 @@ use Rattle.fm_top.specs.Ended.{ended}
 use Rattle.fm_top.specs.Ending.{EndsAs}
 use Rattle.fm_top.specs.Fmd.{ConcludingStops, FmdRan, KeepSame, SettlingEnds, SourcesRead}
 use Rattle.fm_top.specs.Fmd.{StoreDiffers, StoreRan, StoreStops}
-use Rattle.fm_top.specs.Headline.{HasEach, Headline, Held, HeldAfter, Unopened}
+use Rattle.fm_top.specs.Headline.{HasEach, Headline, Unopened}
 use Rattle.fm_top.specs.Order.{AllPass, FirstFinds, Goes, at_store, at_same, looks, world_of}
 use Rattle.fm_top.specs.Init.{AreUnwritten}
 use Rattle.fm_top.specs.Kept.{BookAt}
@@ -34,6 +34,7 @@ use Rattle.fm_top.specs.declared.stops.Stop.TheVariants.{Read, Write, Disk, Dama
 use Rattle.fm_top.specs.declared.stops.Stop.TheVariants.{Differs, Act}
 use Rattle.fm_top.specs.declared.words.Command.TheVariants.{Fmd}
 use Rattle.fm_top.proofs.AnswerLists.{answers_none, entries_none}
+use Rattle.fm_top.proofs.BookHeld.{HeldAfterOf, HeldOf, held_after_each}
 use Rattle.fm_top.proofs.Doing.{run_ends}
 use Rattle.fm_top.proofs.Escs.{cause_caused, cause_goes, cause_standing, ok_no_err}
 use Rattle.fm_top.proofs.Headlines.{until_held, whole_answered}
@@ -268,7 +269,7 @@ module _ (before after : Outside) where
   -- the store keeps another configuration: no line was read
   differs_held : (got : Sources) (stop : Stop) (told : Contents) → Tells before.disks told
       → StoreDiffers before.input after.input before.out after.out before.disks after.disks got stop
-      → Held before after told (Err stop)
+      → HeldOf before after told (Err stop)
   differs_held got stop told tells other =
       let grew = other.grew told tells in record {
         stood = grew.stood;
@@ -292,7 +293,7 @@ module _ (before after : Outside) where
 
   -- as of a command that has no more to do behind the last line
   held_after : (told : Contents) (stop : Stop) → ((index : ℕ) → stop ≡ Act index → ⊥)
-      → Held before after told (Err stop) → HeldAfter before after told (Err stop)
+      → HeldOf before after told (Err stop) → HeldAfterOf before after told (Err stop)
   held_after told (Act index) none held = absurd (none index refl)
   held_after told _ none held = record {
     stood = held.stood;
@@ -301,7 +302,7 @@ module _ (before after : Outside) where
 
   each_after : (told : Contents) (ran : Result (Unit {0}) Stop)
       → (stood : BookAt told) × ((image : Contents) → Leaves after.disks image
-      → HasEach before after told stood image) → HeldAfter before after told ran
+      → HasEach before after told stood image) → HeldAfterOf before after told ran
   each_after told (Ok done) (stood, left) = record { stood = stood; left = left }
   each_after told (Err (Act index)) (stood, left) = record { stood = stood; left = left }
   each_after told (Err _) (stood, left) =
@@ -321,13 +322,16 @@ module _ (before after : Outside) where
   stops_headline got stop (inl refused) =
       inl (unopened (Err stop) stop refl refused.consumed refused.put refused.untouched)
   stops_headline got stop (inr (inl other)) = inr (λ told tells.
-      held_after told stop (no_act_of got stop (inr (inl other)))
-      (differs_held got stop told tells other))
+      held_after_each before after told (Err stop)
+      (held_after told stop (no_act_of got stop (inr (inl other)))
+      (differs_held got stop told tells other)))
   stops_headline got stop (inr (inr (same, inl until))) = inr (λ told tells.
-      held_after told stop (no_act_of got stop (inr (inr (same, inl until))))
-      (until_held before after told stop tells until))
+      held_after_each before after told (Err stop)
+      (held_after told stop (no_act_of got stop (inr (inr (same, inl until))))
+      (until_held before after told stop tells until)))
   stops_headline got stop (inr (inr (same, inr behind))) = inr (λ told tells.
-      each_after told (Err stop) (has_each told tells after.out behind.accepted))
+      held_after_each before after told (Err stop)
+      (each_after told (Err stop) (has_each told tells after.out behind.accepted)))
 
 fmd_headline : (before after : Outside) (ran : Result (Unit {0}) Stop) → FmdRan before after ran
     → Headline Fmd before after ran
@@ -338,8 +342,9 @@ fmd_headline before after ran (inr (inl s)) =
     subst (Headline Fmd before after) (sym s.told)
     (stops_headline before after s.got s.stop s.store.went)
 fmd_headline before after ran (inr (inr s)) = inr (λ told tells.
-    each_after before after told ran
-    (has_each before after told tells s.middle s.store.went.accepted))
+    held_after_each before after told ran
+    (each_after before after told ran
+    (has_each before after told tells s.middle s.store.went.accepted)))
 
 -- ---- the command below the call
 

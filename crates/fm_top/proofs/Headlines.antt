@@ -14,7 +14,7 @@ use Rattle.fm_store.specs.StoreLeft.{ReadsLike}
 use Rattle.fm_top.specs.Accepting.{AcceptRan, AcceptedUntil, Grew}
 use Rattle.fm_top.specs.Answers.{answers, entries_of}
 use Rattle.fm_top.specs.Ended.{ended}
-use Rattle.fm_top.specs.Headline.{WereAnswered, HasAnswered, Held, Headline}
+use Rattle.fm_top.specs.Headline.{WereAnswered, HasAnswered, Headline}
 use Rattle.fm_top.specs.Kept.{BookAt}
 use Rattle.fm_top.specs.Outside.{Outside, Tells}
 use Rattle.fm_top.specs.Recording.{store_with}
@@ -23,6 +23,7 @@ use Rattle.fm_top.specs.declared.stops.Stop.{Stop}
 use Rattle.fm_top.specs.declared.stops.Stop.TheVariants.{Write, Disk, Memory, Full}
 use Rattle.fm_top.specs.declared.words.Command.TheVariants.{Accept}
 use Rattle.fm_top.proofs.AnswerLists.{entries_append, entries_one, answers_append}
+use Rattle.fm_top.proofs.BookHeld.{HeldOf, held_each}
 
 -- all of these lines were answered whole
 pub whole_answered : (puts : List ℕ → Type 0) (next : ℕ) (lines : List Line)
@@ -78,7 +79,7 @@ module _ (before after : Outside) (told : Contents) where
       → Tells before.disks told → Consumes before.input.left after.input.left read
       → AreRead read (IsAtEnd after.input.left) (lines ++ line ∷ [])
       → StopsAt (Grew before.disks after.disks next) (Appends before.out.bytes after.out.bytes)
-      (answers true 1 next) lines line stop → Held before after told (Err stop)
+      (answers true 1 next) lines line stop → HeldOf before after told (Err stop)
   halted_at next read lines line Write tells consumed there (m, past, put, took) =
       let grew = took told tells in record {
         stood = grew.stood;
@@ -152,13 +153,13 @@ module _ (before after : Outside) (told : Contents) where
 
   pub until_held : (stop : Stop) → Tells before.disks told
       → AcceptedUntil before.input after.input before.out after.out before.disks after.disks stop
-      → Held before after told (Err stop)
+      → HeldOf before after told (Err stop)
   until_held stop tells until = by_run until.ran
     where
       by_run : RanUntil (Grew before.disks after.disks until.next)
           (Appends before.out.bytes after.out.bytes) true until.next
           (Consumes before.input.left after.input.left) (IsAtEnd after.input.left) stop
-          → Held before after told (Err stop)
+          → HeldOf before after told (Err stop)
       by_run (inl ran) =
           let grew = ran.took told tells in record {
             stood = grew.stood;
@@ -179,7 +180,7 @@ pub headline_accept : (before after : Outside) (ran : Result (Unit {0}) Stop)
     → AcceptRan before.input after.input before.out after.out before.disks after.disks ran
     → Headline Accept before after ran
 headline_accept before after (Ok done) did = inr (λ told tells.
-    let run = did.went.ran in
+    held_each before after told (Ok done) (let run = did.went.ran in
     let grew = run.took told tells in record {
       stood = grew.stood;
       left = λ image leaves. record {
@@ -190,7 +191,7 @@ headline_accept before after (Ok done) did = inr (λ told tells.
             (answers true 1 n (lines_of run.read))) grew.numbered run.put;
         reads = grew.left image leaves;
       };
-    })
+    }))
 headline_accept before after (Err stop) did =
     elim did.went [
       | inl refused ↦ inl (record {
@@ -199,7 +200,9 @@ headline_accept before after (Err stop) did =
         unsaid = refused.put;
         left = λ image leaves name. (refused.untouched name).images _ (leaves name);
       })
-      | inr until ↦ inr (λ told tells. until_held before after told stop tells until)
+      | inr until ↦ inr (λ told tells.
+          held_each before after told (Err stop)
+          (until_held before after told stop tells until))
     ]
 
 -- contents that read as a book have a store

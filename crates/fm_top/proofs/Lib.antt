@@ -1,5 +1,6 @@
 pub mod Accepts
 pub mod AnswerLists
+pub mod BookHeld
 pub mod Confs
 pub mod CountLines
 pub mod Cuts

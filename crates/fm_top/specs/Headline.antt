@@ -59,14 +59,18 @@ pub record HasEach (before after : Outside) (told : Contents) (stood : BookAt to
   pub at_end : IsAtEnd after.input.left
   pub reads : ReadsLike stood.fresh (store_with stood.book (entries_of (lines_of read))) image
 
--- The disks told contents that read as a book, and each image that a crash now leaves has it with
--- the entries that were acknowledged, and perhaps one in flight; where all is done, with all.
-pub record Held (before after : Outside) (told : Contents) (ran : Result (Unit {0}) Stop) : Type 0
-  where
-    pub stood : BookAt told
-    pub left : (image : Contents) → Leaves after.disks image
-        → MatchResult ran (λ _. HasAll before after told stood image)
-        (λ _. HasAnswered before after told stood image)
+-- The contents read as a book, and this is so of each book that they read as: they read as one.
+pub record HoldsOfBook (told : Contents) (IsSo : BookAt told → Type 0) : Type 0 where
+  pub stood : BookAt told
+  pub each : (book : BookAt told) → IsSo book
+
+-- Each image that a crash now leaves has the book that the contents read as with the entries that
+-- were acknowledged, and perhaps one in flight; where all is done, with all.
+pub record Held (before after : Outside) (told : Contents) (ran : Result (Unit {0}) Stop)
+    (stood : BookAt told) : Type 0 where
+  pub left : (image : Contents) → Leaves after.disks image
+      → MatchResult ran (λ _. HasAll before after told stood image)
+      (λ _. HasAnswered before after told stood image)
 
 -- of a command that goes on behind the last line: where all is done, or an actuator failed at the
 -- end, with the entries of all lines
@@ -77,10 +81,9 @@ HasAfter before after told stood image (Err (Act index)) = HasEach before after 
 HasAfter before after told stood image (Err _) =
     HasAnswered before after told stood image ⊎ HasEach before after told stood image
 
--- the disks told contents that read as a book, and each image that a crash now leaves is so
+-- each image that a crash now leaves is so
 pub record HeldAfter (before after : Outside) (told : Contents) (ran : Result (Unit {0}) Stop)
-    : Type 0 where
-  pub stood : BookAt told
+    (stood : BookAt told) : Type 0 where
   pub left : (image : Contents) → Leaves after.disks image
       → HasAfter before after told stood image ran
 
@@ -100,10 +103,12 @@ pub record Unopened (before after : Outside) (ran : Result (Unit {0}) Stop) : Ty
 abbrev pub Headline : Command → Outside → Outside → Result (Unit {0}) Stop → Type 0
 Headline Accept before after ran =
     Unopened before after ran
-    ⊎ ((told : Contents) → Tells before.disks told → Held before after told ran)
+    ⊎ ((told : Contents) → Tells before.disks told
+    → HoldsOfBook told (Held before after told ran))
 Headline Fmd before after ran =
     Unopened before after ran
-    ⊎ ((told : Contents) → Tells before.disks told → HeldAfter before after told ran)
+    ⊎ ((told : Contents) → Tells before.disks told
+    → HoldsOfBook told (HeldAfter before after told ran))
 Headline (Init namespace) before after ran =
     (told : Contents) → Tells before.disks told → BookAt told
     → AreFromBefore before.disks after.disks

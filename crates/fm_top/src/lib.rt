@@ -33,7 +33,8 @@
 //! the return leaves of the six disks: contents from before, or contents that read as a book which
 //! drains to what the book from before comes to with the entries of the first lines, of all that
 //! were answered and of one more at most. It follows from what the store says of each entry
-//! (`specs/Recording`), which goes on over a run as lines are answered.
+//! (`specs/Recording`), which goes on over a run as lines are answered. It says so of each book
+//! that the contents from before read as; they read as one (`proofs/BookHeld`).
 //!
 //! The loops carry one relation, `Moved` (`specs/Halting`): from one moment to a later one a piece
 //! was read, the lines that ended in it were answered, and whatever follows goes on from what is
