@@ -61,6 +61,7 @@ use Rattle.fm_top.specs.declared.stops.Stop.TheVariants.{Read, Write, Disk}
 use Rattle.fm_top.specs.declared.stops.Stop.TheVariants.{Differs}
 use Rattle.fm_top.proofs.Accepts.{disks_account, grew_of, of_no_stream, opening_account}
 use Rattle.fm_top.proofs.Accepts.{opening_stops, until_weaker}
+use Rattle.fm_top.proofs.Exactness.{exact_with}
 use Rattle.fm_top.proofs.SixDisks.{told_all, images_all, all_only_read, rose_any, none_counts}
 
 -- ---- hands
@@ -262,6 +263,9 @@ module _ {D : Type 0} (g : Ghosts D)
                 (store_with at.stood.book (entries_of (lines_of finished.ran.read))) done.based
                 done.based_is;
           };
+          exact = exact_with g told at.stood finished.between new
+              (entries_of (lines_of finished.ran.read))
+              (finished.ran.took.book at.stood.fresh at.stood.book at.stands) finished.concluded;
           summary_is = done.tells.summary;
           wanted_are = done.tells.wanted;
         };

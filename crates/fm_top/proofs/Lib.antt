@@ -6,6 +6,7 @@ pub mod CountLines
 pub mod Cuts
 pub mod Doing
 pub mod Escs
+pub mod Exactness
 pub mod FmdDoing
 pub mod Fmds
 pub mod Feeding

@@ -23,6 +23,7 @@ use Rattle.fm_top.specs.Accepting.{AcceptedAll, AcceptedUntil, DisksAccount, Gre
 use Rattle.fm_top.specs.Accounts.{Accounts}
 use Rattle.fm_top.specs.Answers.{entries_of}
 use Rattle.fm_top.specs.Esc.{PutText}
+use Rattle.fm_top.specs.Exact.{IsExactWith}
 use Rattle.fm_top.specs.Init.{AreUnwritten}
 use Rattle.fm_top.specs.Kept.{BookAt, KeepsAsRead, KeepsOther}
 use Rattle.fm_top.specs.Outside.{Outside, SourceAt, SinkAt, DisksAt, Tells, Leaves, disk_counts}
@@ -41,13 +42,14 @@ pub record ReadsBased (fresh : List ModuleState) (k : StoreBook) (image : Conten
   pub based_is : IsBasedOf k read
 
 -- The book that the contents read as was drained with these entries: each image that a crash now
--- may leave reads as it, with its base at its end; the text is the summary of the drained book, and
--- these paths are what that wants out of use.
+-- may leave reads as it, with its base at its end; the drained book has exact suspects; the text is
+-- its summary, and these paths are what it wants out of use.
 pub record DrainedFrom (told : Contents) (after : DisksAt) (entries : List Entry)
     (summary : List ℕ) (paths : List (List ℕ)) : Type 0 where
   pub stood : BookAt told
   pub left : (image : Contents) → Leaves after image
       → ReadsBased stood.fresh (store_with stood.book entries) image
+  pub exact : IsExactWith stood entries
   pub summary_is : IsSummaryOf (drained (store_with stood.book entries).book) summary
   pub wanted_are : AreWantedOf (drained (store_with stood.book entries).book) paths
 

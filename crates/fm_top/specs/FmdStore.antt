@@ -2,7 +2,8 @@
 use Rattle.std.specs.Prelude.{◌≡◌, ◌⊎◌, List, true, None, Result, Ok, Err, OnOk, IfErr}
 use Rattle.std.specs.Io.KnownBytes.{Appends, Consumes, IsAtEnd}
 use Rattle.dx_engine.specs.Diagnosers.{DiagnoserOf}
-use Rattle.fm_conclude.specs.Concluding.{ConcludeRefused, ConcludesBook, NoDiskFailed}
+use Rattle.fm_conclude.specs.Concluding.{ConcludeRefused, ConcludesBook, IsConcluded}
+use Rattle.fm_conclude.specs.Concluding.{NoDiskFailed}
 use Rattle.fm_conclude.specs.declared.concluding.Conclusion.{Conclusion}
 use Rattle.fm_core.specs.Book.{ModuleState}
 use Rattle.fm_core.specs.Hands.{HandOf}
@@ -33,6 +34,7 @@ pub record StoreFinished {D : Type 0} (g : Ghosts D) (old new : StoreOf D Diagno
   pub ran : RanAll (Recorded g old between) (Appends out.bytes out_now.bytes) true
       (next_entry old.logs) (Consumes input.left input_now.left) (IsAtEnd input_now.left)
   pub quiet : OnOk answer (NoDiskFailed g between new)
+  pub concluded : OnOk answer (IsConcluded between new)
   pub refused : IfErr answer (ConcludeRefused g between new)
   pub book : (fresh : List ModuleState) (k : StoreBook) → StoreStandsFor g fresh between k
       → AllFollow diagnosers k.book hands → ConcludesBook g fresh between new k answer

@@ -6,6 +6,7 @@ pub mod Draining
 pub mod Ended
 pub mod Ending
 pub mod Esc
+pub mod Exact
 pub mod Fmd
 pub mod FmdStore
 pub mod Halting

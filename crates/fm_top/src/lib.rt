@@ -13,7 +13,8 @@
 //! `fmd -1` reads the sources as `esc` does, opens the store and has it keep entries as `accept`
 //! does, where it keeps just what was read (`as_read`). It then has fm_conclude drain the store and
 //! move its base to its end, brings the actuators to hold what the drained book wants out of use,
-//! and puts the summary (`settle`).
+//! and puts the summary (`settle`). Whatever the rule files, the topology and the entries are, that
+//! book has exact suspects, by a law of fm_exact (`specs/Exact`).
 //!
 //! The model of a call is two records of what stands outside, before and after it
 //! (`specs/Outside`). `specs/Calls` says by the command what lies between them; `specs/Order` in

@@ -17,6 +17,7 @@ returns-in-Ok-conclude-clause-works g c = (
     is_open = c.in-Ok.ensures.ready;
     ran = c.in-Ok.ensures.all;
     quiet = c.in-Ok-conclude.ensures.quiet;
+    concluded = c.in-Ok-conclude.ensures.concluded;
     refused = tt;
     book = c.in-Ok-conclude.ensures.book;
   },
@@ -40,6 +41,7 @@ returns-in-Err-conclude-clause-works g c =
           is_open = c.in-Ok.ensures.ready;
           ran = c.in-Ok.ensures.all;
           quiet = tt;
+          concluded = tt;
           refused = c.in-Err-conclude.ensures.refused;
           book = c.in-Err-conclude.ensures.book;
         },
