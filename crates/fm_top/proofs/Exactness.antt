@@ -1,4 +1,4 @@
--- The book from before, with the entries that a store took until it was drained, has exact suspects.
+-- The book from before has exact suspects with the entries that a store took until its drain.
 use Rattle.std.proofs.Common.{List, [], ◌++◌, length, ap, subst, arith}
 use Rattle.std.proofs.lemmas.List.{append-nil}
 use Rattle.std.proofs.lemmas.List.Elements.{All-from_recursion}

@@ -61,6 +61,7 @@ use Rattle.fm_top.specs.declared.stops.Stop.TheVariants.{Read, Write, Disk}
 use Rattle.fm_top.specs.declared.stops.Stop.TheVariants.{Differs}
 use Rattle.fm_top.proofs.Accepts.{disks_account, grew_of, of_no_stream, opening_account}
 use Rattle.fm_top.proofs.Accepts.{opening_stops, until_weaker}
+use Rattle.fm_top.proofs.BookHeld.{same_book}
 use Rattle.fm_top.proofs.Exactness.{exact_with}
 use Rattle.fm_top.proofs.SixDisks.{told_all, images_all, all_only_read, rose_any, none_counts}
 
@@ -251,24 +252,37 @@ module _ {D : Type 0} (g : Ghosts D)
   concluded conclusion same finished = record {
     same = as_kept same;
     accepted = accepted_all (Ok conclusion) finished;
-    drains = λ told tells.
-        let at = at_told told tells in
-        let done = (concludes (Ok conclusion) finished told at).done in record {
-          stood = at.stood;
-          left = λ image leaves. record {
-            read = store_floored done.based;
-            reads = reads_floored g at.stood.fresh new done.based done.stands image
-                (left_of image leaves);
-            based_is = floored_based
-                (store_with at.stood.book (entries_of (lines_of finished.ran.read))) done.based
-                done.based_is;
+    drains = λ told tells. let one = at_told told tells in record {
+      stood = one.stood;
+      each = λ book.
+          let same : (one.stood.fresh ≡ book.fresh) × (one.stood.book ≡ book.book) =
+          same_book told one.stood book in
+          let at : OpenAt g first hands conf told = record {
+            stood = book;
+            stands = subst (λ (ms : List ModuleState). StoreStandsFor g ms first book.book) same.0
+                (subst (λ (k : StoreBook). StoreStandsFor g one.stood.fresh first k) same.1
+                one.stands);
+            follow = subst (λ (k : StoreBook). AllFollow diagnosers k.book hands) same.1 one.follow;
+            in_force = subst
+                (λ (k : StoreBook). slice_get k.confs (force_now k) ≡ Some conf) same.1
+                one.in_force;
+          } in
+          let done = (concludes (Ok conclusion) finished told at).done in record {
+            left = λ image leaves. record {
+              read = store_floored done.based;
+              reads = reads_floored g book.fresh new done.based done.stands image
+                  (left_of image leaves);
+              based_is = floored_based
+                  (store_with book.book (entries_of (lines_of finished.ran.read))) done.based
+                  done.based_is;
+            };
+            exact = exact_with g told book finished.between new
+                (entries_of (lines_of finished.ran.read))
+                (finished.ran.took.book book.fresh book.book at.stands) finished.concluded;
+            summary_is = done.tells.summary;
+            wanted_are = done.tells.wanted;
           };
-          exact = exact_with g told at.stood finished.between new
-              (entries_of (lines_of finished.ran.read))
-              (finished.ran.took.book at.stood.fresh at.stood.book at.stands) finished.concluded;
-          summary_is = done.tells.summary;
-          wanted_are = done.tells.wanted;
-        };
+    };
   }
 
   -- why the store was not concluded

@@ -24,6 +24,7 @@ use Rattle.fm_top.specs.Accounts.{Accounts}
 use Rattle.fm_top.specs.Answers.{entries_of}
 use Rattle.fm_top.specs.Esc.{PutText}
 use Rattle.fm_top.specs.Exact.{IsExactWith}
+use Rattle.fm_top.specs.Headline.{HoldsOfBook}
 use Rattle.fm_top.specs.Init.{AreUnwritten}
 use Rattle.fm_top.specs.Kept.{BookAt, KeepsAsRead, KeepsOther}
 use Rattle.fm_top.specs.Outside.{Outside, SourceAt, SinkAt, DisksAt, Tells, Leaves, disk_counts}
@@ -41,12 +42,11 @@ pub record ReadsBased (fresh : List ModuleState) (k : StoreBook) (image : Conten
   pub reads : ReadsAsBook fresh image read
   pub based_is : IsBasedOf k read
 
--- The book that the contents read as was drained with these entries: each image that a crash now
+-- A book that the contents read as was drained with these entries: each image that a crash now
 -- may leave reads as it, with its base at its end; the drained book has exact suspects; the text is
 -- its summary, and these paths are what it wants out of use.
 pub record DrainedFrom (told : Contents) (after : DisksAt) (entries : List Entry)
-    (summary : List ℕ) (paths : List (List ℕ)) : Type 0 where
-  pub stood : BookAt told
+    (summary : List ℕ) (paths : List (List ℕ)) (stood : BookAt told) : Type 0 where
   pub left : (image : Contents) → Leaves after image
       → ReadsBased stood.fresh (store_with stood.book entries) image
   pub exact : IsExactWith stood entries
@@ -64,8 +64,8 @@ pub record StoreConcluded (input input_now : SourceAt) (out out_now : SinkAt)
   where
     pub same : KeepSame disks got
     pub accepted : AcceptedAll input input_now out out_now disks disks_now
-    pub drains : (told : Contents) → Tells disks told → DrainedFrom told disks_now
-        (entries_of (lines_of accepted.ran.read)) summary paths
+    pub drains : (told : Contents) → Tells disks told → HoldsOfBook told (DrainedFrom told disks_now
+        (entries_of (lines_of accepted.ran.read)) summary paths)
 
 -- The store keeps another configuration in force than was read: nothing was read of the input and
 -- nothing put, and the disks were read at most.
