@@ -10,7 +10,7 @@ struct CommandHelp {
 }
 
 /// The commands that are built.
-const COMMANDS: [CommandHelp; 6] = [
+const COMMANDS: [CommandHelp; 7] = [
     CommandHelp {
         words: "init NAMESPACE",
         does: "makes a store of dx0.esc and on, and of topology.txt; NAMESPACE is a UUID",
@@ -18,6 +18,10 @@ const COMMANDS: [CommandHelp; 6] = [
     CommandHelp {
         words: "accept",
         does: "keeps each report of standard input in the folder store, and answers it",
+    },
+    CommandHelp {
+        words: "fmd -1",
+        does: "as accept, then diagnoses, takes what is faulty out of use, and sums up",
     },
     CommandHelp {
         words: "replay",
