@@ -17,6 +17,7 @@ use Rattle.ev_graph.specs.Lawful.{GraphValue, links, links_of}
 use Rattle.ev_graph.specs.Sets.{is_member}
 use Rattle.ev_graph.specs.Wiring.{effects_if_any, wiring}
 use Rattle.ev_graph.specs.declared.instances.Instance.{Instance}
+use Rattle.ev_graph.specs.declared.instances.Link.{Link}
 use Rattle.ev_graph.specs.declared.nodes.Node.{Node}
 use Rattle.ev_fit.specs.Names.{iterators}
 use Rattle.ev_events.specs.Asking.{condition_names}
@@ -26,7 +27,7 @@ use Rattle.ev_inst.specs.Asked.{asked_if, asked_of, guard_if, guards_to, view_gu
 use Rattle.ev_inst.specs.Asked.{view_question}
 use Rattle.ev_inst.specs.Gathering.{is_given}
 use Rattle.ev_inst.specs.Guarding.{Derivation, are_guards, asks_if, breaks, broken_at, derivations}
-use Rattle.ev_inst.specs.Guarding.{guarded_at, guards, holds_with}
+use Rattle.ev_inst.specs.Guarding.{guarded_at, guards, holds_with, link_of, links_guarded}
 use Rattle.ev_inst.specs.Guarding.{shows_with}
 use Rattle.ev_inst.specs.Guards.{AreGuardsOf, GuardsValue, IsInstantiated, broken_by}
 use Rattle.ev_inst.specs.Guards.{broken_of, guard_instance, guarded_links, guards_if_any}
@@ -42,7 +43,7 @@ use Rattle.ev_inst.proofs.Deriving.{all_derived, derived, same_candidates}
 use Rattle.ev_inst.proofs.NodeSets.{numbers_member}
 
 -- ---- what is asked, without where it lies in memory
-abbrev answer : Topology → List ℕ → List Prop → Asked → Bool
+abbrev pub answer : Topology → List ℕ → List Prop → Asked → Bool
 answer topology path props a = holds (record {
   names = a.names;
   topology = topology;
@@ -50,7 +51,7 @@ answer topology path props a = holds (record {
   props = props;
 }) a.condition
 
-met_any : (topology : Topology) (path : List ℕ) (props : List Prop) (qs : List Question)
+pub met_any : (topology : Topology) (path : List ℕ) (props : List Prop) (qs : List Question)
     → list_any (is_met topology path props) qs
     ≡ list_any (answer topology path props) (map view_question qs)
 met_any topology path props [] = refl
@@ -65,13 +66,13 @@ guard_any : (i : ℕ) (gs : List Guard)
 guard_any i [] = refl
 guard_any i (g ∷ gs) = ap (λ (b : Bool). is_guard_of i g || b) (guard_any i gs)
 
-abbrev guarded_instance : Guarded → ℕ
+abbrev pub guarded_instance : Guarded → ℕ
 guarded_instance v = v.instance
 
-abbrev is_unmet : Topology → List ℕ → List Prop → List Asked → Bool
+abbrev pub is_unmet : Topology → List ℕ → List Prop → List Asked → Bool
 is_unmet topology path props asked = not (list_any (answer topology path props) asked)
 
-broken_map : (topology : Topology) (path : List ℕ) (props : List Prop) (gs : List Guard)
+pub broken_map : (topology : Topology) (path : List ℕ) (props : List Prop) (gs : List Guard)
     → map guard_instance (filter (is_broken topology path props) gs)
     ≡ map guarded_instance
     (filter (λ v. is_unmet topology path props v.asked) (map view_guard gs))
@@ -102,6 +103,15 @@ broken_map topology path props (g ∷ gs) =
             step false false e = rest
             step true false e = absurd (false≢true (sym e))
             step false true e = absurd (false≢true e)
+
+-- ---- the links
+abbrev pub watched_link : ℕ → Guarded → Link
+watched_link e g = record { instance = g.instance; effect = e }
+
+pub links_here : (e : ℕ) (gs : List Guard)
+    → map (link_to e) gs ≡ map (watched_link e) (map view_guard gs)
+links_here e [] = refl
+links_here e (g ∷ gs) = ap (λ (ls : List Link). link_to e g ∷ ls) (links_here e gs)
 
 -- ---- patterns that ask: what shows with a payload is what is answered
 module _ {P A : Type 0} (event : P → Bool) (asks : P → Bool) (ask : P → Option A)
@@ -192,6 +202,19 @@ module _ {D : Type 0} (test : D → Bool) (asked : D → List Asked) where
         by true is false kept rest = rw (is, kept) rest
         by false is k kept rest = rw is rest
 
+  views_links : (e at : ℕ) (ds : List D) → map (watched_link e) (views at ds)
+      ≡ map (link_of e) (numbers_with test at ds)
+  unfolding views
+  views_links e at [] = refl
+  views_links e at (d ∷ ds) = by (test d) refl (views_links e (suc at) ds) where
+    by : (b : Bool) → test d ≡ b
+        → map (watched_link e) (views (suc at) ds)
+        ≡ map (link_of e) (numbers_with test (suc at) ds)
+        → map (watched_link e) (views at (d ∷ ds))
+        ≡ map (link_of e) (numbers_with test at (d ∷ ds))
+    by true is rest = rw is (ap (λ (ls : List Link). link_of e at ∷ ls) rest)
+    by false is rest = rw is rest
+
   views_long : (at : ℕ) (ds : List D)
       → length (views at ds) ≡ length (numbers_with test at ds)
   unfolding views
@@ -273,6 +296,15 @@ module _ (topology : Topology) (node : Node) where
         mapped_long [] = refl
         mapped_long (g ∷ gs) = ap suc (mapped_long gs)
 
+  guards_links_at : (ds : List Derivation) (n : GuardedNode) (e : ℕ)
+      → map view_guard n.guards.items ≡ guards_to topology node 0 ds
+      → map (link_to e) n.guards.items
+      ≡ map (link_of e) (numbers_with (guards topology node) 0 ds)
+  guards_links_at ds n e is =
+      links_here e n.guards.items
+      ∙ ap (map (watched_link e)) (is ∙ guards_are_views 0 ds)
+      ∙ views_links (guards topology node) asked_at e 0 ds
+
 -- ---- the node at a place
 pub there_as : {X Y : Type 0} (xs : List X) (ys : List Y) (i : ℕ) (x : X) → length ys ≡ length xs
     → slice_get xs i ≡ Some x → (y : Y) × (slice_get ys i ≡ Some y)
@@ -319,6 +351,23 @@ module _ (topology : Topology) (nodes : List Node) (ds : List Derivation)
         let told = are.each e node n.0 s n.1 in
         ap (broken_of topology props) n.1
         ∙ broken_is topology node ds props n.0 told.0 told.1
+
+  -- ---- the links, in order
+  links_same : (at : ℕ) (ns : List Node) (hs : List GuardedNode) → length hs ≡ length ns
+      → ((e : ℕ) (node : Node) (n : GuardedNode) → slice_get ns e ≡ Some node
+      → slice_get hs e ≡ Some n
+      → map view_guard n.guards.items ≡ guards_to topology node 0 ds)
+      → links_to at hs ≡ links_guarded topology ds at ns
+  links_same at [] [] long each = refl
+  links_same at [] (h ∷ hs) long each = absurd (omega (arith, long))
+  links_same at (node ∷ ns) [] long each = absurd (omega (arith, long))
+  links_same at (node ∷ ns) (h ∷ hs) long each =
+      let less : length hs ≡ length ns = omega (arith, long) in
+      λ i. guards_links_at topology node ds h at (each 0 node h refl refl) i
+      ++ links_same (suc at) ns hs less (λ e x n s t. each (suc e) x n s t) i
+
+  pub links_guarded_same : guarded_links value ≡ links_guarded topology ds 0 nodes
+  links_guarded_same = links_same 0 nodes gs are.long (λ e node n s t. (are.each e node n s t).1)
 
   -- ---- how many they are
   links_long : (e : ℕ) (ns : List GuardedNode)
@@ -484,6 +533,7 @@ guards_of f topology g made all are =
       instances = instances;
       guarded = guarded_same topology g.nodes ds all.nodes.items are.guards_are;
       broken = broken_same topology g.nodes ds all.nodes.items are.guards_are;
+      links = links_guarded_same topology g.nodes ds all.nodes.items are.guards_are;
       fits = record {
         links_are = λ i e h.
             ap (λ (is : List Instance). is_member ((wiring is).effects i) e) (sym derived_are)

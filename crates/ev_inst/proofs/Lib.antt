@@ -9,3 +9,4 @@ pub mod GuardLaws
 pub mod Questioning
 pub mod Collected
 pub mod GuardedLinks
+pub mod GuardsAlike

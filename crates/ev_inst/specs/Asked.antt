@@ -50,6 +50,14 @@ pub record Guarded : Type 0 where
 abbrev pub view_guard : Guard → Guarded
 view_guard g = record { instance = g.instance; asked = map view_question g.questions.items }
 
+-- a node with its guards, without where their conditions lie in memory
+pub record Watched : Type 0 where
+  pub path : List ℕ
+  pub guards : List Guarded
+
+abbrev pub view_node : GuardedNode → Watched
+view_node n = record { path = n.path; guards = map view_guard n.guards.items }
+
 -- numbers that ascend are those of the nodes that a pattern gives; the same of several patterns
 pub record AreEventsOf (topology : Topology) (nodes : List Node) (vs : List (List ℕ))
     (b : List ℕ) (q : Pattern) (xs : List ℕ) : Type 0 where

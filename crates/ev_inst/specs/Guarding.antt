@@ -1,5 +1,5 @@
 -- Which links payloads can break, and which ones a payload breaks.
-use Rattle.std.specs.Prelude.{ℕ, Bool, true, false, ◌&&◌, List, [], ◌∷◌, ◌++◌, Option, Some}
+use Rattle.std.specs.Prelude.{ℕ, suc, Bool, true, false, ◌&&◌, List, [], ◌∷◌, ◌++◌, Option, Some}
 use Rattle.std.specs.Prelude.{None, not, if◌then◌else◌, map, filter}
 use Rattle.std.specs.List.{list_any, list_all}
 use Rattle.fm_topo.specs.Topology.{Topology}
@@ -8,6 +8,7 @@ use Rattle.ev_tree.specs.Pattern.{Pattern}
 use Rattle.ev_check.specs.CheckedFile.{Linking}
 use Rattle.ev_expr.specs.Conditions.{holds}
 use Rattle.ev_expr.specs.declared.settings.Prop.{Prop}
+use Rattle.ev_graph.specs.declared.instances.Link.{Link}
 use Rattle.ev_graph.specs.declared.nodes.Node.{Node}
 use Rattle.ev_fit.specs.Names.{iterators}
 use Rattle.ev_events.specs.Asking.{condition_names, asks_payload}
@@ -88,3 +89,14 @@ guarded_at topology ds (Some node) = numbers_with (guards topology node) 0 ds
 abbrev pub broken_at : Topology → List Derivation → List Prop → Option Node → List ℕ
 broken_at topology ds props None = []
 broken_at topology ds props (Some node) = numbers_with (breaks topology props node) 0 ds
+
+-- the link of an instance to a node
+abbrev pub link_of : ℕ → ℕ → Link
+link_of e i = record { instance = i; effect = e }
+
+-- the guarded links to nodes, the first of which has a number: by node, and then by instance
+abbrev pub links_guarded : Topology → List Derivation → ℕ → List Node → List Link
+links_guarded topology ds e [] = []
+links_guarded topology ds e (node ∷ nodes) =
+    map (link_of e) (guarded_at topology ds (Some node))
+    ++ links_guarded topology ds (suc e) nodes

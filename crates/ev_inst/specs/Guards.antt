@@ -1,7 +1,7 @@
 -- The guarded links of a graph, with what they ask of payloads.
-use Rattle.std.specs.Prelude.{◌≡◌, ◌≤◌, ℕ, suc, Bool, true, not, ◌==◌, List, [], ◌∷◌, ◌++◌, length}
-use Rattle.std.specs.Prelude.{Option, Some, None, slice_get, map, filter}
-use Rattle.std.specs.List.{list_any}
+use Rattle.std.specs.Prelude.{◌≡◌, ◌≤◌, ◌+◌, ◌^◌, ◌&&◌, ℕ, suc, Bool, true, not, ◌==◌, nat_lt}
+use Rattle.std.specs.Prelude.{List, [], ◌∷◌, ◌++◌, length, Option, Some, None, slice_get, map, filter}
+use Rattle.std.specs.List.{list_all, list_any}
 use Rattle.fm_topo.specs.Topology.{Topology}
 use Rattle.ev_tree.specs.Condition.{view_cond}
 use Rattle.ev_check.specs.CheckedFile.{CheckedFile, view_prop}
@@ -11,7 +11,7 @@ use Rattle.ev_graph.specs.Lawful.{GraphValue, links}
 use Rattle.ev_graph.specs.Sets.{is_member}
 use Rattle.ev_graph.specs.Wiring.{wiring}
 use Rattle.ev_graph.specs.declared.instances.Link.{Link}
-use Rattle.ev_inst.specs.Guarding.{broken_at, derivations, guarded_at}
+use Rattle.ev_inst.specs.Guarding.{broken_at, derivations, guarded_at, links_guarded}
 use Rattle.ev_inst.specs.Instances.{AreCandidatesOf, IsGraphOf, instances_of_all}
 use Rattle.ev_inst.specs.declared.guards.Question.{Question}
 use Rattle.ev_inst.specs.declared.guards.Guard.{Guard}
@@ -45,6 +45,23 @@ links_to e (n ∷ ns) = map (link_to e) n.guards.items ++ links_to (suc e) ns
 abbrev pub guarded_links : GuardsValue → List Link
 guarded_links v = links_to 0 v.nodes
 
+-- the instance of a guard, and of a link, has a number of 32 bits
+abbrev pub has_number : Guard → Bool
+has_number g = nat_lt g.instance (2 ^ 32)
+
+abbrev pub is_numbered_link : Link → Bool
+is_numbered_link l = nat_lt l.instance (2 ^ 32)
+
+-- how many guards some nodes have
+abbrev pub guard_count : List GuardedNode → ℕ
+guard_count [] = 0
+guard_count (n ∷ ns) = length n.guards.items + guard_count ns
+
+-- few links are guarded, of instances that have numbers of 32 bits
+abbrev pub has_few_links : GuardsValue → Bool
+has_few_links v =
+    nat_lt (length (guarded_links v)) (2 ^ 32) && list_all is_numbered_link (guarded_links v)
+
 -- the condition of a question holds at a path with the pairs of a payload
 abbrev pub is_met : Topology → List ℕ → List Prop → Question → Bool
 is_met topology path props q = holds (record {
@@ -70,14 +87,19 @@ broken_of topology props (Some n) =
 abbrev pub broken_by : GuardsValue → ℕ → List Prop → List ℕ
 broken_by v e props = broken_of v.topology props (slice_get v.nodes e)
 
+-- the same links are guarded, in the same order, and each payload breaks the same ones
+pub record GuardAlike (v w : GuardsValue) : Type 0 where
+  pub links : guarded_links w ≡ guarded_links v
+  pub broken : (e : ℕ) (props : List Prop) → broken_by w e props ≡ broken_by v e props
+
 -- Guards that a graph can have: what is guarded are links of it, each once.
 pub record AreGuardsFor (g : GraphValue) (v : GuardsValue) : Type 0 where
   pub links_are : (i e : ℕ) → is_guarded v i e ≡ true
       → is_member ((wiring g.instances).effects i) e ≡ true
   pub few : length (guarded_links v) ≤ links g.instances
 
--- The guards of the graph that a rule file comes to over a topology: just the guarded links, and
--- for each payload just those that it breaks.
+-- The guards of the graph that a rule file comes to over a topology: just the guarded links, in
+-- order of node and then of instance, and for each payload just those that it breaks.
 pub record AreGuardsOf (f : CheckedFile) (topology : Topology) (g : GraphValue)
     (v : GuardsValue) : Type 0 where
   pub candidates : List (List (List ℕ))
@@ -90,6 +112,8 @@ pub record AreGuardsOf (f : CheckedFile) (topology : Topology) (g : GraphValue)
   pub broken : (e : ℕ) (props : List Prop) → broken_by v e props ≡ broken_at topology
       (derivations topology g.nodes (map view_prop f.props) candidates) props
       (slice_get g.nodes e)
+  pub links : guarded_links v ≡ links_guarded topology
+      (derivations topology g.nodes (map view_prop f.props) candidates) 0 g.nodes
   pub fits : AreGuardsFor g v
 
 -- the graph is that of the file over the topology

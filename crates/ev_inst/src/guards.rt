@@ -1,9 +1,11 @@
 //! Which links of a graph payloads can break, and which of them a payload breaks.
 
-ghost use Rattle.std.specs.Prelude.{◌≡◌, filter, map, true, IfOk};
+ghost use Rattle.std.specs.Prelude.{◌≡◌, ◌==◌, filter, length, map, true, IfOk};
 ghost use Rattle.std.specs.List.{list_all, list_any};
 ghost use Rattle.ev_inst.specs.Guards as guarding;
 
+use crate::copying::copy_nodes;
+use crate::few::{have_few, have_none};
 use ev_expr::{Bound, Prop, holds_for};
 use ev_tree::Cond;
 use fm_bytes::NoMemory;
@@ -108,6 +110,29 @@ impl Guards {
         ensures { result ≡ record { topology = topo; nodes = nodes.items } }
     {
         Guards { topo, nodes }
+    }
+
+    /// Guards of the same links, each of which a payload breaks where it breaks it here.
+    pub fn copy(&self, alloc: Global) -> Result<Guards, NoMemory>
+        ensures { IfOk result (guarding.GuardAlike self.now) }
+    {
+        let topo = self.topo.copy(alloc)?;
+        let nodes = copy_nodes(alloc, self.nodes.as_slice())?;
+        Ok(Guards { topo, nodes })
+    }
+
+    /// Whether no link is guarded. It takes no memory.
+    pub fn is_empty(&self) -> bool
+        ensures { result ≡ (length (guarding.guarded_links self.now) == 0) }
+    {
+        have_none(self.nodes.as_slice())
+    }
+
+    /// Whether there are fewer than 2^32 guarded links. It takes no memory.
+    pub fn has_few_links(&self) -> bool
+        ensures { result ≡ guarding.has_few_links self.now }
+    {
+        have_few(self.nodes.as_slice())
     }
 
     /// Whether the link of an instance and an effect is guarded. It takes no memory.

@@ -18,7 +18,9 @@
 #![tactic(auto)]
 
 mod asked;
+mod copying;
 mod fault;
+mod few;
 mod gathered;
 mod guarding;
 mod guards;
