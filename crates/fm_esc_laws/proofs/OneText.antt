@@ -71,7 +71,7 @@ given_short (Some xs) (Some ys) bytes text e gave =
     omega (arith, whole, both, long)
 
 module _ {S : Type 0} (g : Ghosts S) where
-  text_given : (limit : ℕ) (old new : S) (bytes text : List ℕ) → g.left old ≡ Some bytes
+  pub text_given : (limit : ℕ) (old new : S) (bytes text : List ℕ) → g.left old ≡ Some bytes
       → GaveText g limit old new text → length text ≤ limit → text ≡ bytes
   text_given limit old new bytes text e gave short =
       all_given (g.left old) (g.left new) bytes text e gave.consumed (gave.whole short)

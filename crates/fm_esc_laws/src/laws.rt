@@ -1,12 +1,15 @@
 //! The laws, each as the contract of a call that does nothing.
 
-ghost use Rattle.std.specs.Prelude.{◌≡◌, ℕ, List};
+ghost use Rattle.std.specs.Prelude.{◌≡◌, ℕ, All, List, Option, None, Some};
+ghost use Rattle.ev_file.specs.Files.{IsSpelledFile};
 ghost use Rattle.ev_file.specs.declared.made.Made.{Made};
 ghost use Rattle.fm_sources.specs.Sources.{Given};
 ghost use Rattle.fm_sources.specs.declared.files.RuleFile.{RuleFile};
 ghost use Rattle.fm_topo.specs.Topology.{Topology};
 ghost use Rattle.fm_esc.specs.Compiling.{AreGraphs, IsCompiled};
+ghost use Rattle.fm_esc.specs.InputListing.{IsListed};
 ghost use Rattle.fm_esc.specs.declared.graphs.GraphForm.{GraphForm};
+ghost use Rattle.fm_esc.specs.declared.graphs.GraphForm.TheVariants.{Listed, Compiled};
 ghost use Rattle.fm_esc_laws.specs.ToldTexts.{AreFilesOf, TellTexts};
 
 use fm_outer::Source;
@@ -23,4 +26,14 @@ pub fn told_sources_compile_to_one_text<S: Source>()
     ensures { (form : GraphForm) (old new other : Given S) (text more : List ℕ)
         → TellTexts S.Source old → IsCompiled S.Source form old new text
         → IsCompiled S.Source form old other more → text ≡ more }
+{}
+
+/// The text that is compiled of sources that tell their bytes lists, to its end, as the lines that
+/// are put of the same sources, where what it was compiled of has a spelling.
+pub fn compiled_text_lists_as_its_rules<S: Source>()
+    ensures { (old new other : Given S) (text lines listed : List ℕ) (input rest : S)
+        (bad : Option ℕ) → TellTexts S.Source old
+        → (put : IsCompiled S.Source Compiled old new text) → All IsSpelledFile put.mades
+        → IsCompiled S.Source Listed old other lines → S.left input ≡ Some text
+        → IsListed S.Source input rest listed bad → (bad ≡ None) × (listed ≡ lines) }
 {}

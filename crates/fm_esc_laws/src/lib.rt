@@ -8,7 +8,8 @@
 //! **Laws.** Rule files with the same texts come to one list over a topology
 //! ([`rule_files_come_to_one_list`]). Of sources that tell their bytes one text is put
 //! ([`told_sources_compile_to_one_text`]), by whatever reads they are read and wherever in memory
-//! what is read of them lies.
+//! what is read of them lies. And what was compiled of such sources lists as they do
+//! ([`compiled_text_lists_as_its_rules`]), where it has a spelling.
 //!
 //! **Proof.** A source that tells its bytes gives all of them, since a rule file and a topology are
 //! read to their end. A text is one rule file but for memory (fm_sources_laws), and a rule file has
@@ -17,4 +18,6 @@
 
 mod laws;
 
-pub use laws::{rule_files_come_to_one_list, told_sources_compile_to_one_text};
+pub use laws::{
+    compiled_text_lists_as_its_rules, rule_files_come_to_one_list, told_sources_compile_to_one_text,
+};
