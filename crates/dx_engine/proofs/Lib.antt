@@ -1,3 +1,4 @@
 pub mod Loads
 pub mod Saves
 pub mod KeptCases
+pub mod Crossing

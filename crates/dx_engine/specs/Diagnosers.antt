@@ -1,6 +1,8 @@
 -- Diagnosis modules.
 use Rattle.std.specs.Prelude.{ℕ, map}
 use Rattle.ev_graph.specs.Lawful.{GraphValue}
+use Rattle.ev_inst.specs.Guards.{GuardsValue}
+use Rattle.dx_guards.specs.Payloads.{guarding_of}
 use Rattle.dx_rules.specs.declared.rulebook.Rulebook.{Rulebook}
 use Rattle.dx_state.specs.Configured.{Rules, Single, unguarded}
 use Rattle.dx_restore.specs.declared.parts.Loaded.{Loaded}
@@ -18,6 +20,13 @@ abbrev pub single_rules : ℕ → ℕ → GraphValue → Rules
 single_rules own conf g = record {
   own = own;
   configurations = Single conf (record { graph = g; guarding = unguarded });
+}
+
+-- the same, with guards
+abbrev pub guarded_rules : ℕ → ℕ → GraphValue → GuardsValue → Rules
+guarded_rules own conf g v = record {
+  own = own;
+  configurations = Single conf (record { graph = g; guarding = guarding_of v });
 }
 
 -- what stands of a state that was loaded

@@ -7,11 +7,11 @@ ghost use Rattle.dx_standing.specs.Rows.{row_of};
 ghost use Rattle.dx_standing.specs.Standing.{state_of};
 ghost use Rattle.dx_state.specs.Configured.{found_at};
 ghost use Rattle.dx_step.specs.Lawful.{are_rules, is_there};
-ghost use Rattle.dx_engine.specs.Diagnosers.{single_rules};
+ghost use Rattle.dx_engine.specs.Diagnosers.{guarded_rules, single_rules};
 
 use crate::loading::load_standing;
 use crate::saving::save_standing;
-use dx_rules::{Configs, Rulebook, Ruled};
+use dx_rules::{Configs, Guards, Rulebook, Ruled};
 use dx_standing::{OpenRow, StandingState};
 use dx_turn::declares;
 use ev_graph::{Graph, NoMemory};
@@ -32,8 +32,12 @@ impl Model for Diagnoser {
     ghost use Rattle.dx_rules.specs.Rulebooks.{rules_of};
     ghost use Rattle.dx_standing.specs.Standing.{IsStanding};
     ghost use Rattle.dx_engine.specs.Diagnosers.{DiagnoserOf};
+    ghost use Rattle.dx_rules.specs.contracts.rulebook.Rulebook as rulebook;
+    ghost use Rattle.std.specs.Coded.{codes};
 
     ghost Value = { DiagnoserOf };
+
+    ghost coded = { Prim.hlevel (codes, rulebook.the_row.coded) };
 
     ghost view = { λ d. record { rules = d.rules; standing = d.standing } };
 
@@ -62,7 +66,34 @@ impl Diagnoser {
         ensures state { IfOk result
             (λ d. state_of d.standing ≡ fresh_of (single_rules own conf graph)) }
     {
-        let ruled = Ruled { graph };
+        let ruled = Ruled {
+            graph,
+            guards: None,
+        };
+        let configs = Configs::Single {
+            number: conf,
+            ruled,
+        };
+        Diagnoser::with_rules(alloc, Rulebook { own, configs })
+    }
+
+    /// The same, with guards of the links that payloads can break.
+    pub fn with_guards(
+        alloc: Global,
+        own: u32,
+        conf: u32,
+        graph: Graph,
+        guards: Guards,
+    ) -> Result<Diagnoser, NoMemory>
+        requires { IsTrue (are_rules (guarded_rules own conf graph guards)) }
+        ensures rules { IfOk result (λ d. rules_of d.rules ≡ guarded_rules own conf graph guards) }
+        ensures state { IfOk result
+            (λ d. state_of d.standing ≡ fresh_of (guarded_rules own conf graph guards)) }
+    {
+        let ruled = Ruled {
+            graph,
+            guards: Some(guards),
+        };
         let configs = Configs::Single {
             number: conf,
             ruled,

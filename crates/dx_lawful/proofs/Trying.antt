@@ -16,7 +16,7 @@ use Rattle.fm_core.specs.Meaning.{OpenCase, Diagnosis}
 use Rattle.ev_graph.specs.Sets.{ascends, ascends_by}
 use Rattle.ev_graph.specs.Kinds.{is_report_node}
 use Rattle.ev_graph.specs.Lawful.{GraphValue}
-use Rattle.ev_graph.specs.declared.instances.Link.{Link}
+use Rattle.ev_graph.specs.Cutting.{is_cut}
 use Rattle.dx_state.specs.Configured.{Configuration}
 use Rattle.dx_state.specs.StateBytes.{is_marked}
 use Rattle.dx_state.specs.Fitting.{is_number_32, case_links_fit, open_case_fits, diagnosis_fits}
@@ -25,7 +25,8 @@ use Rattle.dx_state.specs.LawfulState.{are_engines, open_numbers, solved_numbers
 use Rattle.dx_state.specs.LawfulState.{is_state}
 use Rattle.dx_state.proofs.Lists.{all_other}
 use Rattle.dx_state.proofs.Facts.{case_is, case_back, state_is, state_back}
-use Rattle.dx_lawful.specs.Trials.{could_be_open, could_be_last, have_ranges, are_numbered}
+use Rattle.dx_lawful.specs.Trials.{Guarded, could_be_open, could_be_last, have_ranges}
+use Rattle.dx_lawful.specs.Trials.{are_numbered}
 
 same_tests : (a b : Bool) → (IsTrue a → IsTrue b) → (IsTrue b → IsTrue a) → a ≡ b
 same_tests true b f g = sym (f refl)
@@ -61,11 +62,15 @@ links_spelled marked c h =
     let four = and_parts (counted_fits 4 is_number_32 c.observed) _ three.1 in
     links_by marked c.broken four.1
 
+-- which links the configuration guards
+abbrev guarded_in : Configuration → Guarded
+guarded_in x = is_cut x.guarding.guarded
+
 -- such a case
 case_same : (x : Configuration) (time next : ℕ) (c : OpenCase) → IsTrue (links_ascend c.broken)
-    → could_be_open x.graph x.guarding.guarded time next c ≡ is_open_case x time next c
+    → could_be_open x.graph (guarded_in x) time next c ≡ is_open_case x time next c
 case_same x time next c links =
-    same_tests (could_be_open x.graph x.guarding.guarded time next c) (is_open_case x time next c)
+    same_tests (could_be_open x.graph (guarded_in x) time next c) (is_open_case x time next c)
     (λ h.
     let one = and_parts (ascends c.observed) _ h in
     let two = and_parts (nat_lt c.number next) _ one.1 in
@@ -98,7 +103,7 @@ case_same x time next c links =
 
 cases_same : (x : Configuration) (time next : ℕ) (cs : List OpenCase)
     → IsTrue (list_all (λ c. links_ascend c.broken) cs)
-    → list_all (could_be_open x.graph x.guarding.guarded time next) cs
+    → list_all (could_be_open x.graph (guarded_in x) time next) cs
     ≡ list_all (is_open_case x time next) cs
 cases_same x time next [] h = refl
 cases_same x time next (c ∷ cs) h =
@@ -137,15 +142,15 @@ spelled own s h =
 
 -- what is left to be tried of such a state
 state_same : (own : ℕ) (x : Configuration) (s : Diagnosis) → IsTrue (diagnosis_fits own s)
-    → (have_ranges x.graph x.guarding.guarded s && are_numbered s.open_cases s.solved)
+    → (have_ranges x.graph (guarded_in x) s && are_numbered s.open_cases s.solved)
     ≡ is_state own x s
 state_same own x s fits =
     let parts = spelled own s fits in
     let cases = cases_same x s.time s.next s.open_cases parts.cases in
     let words = words_same own s.next s.solved parts.words in
-    let ranges = have_ranges x.graph x.guarding.guarded s in
+    let ranges = have_ranges x.graph (guarded_in x) s in
     let numbered = are_numbered s.open_cases s.solved in
-    let opens = list_all (could_be_open x.graph x.guarding.guarded s.time s.next) s.open_cases in
+    let opens = list_all (could_be_open x.graph (guarded_in x) s.time s.next) s.open_cases in
     let lasts = list_all (could_be_last s.next) s.solved in
     same_tests (ranges && numbered) (is_state own x s)
     (λ h.
@@ -179,10 +184,13 @@ state_same own x s fits =
     (are_apart (open_numbers s.open_cases) (solved_numbers s.solved)) p.opens_ascend p.apart)))
 
 -- the test of it, in each configuration of this graph and these guarded links
-pub tried : (own : ℕ) (g : GraphValue) (guarded : List Link) (s : Diagnosis) (lawful : Bool)
+pub tried : (own : ℕ) (g : GraphValue) (guarded : Guarded) (s : Diagnosis) (lawful : Bool)
     → IsTrue (diagnosis_fits own s)
     → lawful ≡ (have_ranges g guarded s && are_numbered s.open_cases s.solved)
-    → (x : Configuration) → x.graph ≡ g → x.guarding.guarded ≡ guarded → lawful ≡ is_state own x s
+    → (x : Configuration) → x.graph ≡ g
+    → ((i e : ℕ) → is_cut x.guarding.guarded i e ≡ guarded i e) → lawful ≡ is_state own x s
 tried own g guarded s lawful fits is x graph links =
-    is ∙ ((λ i. have_ranges (sym graph i) (sym links i) s && are_numbered s.open_cases s.solved)
+    is
+    ∙ ((λ i. have_ranges (sym graph i) (λ j e. sym (links j e) i) s
+    && are_numbered s.open_cases s.solved)
     ∙ state_same own x s fits)

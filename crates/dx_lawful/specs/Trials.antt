@@ -6,19 +6,20 @@ use Rattle.fm_entry.specs.declared.list_event.ListEvent.{ListEvent}
 use Rattle.fm_core.specs.Meaning.{OpenCase, Diagnosis}
 use Rattle.ev_graph.specs.Sets.{ascends, is_member}
 use Rattle.ev_graph.specs.Kinds.{is_report_node}
-use Rattle.ev_graph.specs.Cutting.{is_cut}
 use Rattle.ev_graph.specs.Lawful.{GraphValue}
-use Rattle.ev_graph.specs.declared.instances.Link.{Link}
 use Rattle.dx_state.specs.LawfulState.{events_ascend, suspect_name, has_marks, are_engines}
 use Rattle.dx_state.specs.LawfulState.{open_numbers, solved_numbers, are_apart}
 
+-- which links are guarded, as a test of instance and effect
+abbrev pub Guarded : Type 0
+Guarded = ℕ → ℕ → Bool
+
 -- a guarded link to a report that was observed
-abbrev pub is_guarded_link : List Link → List ℕ → Broken → Bool
-is_guarded_link guarded observed l =
-    is_cut guarded l.instance l.effect && is_member observed l.effect
+abbrev pub is_guarded_link : Guarded → List ℕ → Broken → Bool
+is_guarded_link guarded observed l = guarded l.instance l.effect && is_member observed l.effect
 
 -- a case whose broken links are in order is a lawful one, where these links are guarded
-abbrev pub could_be_open : GraphValue → List Link → ℕ → ℕ → OpenCase → Bool
+abbrev pub could_be_open : GraphValue → Guarded → ℕ → ℕ → OpenCase → Bool
 could_be_open g guarded time next c =
     ascends c.observed
     && (nat_lt c.number next
@@ -38,7 +39,7 @@ could_be_last next w =
     && (events_ascend (map suspect_name w.suspects) && has_marks w.kind w.suspects)))
 
 -- the parts of a state, each in itself
-abbrev pub have_ranges : GraphValue → List Link → Diagnosis → Bool
+abbrev pub have_ranges : GraphValue → Guarded → Diagnosis → Bool
 have_ranges g guarded s =
     nat_lt s.time (2 ^ 62)
     && (nat_le s.next (2 ^ 63)

@@ -7,7 +7,7 @@ ghost use Rattle.ev_graph.specs.Kinds.{is_report_node};
 ghost use Rattle.dx_lawful.specs.Trials.{is_guarded_link, could_be_open};
 
 use dx_kept::KeptCase;
-use ev_graph::{CutList, CutTest, Graph, Node, ascends, contains, is_report_node};
+use ev_graph::{CutTest, Graph, Node, ascends, contains, is_report_node};
 use fm_entry::Broken;
 
 /// Whether these are numbers of entries.
@@ -24,18 +24,18 @@ fn are_reports(nodes: &[Node], numbers: &[u32]) -> bool
 }
 
 /// Whether a link is a guarded one, to a report that was observed.
-fn is_guarded_link(guarded: &CutList<'_>, observed: &[u32], link: &Broken) -> bool
+fn is_guarded_link<C: CutTest>(guarded: &C, observed: &[u32], link: &Broken) -> bool
     requires { ascends observed.now ≡ true }
-    ensures { result ≡ is_guarded_link guarded.now.less.now observed.now link.now }
+    ensures { result ≡ is_guarded_link (C.is_cut guarded.now) observed.now link.now }
 {
     guarded.has(link.instance, link.effect) && contains(observed, link.effect)
 }
 
 /// Whether each of some links is.
-fn are_guarded_links(guarded: &CutList<'_>, observed: &[u32], broken: &[Broken]) -> bool
+fn are_guarded_links<C: CutTest>(guarded: &C, observed: &[u32], broken: &[Broken]) -> bool
     requires { ascends observed.now ≡ true }
     ensures { result
-        ≡ list_all (is_guarded_link guarded.now.less.now observed.now) broken.now }
+        ≡ list_all (is_guarded_link (C.is_cut guarded.now) observed.now) broken.now }
 {
     for link in broken {
         if !is_guarded_link(guarded, observed, link) {
@@ -47,14 +47,14 @@ fn are_guarded_links(guarded: &CutList<'_>, observed: &[u32], broken: &[Broken])
 
 /// Whether a case is a lawful one at a time, where the next case gets a number and these links are
 /// guarded.
-fn could_be_open(
+fn could_be_open<C: CutTest>(
     graph: &Graph,
-    guarded: &CutList<'_>,
+    guarded: &C,
     time: u64,
     next: u64,
     case: &KeptCase,
 ) -> bool
-    ensures { result ≡ could_be_open graph.now guarded.now.less.now time next case.now }
+    ensures { result ≡ could_be_open graph.now (C.is_cut guarded.now) time next case.now }
 {
     let observed = case.observed();
     if !ascends(observed) {
@@ -70,15 +70,15 @@ fn could_be_open(
 }
 
 /// Whether each of some cases is.
-pub(crate) fn could_each_be_open(
+pub(crate) fn could_each_be_open<C: CutTest>(
     graph: &Graph,
-    guarded: &CutList<'_>,
+    guarded: &C,
     time: u64,
     next: u64,
     cases: &[KeptCase],
 ) -> bool
     ensures { result
-        ≡ list_all (could_be_open graph.now guarded.now.less.now time next) cases.now }
+        ≡ list_all (could_be_open graph.now (C.is_cut guarded.now) time next) cases.now }
 {
     cases
         .iter()

@@ -18,5 +18,5 @@ mod numbers;
 mod state;
 mod words;
 
-pub use ev_graph::{CutList, NoMemory};
+pub use ev_graph::{CutTest, NoMemory};
 pub use state::is_state;

@@ -1,6 +1,7 @@
 //! Whole states.
 
-ghost use Rattle.std.specs.Prelude.{◌≡◌, ◌&&◌, IsTrue, IfOk};
+ghost use Rattle.std.specs.Prelude.{◌≡◌, ◌&&◌, ℕ, IsTrue, IfOk};
+ghost use Rattle.ev_graph.specs.Cutting.{is_cut};
 ghost use Rattle.dx_state.specs.Configured.{Configuration};
 ghost use Rattle.dx_state.specs.Fitting.{diagnosis_fits};
 ghost use Rattle.dx_state.specs.LawfulState.{is_state};
@@ -12,12 +13,12 @@ use crate::engines::are_engines;
 use crate::numbers::are_numbered;
 use crate::words::could_each_be_last;
 use dx_kept::KeptState;
-use ev_graph::{CutList, Graph, NoMemory};
+use ev_graph::{CutTest, Graph, NoMemory};
 use std::alloc::Global;
 
 /// Whether the parts of a state are lawful, each in itself.
-fn have_ranges(graph: &Graph, guarded: &CutList<'_>, kept: &KeptState) -> bool
-    ensures { result ≡ have_ranges graph.now guarded.now.less.now (diagnosis_of kept.now) }
+fn have_ranges<C: CutTest>(graph: &Graph, guarded: &C, kept: &KeptState) -> bool
+    ensures { result ≡ have_ranges graph.now (C.is_cut guarded.now) (diagnosis_of kept.now) }
 {
     let (time, next) = (kept.time, kept.next);
     time < 1 << 62
@@ -30,16 +31,16 @@ fn have_ranges(graph: &Graph, guarded: &CutList<'_>, kept: &KeptState) -> bool
 /// Whether a state that has a spelling, as one of the module of this number, is lawful in a
 /// configuration with this graph and these guarded links, in all but that each open case waits for
 /// a report.
-pub fn is_state(
+pub fn is_state<C: CutTest>(
     alloc: Global,
     own: u32,
     graph: &Graph,
-    guarded: &CutList<'_>,
+    guarded: &C,
     kept: &KeptState,
 ) -> Result<bool, NoMemory>
     requires { IsTrue (diagnosis_fits own (diagnosis_of kept.now)) }
     ensures { IfOk result (λ lawful. (x : Configuration) → x.graph ≡ graph.now
-        → x.guarding.guarded ≡ guarded.now.less.now
+        → ((i e : ℕ) → is_cut x.guarding.guarded i e ≡ C.is_cut guarded.now i e)
         → lawful ≡ is_state own x (diagnosis_of kept.now)) }
 {
     let _own = own;

@@ -10,7 +10,7 @@ use Rattle.fm_bytes.specs.Reading.{whole}
 use Rattle.fm_core.specs.Meaning.{Diagnosis}
 use Rattle.ev_graph.specs.Lawful.{GraphValue}
 use Rattle.dx_words.specs.Cases.{waits}
-use Rattle.dx_state.specs.Configured.{Rules, found_at, or_none, configuration_at}
+use Rattle.dx_state.specs.Configured.{Rules, found_at, configuration_at}
 use Rattle.dx_state.specs.Fitting.{diagnosis_fits}
 use Rattle.dx_state.specs.LawfulState.{is_state}
 use Rattle.dx_state.specs.StateBytes.{diagnosis_bytes}
@@ -19,11 +19,8 @@ use Rattle.dx_state.proofs.Spelled.{state_fits}
 use Rattle.dx_state.proofs.StateReader.{diagnosis_spelled, diagnosis_whole}
 use Rattle.dx_step.specs.Lawful.{are_rules, is_there, is_lawful}
 use Rattle.dx_step.proofs.Stepping.{IsLawfulState, lawful_is}
-use Rattle.dx_rules.specs.declared.rulebook.Configs.{Configs}
-use Rattle.dx_rules.specs.declared.rulebook.Configs.TheVariants.{Single, Listed}
-use Rattle.dx_rules.specs.declared.rulebook.Rulebook.{Rulebook}
 use Rattle.dx_rules.specs.declared.rulebook.Ruled.{Ruled}
-use Rattle.dx_rules.specs.Rulebooks.{ruled_of, rules_of, configurations_of}
+use Rattle.dx_rules.specs.Rulebooks.{ruled_of}
 use Rattle.dx_restore.specs.declared.parts.Loaded.{Loaded}
 use Rattle.dx_restore.specs.Restoring.{IsRestorable}
 use Rattle.dx_restore.specs.Loading.{graph_at, ArePartsOf, IsLoaded, SpellsNone, IsSpelledState}
@@ -52,28 +49,6 @@ single_there number n x =
       | true ↦ refl
       | false ↦ refl
     ]
-
--- no link of a rulebook's configurations is guarded
-listed_unguarded : (xs : List Ruled) (n : ℕ)
-    → (or_none (slice_get (map ruled_of xs) n)).guarding.guarded ≡ []
-listed_unguarded [] n = refl
-listed_unguarded (x ∷ xs) zero = refl
-listed_unguarded (x ∷ xs) (suc n) = listed_unguarded xs n
-
-unguarded_by : (own : ℕ) (c : Configs) (n : ℕ)
-    → (configuration_at (record { own = own; configurations = configurations_of c })
-    n).guarding.guarded ≡ []
-unguarded_by own (Single number ruled) n =
-    elim (n == number) as (λ (b : Bool).
-    (or_none (if b then Some (ruled_of ruled) else None)).guarding.guarded ≡ []) [
-      | true ↦ refl
-      | false ↦ refl
-    ]
-unguarded_by own (Listed list) n = listed_unguarded list.items n
-
-pub rules_unguarded : (b : Rulebook) (n : ℕ)
-    → (configuration_at (rules_of b) n).guarding.guarded ≡ []
-rules_unguarded b n = unguarded_by b.own b.configs n
 
 -- bytes of a lawful state read as it
 pub lawful_reads : (r : Rules) (bytes : List ℕ) (s : Diagnosis) → length bytes < 2 ^ 64

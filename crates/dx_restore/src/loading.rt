@@ -13,7 +13,7 @@ use crate::cases::restore_cases;
 use crate::engines::restore_engines;
 use crate::parts::Loaded;
 use dx_kept::{KeptState, ReadFault, take_state};
-use dx_lawful::{CutList, is_state};
+use dx_lawful::is_state;
 use dx_rules::{Configs, Rulebook};
 use ev_graph::{Graph, NoMemory};
 use fm_bytes::Input;
@@ -53,9 +53,8 @@ fn read_state(alloc: Global, rules: &Rulebook, bytes: &[u8]) -> Result<Option<Ke
     if !has_configuration(rules, kept.conf) {
         return Ok(None);
     }
-    let graph = rules.graph(kept.conf);
-    let guarded = CutList { less: &[] };
-    let lawful = is_state(alloc, rules.own, graph, &guarded, &kept)?;
+    let ruled = rules.ruled(kept.conf);
+    let lawful = is_state(alloc, rules.own, &ruled.graph, ruled, &kept)?;
     if lawful { Ok(Some(kept)) } else { Ok(None) }
 }
 

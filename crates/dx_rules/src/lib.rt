@@ -4,11 +4,16 @@
 //! `Rules` of dx_state: a single configuration of some number, which is of no list, or a list in
 //! which configurations are numbered from 0. A [`Ruled`] is one configuration (`ruled_of`).
 //!
-//! **Promises.** A rulebook gives the graph of a configuration by its number, how many
-//! configurations it knows of a list, and the links that a report breaks there.
+//! A configuration has guards of the links that payloads can break, or none where they can break
+//! no link.
+//!
+//! **Promises.** A rulebook gives a configuration and its graph by its number, how many
+//! configurations it knows of a list, and the links that a report breaks there. A [`Ruled`] tells
+//! which of its links payloads can break.
 #![tactic(auto)]
 
 mod rulebook;
 
 pub use ev_graph::NoMemory;
+pub use ev_inst::Guards;
 pub use rulebook::{Configs, Rulebook, Ruled};

@@ -1,20 +1,39 @@
 //! Rulebooks.
 
-ghost use Rattle.std.specs.Prelude.{◌≡◌, IsTrue, IfOk};
+ghost use Rattle.std.specs.Prelude.{◌≡◌, None, Some, IsTrue, IfOk, MatchOption};
 ghost use Rattle.fm_nv.specs.Data.{no_pairs};
 ghost use Rattle.dx_state.specs.Configured.{found_at, known_of, configuration_at};
 ghost use Rattle.dx_step.specs.Lawful.{is_there};
 ghost use Rattle.dx_step.specs.Reports.{links_broken};
-ghost use Rattle.dx_rules.specs.Rulebooks.{rules_of};
+ghost use Rattle.dx_rules.specs.Rulebooks.{guarding_if_any, ruled_of, rules_of};
 
-use ev_graph::{Graph, Link, NoMemory};
+use dx_guards::broken_links;
+use ev_graph::{CutTest, Graph, Link, NoMemory};
+use ev_inst::Guards;
 use fm_nv::Nv;
 use std::alloc::Global;
 
-/// One configuration.
+/// One configuration: its graph, and the guards of the links that payloads can break; none where
+/// they can break no link.
 #[derive(Drop)]
 pub struct Ruled {
     pub graph: Graph,
+    pub guards: Option<Guards>,
+}
+
+/// Which links of the configuration payloads can break.
+impl CutTest for Ruled {
+    ghost use Rattle.ev_graph.specs.Cutting.{is_cut};
+    ghost use Rattle.dx_rules.specs.Rulebooks.{ruled_of};
+
+    ghost is_cut = { λ x. is_cut (ruled_of x).guarding.guarded };
+
+    fn has(&self, instance: u32, effect: u32) -> bool {
+        match &self.guards {
+            Some(guards) => guards.is_guarded(instance, effect),
+            None => false,
+        }
+    }
 }
 
 /// The configurations of a module: a single one of some number, which is of no list, or a list, in
@@ -32,7 +51,72 @@ pub struct Rulebook {
     pub configs: Configs,
 }
 
+/// Equal guards, if any.
+fn copy_guards(alloc: Global, guards: &Option<Guards>) -> Result<Option<Guards>, NoMemory>
+    ensures { IfOk result (λ copy. guarding_if_any copy ≡ guarding_if_any guards.now) }
+{
+    match guards {
+        Some(guards) => {
+            let copy = guards.copy(alloc)?;
+            Ok(Some(copy))
+        }
+        None => Ok(None),
+    }
+}
+
+impl Ruled {
+    /// An equal configuration.
+    pub fn copy(&self, alloc: Global) -> Result<Ruled, NoMemory>
+        ensures { IfOk result (λ copy. ruled_of copy ≡ ruled_of self.now) }
+    {
+        let graph = self.graph.copy(alloc)?;
+        let guards = copy_guards(alloc, &self.guards)?;
+        Ok(Ruled { graph, guards })
+    }
+
+    /// The links of a report that its payload breaks.
+    fn broken_by(&self, alloc: Global, node: u32, payload: &Nv) -> Result<Vec<Link>, NoMemory>
+        ensures { IfOk result
+            (λ links. links.items ≡ links_broken (ruled_of self.now) node payload.now) }
+    {
+        match &self.guards {
+            Some(guards) => broken_links(alloc, guards, node, payload),
+            None => Ok(Vec::new(alloc)),
+        }
+    }
+}
+
 impl Rulebook {
+    /// The configuration of this number, if there is one.
+    fn found(&self, conf: u32) -> Option<&Ruled>
+        ensures { MatchOption result (found_at (rules_of self.now).configurations conf ≡ None)
+            (λ ruled. found_at (rules_of self.now).configurations conf ≡ Some (ruled_of ruled.now)) }
+    {
+        match &self.configs {
+            Configs::Single { number, ruled } => {
+                if conf == *number { Some(ruled) } else { None }
+            }
+            Configs::Listed(list) => {
+                if (conf as usize) < list.len() {
+                    Some(&list[conf as usize])
+                } else {
+                    None
+                }
+            }
+        }
+    }
+
+    /// The configuration of this number.
+    pub fn ruled(&self, conf: u32) -> &Ruled
+        requires { IsTrue (is_there (found_at (rules_of self.now).configurations conf)) }
+        ensures { ruled_of result.now ≡ configuration_at (rules_of self.now) conf }
+    {
+        match &self.configs {
+            Configs::Single { ruled, .. } => ruled,
+            Configs::Listed(list) => &list[conf as usize],
+        }
+    }
+
     /// The graph of the configuration of this number.
     pub fn graph(&self, conf: u32) -> &Graph
         requires { IsTrue (is_there (found_at (rules_of self.now).configurations conf)) }
@@ -65,8 +149,10 @@ impl Rulebook {
         ensures { IfOk result (λ links. links.items
             ≡ links_broken (configuration_at (rules_of self.now) conf) node payload.now) }
     {
-        let (_conf, _node, _payload) = (conf, node, payload);
-        Ok(Vec::new(alloc))
+        match self.found(conf) {
+            Some(ruled) => ruled.broken_by(alloc, node, payload),
+            None => Ok(Vec::new(alloc)),
+        }
     }
 
     /// The links of a report, in the configuration of this number, that it breaks where it carries
@@ -75,7 +161,7 @@ impl Rulebook {
         ensures { IfOk result (λ links. links.items
             ≡ links_broken (configuration_at (rules_of self.now) conf) node no_pairs) }
     {
-        let (_conf, _node) = (conf, node);
-        Ok(Vec::new(alloc))
+        let none = Nv::new(alloc);
+        self.broken_by(alloc, conf, node, &none)
     }
 }

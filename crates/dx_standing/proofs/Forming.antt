@@ -47,10 +47,6 @@ formed_graph g h =
     (λ e a b. and_from (has_engine_limits e) (is_report_node g.nodes e.trip) a b)
     g.engines limits.0 kinds.0)
 
--- no link of the configuration is guarded
-pub unguarded_formed : (b : Bool) → (b && (true && true)) ≡ b
-unguarded_formed b = and_yes b
-
 -- configurations of a list
 pub listed_formed : (xs : List Ruled) → length xs ≤ 2 ^ 32
     → list_all (λ x. is_formed_configuration (ruled_of x)) xs

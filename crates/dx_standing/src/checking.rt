@@ -4,12 +4,13 @@ ghost use Rattle.std.specs.Prelude.{◌≡◌, ◌&&◌, ◌^◌, nat_lt, length
 ghost use Rattle.std.specs.List.{list_all};
 ghost use Rattle.fm_entry.specs.Words.{event_fits};
 ghost use Rattle.dx_meaning.specs.Fresh.{first_of};
-ghost use Rattle.dx_rules.specs.Rulebooks.{ruled_of, configurations_of, rules_of};
+ghost use Rattle.dx_rules.specs.Rulebooks.{guarding_if_any, ruled_of, configurations_of, rules_of};
 ghost use Rattle.dx_state.specs.Configured.{found_at};
 ghost use Rattle.dx_state.specs.LawfulState.{is_formed, is_formed_configuration};
 ghost use Rattle.dx_step.specs.Lawful.{are_configurations, are_rules, is_there};
+ghost use Rattle.dx_standing.specs.Guarding.{are_few};
 
-use dx_rules::{Configs, Rulebook, Ruled};
+use dx_rules::{Configs, Guards, Rulebook, Ruled};
 use ev_graph::{Graph, Node};
 use fm_name::EventName;
 
@@ -37,11 +38,21 @@ fn is_formed(graph: &Graph) -> bool
     names_fit(graph.nodes()) && graph.engines().len() < 1 << 32
 }
 
+/// Whether the links that payloads can break are few.
+fn have_few(guards: &Option<Guards>) -> bool
+    ensures { result ≡ are_few (guarding_if_any guards.now) }
+{
+    match guards {
+        Some(guards) => guards.has_few_links(),
+        None => true,
+    }
+}
+
 /// Whether the configuration is.
 fn is_formed_configuration(ruled: &Ruled) -> bool
     ensures { result ≡ is_formed_configuration (ruled_of ruled.now) }
 {
-    is_formed(&ruled.graph)
+    is_formed(&ruled.graph) && have_few(&ruled.guards)
 }
 
 /// Whether each configuration of a list is.

@@ -1,7 +1,7 @@
 -- Modules that are made, one after another, and what is known of them.
 use Rattle.std.proofs.Common.{◌≡◌, ℕ, zero, suc, ◌+◌, ◌<◌, ◌≤◌, List, [], ◌∷◌, ◌++◌, length, map}
 use Rattle.std.proofs.Common.{take}
-use Rattle.std.proofs.Common.{Option, Some, None, refl, sym, ap, ◌∙◌, subst, arith, slice_get}
+use Rattle.std.proofs.Common.{Some, refl, sym, ap, ◌∙◌, subst, arith, slice_get}
 use Rattle.std.proofs.Common.{get_or}
 use Rattle.std.specs.List.{All, range_with_len}
 use Rattle.std.specs.Option.{ForSome}
@@ -12,7 +12,7 @@ use Rattle.std.proofs.lemmas.Option.{get_or_from_slice_get, slice_get-map, slice
 use Rattle.std.proofs.lemmas.Option.{slice_get_within}
 use Rattle.fm_core.proofs.Lists.{map_got}
 use Rattle.fm_core.specs.Book.{ModuleState}
-use Rattle.fm_core.specs.Meaning.{Diagnosing, State, conf_of}
+use Rattle.fm_core.specs.Meaning.{Diagnosing, conf_of}
 use Rattle.fm_init.specs.Making.{AreFirstModules}
 use Rattle.fm_looks.specs.Looks.{AreKeptConfs}
 use Rattle.fm_saved.specs.declared.conf.Conf.{Conf}

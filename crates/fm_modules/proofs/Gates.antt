@@ -1,7 +1,7 @@
 -- How long configurations are, and where they stand one after another.
 use Rattle.std.proofs.Common.{◌≡◌, ℕ, zero, suc, ◌+◌, ◌*◌, ◌^◌, ◌<◌, ◌≤◌, List, [], ◌∷◌, ◌++◌}
 use Rattle.std.proofs.Common.{length, map}
-use Rattle.std.proofs.Common.{take, refl, sym, ap, ◌∙◌, subst, arith, slice_get, get_or, Some}
+use Rattle.std.proofs.Common.{take, refl, sym, ap, ◌∙◌, subst, arith, get_or}
 use Rattle.std.proofs.Common.{length-append}
 use Rattle.std.specs.List.{All, flat_map}
 use Rattle.std.proofs.lemmas.List.{length-map, length-take-le, get_or-take, take_all, take_more}

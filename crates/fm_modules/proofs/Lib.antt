@@ -1,4 +1,5 @@
 pub mod FirstModules
 mod Gates
+mod Guarding
 mod KeptRows
 mod StoreModules

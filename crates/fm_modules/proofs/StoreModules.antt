@@ -1,42 +1,35 @@
 -- The looks of an opening with the one at the modules among them, and what a store is opened with.
-use Rattle.std.proofs.Common.{◌≡◌, inl, inr, ℕ, List, [], ◌∷◌, ◌++◌, map, take, Some, slice_get}
+use Rattle.std.proofs.Common.{◌≡◌, inl, inr, List, [], ◌∷◌, ◌++◌, map, Some, slice_get}
 use Rattle.std.proofs.Common.{refl, sym, ◌∙◌, ap, subst}
 use Rattle.fm_core.specs.Book.{ModuleState}
-use Rattle.fm_entry.specs.declared.entry.Entry.{Entry}
 use Rattle.fm_init.specs.Making.{AreFirstModules}
 use Rattle.fm_init.specs.declared.refused.StoreRefused.{StoreRefused}
 use Rattle.fm_logs.specs.Contents.{Contents, AreTold, WereOnlyRead, disk_named}
 use Rattle.fm_logs.specs.ReadsAsBook.{SpellsConf}
 use Rattle.fm_logs.specs.StoreBook.{force_along}
 use Rattle.fm_logs.specs.declared.disks.Disks.{Disks}
-use Rattle.fm_logs.specs.declared.disks.DiskName.{DiskName}
 use Rattle.fm_logs.specs.declared.disks.DiskName.TheVariants.{Conf as ConfDisk}
 use Rattle.fm_logs.specs.declared.fault.StoreFault.{StoreFault}
 use Rattle.fm_logs.specs.declared.fault.StoreFault.TheVariants.{Disk, Full, Closed, Damaged, Exists}
 use Rattle.fm_logs.specs.declared.fault.StoreFault.TheVariants.{NoMemory}
 use Rattle.fm_looks.proofs.Spelled.{conf_once}
 use Rattle.fm_looks.specs.Opening.{AllStorePass, DamageAt, FirstStoreFinds, StoreLook, StorePasses}
-use Rattle.fm_looks.specs.Opening.{WasRead, adopt_looks, all_looks, at_confs, book_read, from_base}
+use Rattle.fm_looks.specs.Opening.{WasRead, adopt_looks, at_confs, book_read}
 use Rattle.fm_looks.specs.Opening.{open_looks}
 use Rattle.fm_outer.proofs.Moments.{OnlyNow, read-none, read-then}
 use Rattle.fm_outer.specs.Failures.{Rose}
-use Rattle.fm_outer.specs.Moments.{OnlyRead}
 use Rattle.fm_outer.specs.declared.disk.Disk.{Ghosts}
-use Rattle.fm_saved.specs.declared.checkpoint.Checkpoint.{Checkpoint}
 use Rattle.fm_saved.specs.declared.conf.Conf.{Conf}
 use Rattle.fm_store.proofs.Damages.{same_log}
 use Rattle.fm_store.proofs.OpeningLaws.{opens_book, reads_as_book}
 use Rattle.fm_store.specs.Adopting.{AdoptRefused, Adopts}
-use Rattle.fm_store.specs.Opened.{NoneFailed, OpenRefused, OpenedOf, Opens, OpensBook, RoseOnAny}
+use Rattle.fm_store.specs.Opened.{NoneFailed, OpenRefused, OpenedOf, Opens, OpensBook}
 use Rattle.fm_store.specs.Opened.{disks_of}
-use Rattle.fm_store.specs.StoreOf.{made_modules}
-use Rattle.dx_engine.specs.Diagnosers.{DiagnoserOf}
 use Rattle.fm_modules.specs.KeptTexts.{IsFirstRefused}
 use Rattle.fm_modules.specs.Modules.{AreModulesOf, ModulesCause, diagnosers}
 use Rattle.fm_modules.specs.OpenStore.{ModulesRefused, OpenStoreRefused, OpensStore}
 use Rattle.fm_modules.specs.OpenStore.{fault_of_modules}
 use Rattle.fm_modules.specs.Opening.{FirstOpeningFinds, OpeningLook, at_disk, at_modules, conf_gate}
-use Rattle.fm_modules.specs.Opening.{opening_looks}
 use Rattle.fm_modules.specs.declared.fault.ModulesFault.{ModulesFault}
 use Rattle.fm_modules.specs.declared.fault.ModulesFault.TheVariants as modules
 use Rattle.fm_modules.specs.declared.opening.OpenStore.{OpenStore}

@@ -10,11 +10,13 @@ use Rattle.fm_sources.specs.Rules.{IsRuleFile, IsRulesFault}
 use Rattle.fm_sources.specs.declared.faults.RulesKind.{RulesKind}
 use Rattle.ev_check.specs.CheckedFile.{CheckedFile}
 use Rattle.ev_file.specs.declared.made.Made.{Made}
-use Rattle.ev_graph.specs.Lawful.{IsGraph}
+use Rattle.ev_graph.specs.Lawful.{GraphValue, IsGraph}
+use Rattle.ev_inst.specs.Guards.{AreGuardsOf, GuardsValue}
 use Rattle.ev_inst.specs.Instances.{IsInstFault, IsMadeOf}
 use Rattle.ev_inst.specs.declared.fault.InstFault.TheVariants.{Nodes, Links}
 use Rattle.dx_rules.specs.Rulebooks.{ruled_of}
-use Rattle.dx_state.specs.Configured.{Configuration, unguarded}
+use Rattle.dx_state.specs.Configured.{Configuration, Guarding}
+use Rattle.dx_guards.specs.Payloads.{guarding_of}
 use Rattle.fm_modules.specs.declared.kept.MadeConf.{MadeConf}
 use Rattle.fm_modules.specs.declared.fault.KeptFault.{KeptFault}
 use Rattle.fm_modules.specs.declared.fault.KeptFault.TheVariants.{Refused, NoMemory}
@@ -30,15 +32,24 @@ pub record IsTopologyText (text : List ℕ) (topo : Topology) : Type 0 where
   pub clean : IsClean text
   pub topology_is : topo ≡ topology_of text
 
+-- a checked rule file, which has this graph over the topology, says this of payloads: just the
+-- guarded links of the graph are guarded, and a payload breaks just those that it breaks by the
+-- conditions of the file
+pub record MakesGuarding (checked : CheckedFile) (topo : Topology) (g : GraphValue)
+    (x : Guarding) : Type 0 where
+  pub guards : GuardsValue
+  pub are : AreGuardsOf checked topo g guards
+  pub guarding_is : x ≡ guarding_of guards
+
 -- a checked rule file makes this configuration of a module over the topology: its graph, which is
--- one, and no link of which a payload breaks
+-- one, and what it says of payloads
 pub record MakesConfiguration (checked : CheckedFile) (topo : Topology) (x : Configuration)
     : Type 0 where
   pub made : Made
   pub is_made : IsMadeOf checked topo made
   pub graph_is : x.graph ≡ made.graph
   pub is_graph : IsGraph x.graph
-  pub guarding_is : x.guarding ≡ unguarded
+  pub guarding : MakesGuarding checked topo x.graph x.guarding
 
 -- the text is a rule file, which makes this configuration of a module
 pub record TextMakes (topo : Topology) (text : List ℕ) (x : Configuration) : Type 0 where

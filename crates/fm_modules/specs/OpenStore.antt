@@ -1,5 +1,5 @@
 -- A store that is open with its modules, and why one is not.
-use Rattle.std.specs.Prelude.{◌≡◌, ℕ, ◌≤◌, List, length, slice_get, Some}
+use Rattle.std.specs.Prelude.{◌≡◌, ◌≤◌, List, length, slice_get, Some}
 use Rattle.fm_outer.specs.declared.disk.Disk.{Ghosts}
 use Rattle.fm_core.specs.Book.{ModuleState}
 use Rattle.fm_logs.specs.Contents.{Contents, AreTold}

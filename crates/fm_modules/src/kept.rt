@@ -1,17 +1,22 @@
 //! What the texts of a configuration come to.
 
-ghost use Rattle.std.specs.Prelude.{◌≤◌, length, IfOk, IfErr};
-ghost use Rattle.dx_rules.specs.Rulebooks.{ruled_of};
+ghost use Rattle.std.specs.Prelude.{◌≡◌, ◌≤◌, length, IfOk, IfErr};
+ghost use Rattle.dx_rules.specs.Rulebooks.{guarding_if_any, ruled_of};
+ghost use Rattle.ev_graph.specs.Lawful.{IsGraph};
+ghost use Rattle.ev_inst.specs.Guards.{IsInstantiated};
 ghost use Rattle.ev_inst.specs.Instances.{IsInstFault};
 ghost use Rattle.fm_modules.specs.KeptTexts.{AreRefusedTexts, ConfMakes, EachHas, IsFirstRefused};
 ghost use Rattle.fm_modules.specs.KeptTexts.{IsRefusedConf, IsRefusedText, KeptCause};
-ghost use Rattle.fm_modules.specs.KeptTexts.{MakesConfiguration, TextMakes, conf_row, conf_rows};
+ghost use Rattle.fm_modules.specs.KeptTexts.{MakesConfiguration, MakesGuarding, TextMakes};
+ghost use Rattle.fm_modules.specs.KeptTexts.{conf_row, conf_rows};
 ghost use Rattle.fm_modules.specs.Modules.{ModulesCause, NumberedCause};
 
 use crate::fault::{KeptFault, ModulesFault};
 use dx_rules::Ruled;
 use ev_check::Checked;
-use ev_inst::{InstFault, instantiate};
+use ev_graph::Graph;
+use ev_inst::{Guards, InstFault, instantiate, make_guards};
+use fm_bytes::NoMemory;
 use fm_saved::{Conf, ConfText};
 use fm_sources::{RulesFault, read_rules};
 use fm_topo::{Topo, TopoFault, read_topo};
@@ -23,6 +28,45 @@ pub(crate) struct MadeConf {
     pub(crate) files: Vec<Ruled>,
 }
 
+/// The guards of the links that payloads can break, in the graph of a checked rule file over a
+/// topology; none where they can break no link.
+fn guards_of(
+    alloc: Global,
+    checked: &Checked,
+    topo: &Topo,
+    graph: &Graph,
+) -> Result<Option<Guards>, NoMemory>
+    requires { IsInstantiated checked.now topo.now graph.now }
+    ensures { IfOk result
+        (λ guards. MakesGuarding checked.now topo.now graph.now (guarding_if_any guards)) }
+{
+    let topo = topo.copy(alloc)?;
+    let guards = make_guards(alloc, checked, topo, graph)?;
+    if guards.is_empty() {
+        return Ok(None);
+    }
+    Ok(Some(guards))
+}
+
+/// What the graph of a checked rule file over a topology makes.
+fn guard_graph(
+    alloc: Global,
+    checked: &Checked,
+    topo: &Topo,
+    graph: Graph,
+) -> Result<Ruled, NoMemory>
+    requires { IsInstantiated checked.now topo.now graph }
+    ensures graph { IfOk result (λ ruled. (ruled_of ruled).graph ≡ graph) }
+    ensures is_graph { IfOk result (λ ruled. IsGraph (ruled_of ruled).graph) }
+    ensures guarding { IfOk result
+        (λ ruled. MakesGuarding checked.now topo.now graph (ruled_of ruled).guarding) }
+{
+    // for the proof alone: that it is a graph
+    let _nodes = graph.nodes();
+    let guards = guards_of(alloc, checked, topo, &graph)?;
+    Ok(Ruled { graph, guards })
+}
+
 /// What a checked rule file makes over a topology.
 fn make_ruled(alloc: Global, checked: &Checked, topo: &Topo) -> Result<Ruled, InstFault>
     ensures makes { IfOk result
@@ -30,9 +74,8 @@ fn make_ruled(alloc: Global, checked: &Checked, topo: &Topo) -> Result<Ruled, In
     ensures refused { IfErr result (IsInstFault checked.now topo.now) }
 {
     let made = instantiate(alloc, checked, topo)?;
-    // for the proof alone: that it is a graph
-    let _nodes = made.graph.nodes();
-    Ok(Ruled { graph: made.graph })
+    let ruled = guard_graph(alloc, checked, topo, made.graph)?;
+    Ok(ruled)
 }
 
 /// What the text of a rule file makes over a topology.

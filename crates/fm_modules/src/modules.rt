@@ -19,15 +19,6 @@ use fm_bytes::NoMemory;
 use fm_saved::Conf;
 use std::alloc::Global;
 
-/// An equal configuration of a module.
-fn copy_ruled(alloc: Global, ruled: &Ruled) -> Result<Ruled, NoMemory>
-    ensures { IfOk result (λ copy. ruled_of copy ≡ ruled_of ruled.now) }
-{
-    Ok(Ruled {
-        graph: ruled.graph.copy(alloc)?,
-    })
-}
-
 /// Copies of what the rule file of a number makes in each configuration.
 fn copy_file(alloc: Global, mades: &[MadeConf], file: usize) -> Result<Vec<Ruled>, NoMemory>
     requires { All (λ made. file < length made.files.items) mades.now }
@@ -36,7 +27,7 @@ fn copy_file(alloc: Global, mades: &[MadeConf], file: usize) -> Result<Vec<Ruled
 {
     let mut list = Vec::with_capacity(alloc, mades.len())?;
     'mades: for made in mades {
-        list.push(copy_ruled(alloc, &made.files[file])?)?;
+        list.push(made.files[file].copy(alloc)?)?;
     }
     Ok(list)
 }

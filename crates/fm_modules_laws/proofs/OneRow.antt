@@ -5,7 +5,11 @@ use Rattle.fm_saved.specs.declared.conf.Conf.{Conf}
 use Rattle.fm_topo.specs.Topology.{Topology}
 use Rattle.ev_check.specs.CheckedFile.{CheckedFile}
 use Rattle.ev_check.specs.Sound.{IsSound}
+use Rattle.ev_graph.specs.Lawful.{GraphValue}
+use Rattle.ev_inst.specs.Guards.{AreGuardsOf}
+use Rattle.ev_inst.proofs.GuardsAlike.{guards_alike}
 use Rattle.ev_inst_laws.proofs.OneGraph.{graphs_one}
+use Rattle.dx_guards.proofs.Alike.{same_guarding}
 use Rattle.dx_state.specs.Configured.{Configuration}
 use Rattle.fm_sources.specs.Rules.{IsRuleFile}
 use Rattle.fm_sources_laws.proofs.OneFile.{rule_files_one}
@@ -30,7 +34,18 @@ text_one topo text x y a b =
     (rule_files_one text a.checked b.checked a.is_rules b.is_rules) a.makes.is_made.graph
     b.makes.is_made.graph).0 in
     let same : x.graph ≡ y.graph = a.makes.graph_is ∙ graph ∙ sym b.makes.graph_is in
-    let guarding : x.guarding ≡ y.guarding = a.makes.guarding_is ∙ sym b.makes.guarding_is in
+    let files : b.checked ≡ a.checked =
+    sym (rule_files_one text a.checked b.checked a.is_rules b.is_rules) in
+    let others : AreGuardsOf a.checked topo x.graph b.makes.guarding.guards =
+    subst (λ (f : CheckedFile). AreGuardsOf f topo x.graph b.makes.guarding.guards) files
+    (subst (λ (g : GraphValue). AreGuardsOf b.checked topo g b.makes.guarding.guards) (sym same)
+    b.makes.guarding.are) in
+    let guarding : x.guarding ≡ y.guarding =
+    a.makes.guarding.guarding_is
+    ∙ same_guarding b.makes.guarding.guards a.makes.guarding.guards
+    (guards_alike a.checked topo x.graph b.makes.guarding.guards a.makes.guarding.guards others
+    a.makes.guarding.are)
+    ∙ sym b.makes.guarding.guarding_is in
     λ i. record { graph = same i; guarding = guarding i }
 
 each_one : {A B : Type 0} (has : A → B → Type 0)

@@ -71,7 +71,10 @@ fn ruled(alloc: Global, text: &str) -> Result<Ruled, Fail> {
     let topo = topology(alloc)?;
     let checked = checked(alloc, text)?;
     match instantiate(alloc, &checked, &topo) {
-        Ok(made) => Ok(Ruled { graph: made.graph }),
+        Ok(made) => Ok(Ruled {
+            graph: made.graph,
+            guards: None,
+        }),
         Err(_) => Err(Fail::new("no graph")),
     }
 }

@@ -57,7 +57,10 @@ fn rulebook(alloc: Global) -> Result<Rulebook, Fail> {
         own: 0,
         configs: Configs::Single {
             number: 2,
-            ruled: Ruled { graph },
+            ruled: Ruled {
+                graph,
+                guards: None,
+            },
         },
     })
 }

@@ -5,16 +5,16 @@ use Rattle.dx_lawful.proofs.Trying.{tried}
 use Rattle.dx_lawful.proofs.state.is_state.Goals as goal
 
 pub returns-then-not-have_ranges : goal.returns-then-not-have_ranges
-returns-then-not-have_ranges c =
+returns-then-not-have_ranges g c =
     let s = diagnosis_of c.args.kept.now in
-    tried c.args.own c.args.graph.now c.args.guarded.now.less.now s false c.requires
+    tried c.args.own c.args.graph.now (g.C.CutTest.is_cut c.args.guarded.now) s false c.requires
     (sym (ap (λ (b : Bool). b && are_numbered s.open_cases s.solved)
     (sym c.have_ranges.ensures ∙ c.if-not-have_ranges.true)))
 
 pub returns : goal.returns
-returns c =
+returns g c =
     let s = diagnosis_of c.args.kept.now in
-    tried c.args.own c.args.graph.now c.args.guarded.now.less.now s c.in_ok-numbered.numbered
+    tried c.args.own c.args.graph.now (g.C.CutTest.is_cut c.args.guarded.now) s c.in_ok-numbered.numbered
     c.requires
     (c.in_ok-numbered.ensures
     ∙ (λ i. are_numbered (c.as_slice.ensures i) (c.as_slice-2.ensures i))

@@ -1,5 +1,4 @@
 -- A text that is refused over the topology.
-use Rattle.std.proofs.Common.{inr, subst}
 use Rattle.std.proofs.lemmas.Result.{IfErr-weaker}
 use Rattle.fm_modules.specs.KeptTexts.{AreRefusedTexts, IsRefusedConf, KeptCause}
 use Rattle.fm_modules.proofs.KeptRows.{conf_refused}

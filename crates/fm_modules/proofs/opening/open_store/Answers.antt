@@ -1,7 +1,6 @@
 -- What the opening is to the disks that were handed in.
 use Rattle.std.proofs.Common.{◌≡◌, ◌∙◌}
 use Rattle.std.proofs.lemmas.Result.{IfErr-weaker, IfOk-weaker}
-use Rattle.fm_init.specs.declared.refused.StoreRefused.{StoreRefused}
 use Rattle.fm_logs.specs.Contents.{Contents, AreTold, disk_named}
 use Rattle.fm_logs.specs.declared.disks.DiskName.{DiskName}
 use Rattle.fm_store.specs.Opened.{Opens, disks_of}

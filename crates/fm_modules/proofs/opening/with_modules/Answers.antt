@@ -1,7 +1,9 @@
 -- What is open with its modules, and why it is not.
+use denote.Param.Send.{sendable}
 use Rattle.std.proofs.Common.{List, sym, ◌∙◌, ap, subst, Some}
 use Rattle.fm_saved.specs.declared.conf.Conf.{Conf}
 use Rattle.fm_store.specs.StoreOf.{made_modules}
+use Rattle.dx_engine.proofs.Crossing.{diagnoser_send}
 use Rattle.fm_modules.specs.Modules.{AreModulesOf, ModulesCause, diagnosers}
 use Rattle.fm_modules.specs.OpenStore.{fault_of_modules}
 use Rattle.fm_modules.proofs.FirstModules.{few_modules}
@@ -53,3 +55,6 @@ returns-in-Err-make_modules-clause-refused g c =
     c.confs-in-Err-make_modules.ensures.confs)
     (subst (λ (l : List Conf). ModulesCause l fault) c.confs.ensures.confs
     c.in-Err-make_modules.ensures.refused)
+
+pub adopt-requires-send-M : goal.adopt-requires-send-M
+adopt-requires-send-M g c κs = search (diagnoser_send, sendable)

@@ -1,7 +1,9 @@
 -- One hand after another gives its open cases.
+use denote.Param.Send.{sendable}
 use Rattle.std.proofs.Common.{◌≡◌, ◌++◌, flat_map, map, ap, ◌∙◌}
 use Rattle.std.proofs.lemmas.List.{take_all}
 use Rattle.fm_core.specs.Hands.{shown}
+use Rattle.dx_engine.proofs.Crossing.{diagnoser_send}
 use Rattle.fm_summary.specs.DrainedSummary.{diagnosers, open_by_state, open_of_shown}
 use Rattle.fm_summary.proofs.OpenCases.{hands_none, hands_more}
 use Rattle.fm_summary.proofs.open_cases.open_reports.Goals as goal
@@ -29,3 +31,6 @@ pub returns : goal.returns
 returns c = c.hands.invariant
     ∙ ap (λ l. flat_map open_of_shown (map (shown diagnosers) l))
     (take_all c.hands.hand-index c.args.hands.now c.hands-test.false)
+
+pub state-requires-send-M : goal.state-requires-send-M
+state-requires-send-M c κs = search (diagnoser_send, sendable)
