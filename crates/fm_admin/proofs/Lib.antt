@@ -1,3 +1,6 @@
 pub mod Left
 pub mod Tellings
 pub mod Rotations
+pub mod Rows
+pub mod Repairs
+pub mod RepairBooks

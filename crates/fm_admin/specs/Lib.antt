@@ -1,2 +1,4 @@
 pub mod Telling
 pub mod Rotation
+pub mod Marking
+pub mod Repairing

@@ -10,8 +10,12 @@
 //! contents that read like the book of before, or with the entry that was being accepted.
 #![tactic(auto)]
 
+mod marking;
+mod repairing;
 mod rotating;
 mod telling;
 
+pub use marking::{Repair, RepairOrder};
+pub use repairing::{Repaired, repair};
 pub use rotating::rotate_drained;
 pub use telling::tell_faulty;
