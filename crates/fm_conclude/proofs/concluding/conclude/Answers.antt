@@ -1,8 +1,10 @@
 -- The store was drained to its base and its records read, or the one or the other was refused.
+use denote.Param.Send.{sendable}
 use Rattle.std.proofs.Common.{OnOk, IfErr, sym, subst}
 use Rattle.fm_store.specs.StoreCalls.{HandsAreDone}
 use Rattle.fm_settled.specs.ToBase.{IsAtBase, ToBaseDoes, ToBaseOnBook, ToBaseRefused}
 use Rattle.fm_summary.specs.DrainedSummary.{diagnosers}
+use Rattle.dx_engine.proofs.Crossing.{diagnoser_send}
 use Rattle.fm_conclude.proofs.Counts.{base_counts, told_counts}
 use Rattle.fm_conclude.proofs.Conclusions.{base_refused, concluded_told, full_by, reads_full}
 use Rattle.fm_conclude.proofs.Conclusions.{reads_refused, refused_book, told_book}
@@ -91,3 +93,6 @@ returns-clause-book g c = λ fresh k stands follow.
     (subst (λ r. ToBaseOnBook g.D.Disk diagnosers fresh c.args.store.now
     c.drain_to_base-hands.new.store k c.drain_to_base-hands.result.0.items r) c.in-Err.is
     (c.drain_to_base-hands.ensures.book fresh k stands follow))
+
+pub drain_to_base-hands-requires-send-M : goal.drain_to_base-hands-requires-send-M
+drain_to_base-hands-requires-send-M g c κs = search (diagnoser_send, sendable)
