@@ -1,2 +1,3 @@
+pub mod CopiedGuards
 pub mod OneRow
 pub mod OneBook

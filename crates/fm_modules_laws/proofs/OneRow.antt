@@ -15,6 +15,7 @@ use Rattle.fm_sources.specs.Rules.{IsRuleFile}
 use Rattle.fm_sources_laws.proofs.OneFile.{rule_files_one}
 use Rattle.fm_modules.specs.KeptTexts.{ConfMakes, EachHas, TextMakes}
 use Rattle.fm_modules.specs.Modules.{AreModulesOf, file_count, first_modules}
+use Rattle.fm_modules_laws.proofs.CopiedGuards.{guards_of_copy}
 
 sound_of : (text : List ℕ) (f : CheckedFile) → IsRuleFile text f → IsSound f
 sound_of text f h = record {
@@ -34,10 +35,9 @@ text_one topo text x y a b =
     (rule_files_one text a.checked b.checked a.is_rules b.is_rules) a.makes.is_made.graph
     b.makes.is_made.graph).0 in
     let same : x.graph ≡ y.graph = a.makes.graph_is ∙ graph ∙ sym b.makes.graph_is in
-    let files : b.checked ≡ a.checked =
-    sym (rule_files_one text a.checked b.checked a.is_rules b.is_rules) in
     let others : AreGuardsOf a.checked topo x.graph b.makes.guarding.guards =
-    subst (λ (f : CheckedFile). AreGuardsOf f topo x.graph b.makes.guarding.guards) files
+    guards_of_copy a.checked b.checked topo x.graph b.makes.guarding.guards
+    (rule_files_one text a.checked b.checked a.is_rules b.is_rules)
     (subst (λ (g : GraphValue). AreGuardsOf b.checked topo g b.makes.guarding.guards) (sym same)
     b.makes.guarding.are) in
     let guarding : x.guarding ≡ y.guarding =
