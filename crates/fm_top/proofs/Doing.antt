@@ -103,7 +103,7 @@ pub record Rests (before after : Outside) : Type 0 where
   pub acts : after.acts ≡ before.acts
 
 -- the counts of a command that is done
-quiet_counts : (before after : Outside) → Rests before after
+pub quiet_counts : (before after : Outside) → Rests before after
     → after.input.failures ≡ before.input.failures → after.out.failures ≡ before.out.failures
     → disk_counts after.disks ≡ disk_counts before.disks → counts_of after ≡ counts_of before
 quiet_counts before after rests input out disks =

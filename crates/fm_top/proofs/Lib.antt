@@ -1,4 +1,5 @@
 pub mod Accepts
+pub mod AdminDoing
 pub mod AnswerLists
 pub mod BookHeld
 pub mod Confs
@@ -26,3 +27,5 @@ pub mod Standing
 pub mod Stopping
 pub mod Summaries
 pub mod Tallies
+pub mod TasksDone
+pub mod Texts

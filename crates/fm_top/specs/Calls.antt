@@ -2,6 +2,7 @@
 use Rattle.std.specs.Prelude.{◌≡◌, ℕ, List, Option, None, Some, Result, Err, OnOk, IfErr}
 use Rattle.fm_outer.specs.Failures.{Rose}
 use Rattle.fm_top.specs.Accepting.{AcceptRan}
+use Rattle.fm_top.specs.Admin.{AdminRan}
 use Rattle.fm_top.specs.Ending.{EndsAs}
 use Rattle.fm_top.specs.Esc.{EscEnds, EscInputEnds}
 use Rattle.fm_top.specs.Fmd.{FmdRan}
@@ -17,7 +18,7 @@ use Rattle.fm_top.specs.declared.stops.Stop.{Stop}
 use Rattle.fm_top.specs.declared.stops.Stop.TheVariants.{Usage, Read, Write, Disk, Act}
 use Rattle.fm_top.specs.declared.words.Command.{Command}
 use Rattle.fm_top.specs.declared.words.Command.TheVariants.{Accept, Fmd, Replay, Init, Esc}
-use Rattle.fm_top.specs.declared.words.Command.TheVariants.{EscInput}
+use Rattle.fm_top.specs.declared.words.Command.TheVariants.{EscInput, Admin}
 
 -- EACH FAULT OF THE OUTSIDE, one line a fault: it comes only where a count of that kind rose
 abbrev pub IsCaused : Outside → Outside → Stop → Type 0
@@ -39,6 +40,8 @@ Did (Esc form) before after ran =
     EscEnds standing form (given_of before) (given_of after) before.out after.out ran
 Did EscInput before after ran =
     EscInputEnds standing before.input after.input before.out after.out ran
+Did (Admin asked) before after ran =
+    AdminRan asked before.out after.out before.disks after.disks ran
 
 -- a command ran, up to its last line
 pub record Ran (command : Command) (before after : Outside) (ran : Result (Unit {0}) Stop) : Type 0
@@ -78,6 +81,7 @@ WorksOn (Some Fmd) old new = Unit {0}
 WorksOn (Some Replay) old new = new ≡ record old { input = new.input }
 WorksOn (Some (Esc form)) old new = new ≡ record old { rules = new.rules; topo = new.topo }
 WorksOn (Some EscInput) old new = new ≡ record old { input = new.input }
+WorksOn (Some (Admin asked)) old new = new ≡ record old { disks = new.disks }
 WorksOn (Some (Init namespace)) old new =
     new ≡ record old {
       rules = new.rules;

@@ -14,7 +14,7 @@ use Rattle.fm_top.specs.Running.{Line, AreRead}
 use Rattle.fm_top.specs.declared.stops.Stop.{Stop}
 use Rattle.fm_top.specs.declared.words.Command.{Command}
 use Rattle.fm_top.specs.declared.stops.Stop.TheVariants.{Act}
-use Rattle.fm_top.specs.declared.words.Command.TheVariants.{Accept, Fmd, Init}
+use Rattle.fm_top.specs.declared.words.Command.TheVariants.{Accept, Fmd, Init, Admin}
 
 -- Of these lines all but the last one at most were answered whole, and what was put is a front of
 -- their answers: so whoever was told `ok` has the entry among theirs. `next` is the number of the
@@ -99,6 +99,10 @@ pub record Unopened (before after : Outside) (ran : Result (Unit {0}) Stop) : Ty
   pub unsaid : after.out ≡ before.out
   pub left : AreFromBefore before.disks after.disks
 
+-- each image that a crash now may leave reads like the book
+pub record LikeBook (told : Contents) (after : DisksAt) (stood : BookAt told) : Type 0 where
+  pub left : (image : Contents) → Leaves after image → ReadsLike stood.fresh stood.book image
+
 -- THE HEADLINE, one line a command
 abbrev pub Headline : Command → Outside → Outside → Result (Unit {0}) Stop → Type 0
 Headline Accept before after ran =
@@ -109,6 +113,9 @@ Headline Fmd before after ran =
     Unopened before after ran
     ⊎ ((told : Contents) → Tells before.disks told
     → HoldsOfBook told (HeldAfter before after told ran))
+Headline (Admin asked) before after ran =
+    Unopened before after ran
+    ⊎ ((told : Contents) → Tells before.disks told → HoldsOfBook told (LikeBook told after.disks))
 Headline (Init namespace) before after ran =
     (told : Contents) → Tells before.disks told → BookAt told
     → AreFromBefore before.disks after.disks

@@ -1,5 +1,6 @@
 pub mod Accepting
 pub mod Accounts
+pub mod Admin
 pub mod Answers
 pub mod Calls
 pub mod Draining
@@ -25,4 +26,5 @@ pub mod Status
 pub mod Stops
 pub mod Tallied
 pub mod TallyLaws
+pub mod Tasks
 pub mod Words

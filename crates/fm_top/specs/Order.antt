@@ -26,7 +26,7 @@ use Rattle.fm_top.specs.declared.stops.Stop.TheVariants.{Disk, Memory, Full, Exi
 use Rattle.fm_top.specs.declared.stops.Stop.TheVariants.{Graph, DamagedInput, Differs, Act}
 use Rattle.fm_top.specs.declared.words.Command.{Command}
 use Rattle.fm_top.specs.declared.words.Command.TheVariants.{Accept, Fmd, Replay, Init, Esc}
-use Rattle.fm_top.specs.declared.words.Command.TheVariants.{EscInput}
+use Rattle.fm_top.specs.declared.words.Command.TheVariants.{EscInput, Admin}
 use Rattle.fm_top.specs.Kept.{BookAt, FirstDamage, KeepsAsRead, KeepsOther}
 use Rattle.fm_top.specs.Outside.{Outside, SourceAt, disk_by_name, given_of, standing}
 
@@ -72,6 +72,7 @@ looks Replay = []
 looks (Init namespace) = at_rules ∷ at_topology ∷ at_no_store ∷ []
 looks (Esc form) = at_rules ∷ at_topology ∷ at_graphs ∷ []
 looks EscInput = at_files ∷ []
+looks (Admin asked) = at_store ∷ []
 
 -- how a look ends the command
 abbrev pub Finds : World → Look → Stop → Type 0

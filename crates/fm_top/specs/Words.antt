@@ -6,7 +6,8 @@ use Rattle.uuid.specs.Text.{parsed}
 use Rattle.fm_top.specs.declared.words.Command.{Command}
 use Rattle.fm_esc.specs.declared.graphs.GraphForm.TheVariants.{Listed, Compiled}
 use Rattle.fm_top.specs.declared.words.Command.TheVariants.{Accept, Fmd, Replay, Init, Esc}
-use Rattle.fm_top.specs.declared.words.Command.TheVariants.{EscInput}
+use Rattle.fm_top.specs.declared.words.Command.TheVariants.{EscInput, Admin}
+use Rattle.fm_top.specs.declared.words.AdminCommand.TheVariants.{Faulty}
 
 -- the command of one word
 abbrev pub command_in : List ℕ → Option Command
@@ -25,12 +26,18 @@ esc_with option =
 abbrev pub fmd_with : List ℕ → Option Command
 fmd_with option = if bytes_eq option (codes "-1") then Some Fmd else None
 
--- the command of two words: `init` and a namespace, or `esc` or `fmd` and an option
+-- the command `fmadm` and a word
+abbrev pub fmadm_with : List ℕ → Option Command
+fmadm_with second = if bytes_eq second (codes "faulty") then Some (Admin Faulty) else None
+
+-- the command of two words: `init` and a namespace, `esc` or `fmd` and an option, or `fmadm` and
+-- what is asked for
 unfoldable pub command_with : List ℕ → List ℕ → Option Command
 command_with word second =
     if bytes_eq word (codes "init") then option_map Init (parsed second)
     else (if bytes_eq word (codes "esc") then esc_with second
-    else (if bytes_eq word (codes "fmd") then fmd_with second else None))
+    else (if bytes_eq word (codes "fmd") then fmd_with second
+    else (if bytes_eq word (codes "fmadm") then fmadm_with second else None)))
 
 -- the command of the words: there are one or two, and they name a command
 abbrev pub command_of : List (List ℕ) → Option Command

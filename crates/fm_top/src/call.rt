@@ -6,6 +6,7 @@ ghost use Rattle.fm_top.specs.Outside.{Outside, source_at, sink_at, disks_at};
 ghost use Rattle.fm_top.specs.Words.{command_of};
 
 use crate::accept::accept;
+use crate::admin::tell;
 use crate::esc::{esc, esc_input};
 use crate::fmd::fmd;
 use crate::init::init;
@@ -31,7 +32,8 @@ use std::alloc::Global;
 /// topology, and makes a store of them and of the namespace. `esc` reads them and puts what each
 /// rule file comes to over the topology: a line of its sizes, or with `-b` its compiled file.
 /// `esc -l` reads compiled files from the input, and puts the line of each, up to the first bad
-/// one. Of a command that stops, the last line says why. Nothing else is touched.
+/// one. `fmadm faulty` opens the store with the modules of what it keeps, drains it, and puts
+/// what is faulty in the drained book. Of a command that stops, the last line says why. Nothing else is touched.
 /// `now` is the moment of the call, in nanoseconds since 1970; no command asks for it yet.
 pub fn tool<S: Source, K: Sink, D: Disk>(
     alloc: Global,
@@ -85,6 +87,10 @@ pub fn tool<S: Source, K: Sink, D: Disk>(
             end(alloc, ran, out)
         }
         Some(Command::EscInput) => end(alloc, esc_input(alloc, input, out), out),
+        Some(Command::Admin(asked)) => {
+            let ran = tell(alloc, asked, out, disks);
+            end(alloc, ran, out)
+        }
         None => end(alloc, Err(Stop::Usage), out),
     }
 }

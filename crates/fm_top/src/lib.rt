@@ -16,6 +16,11 @@
 //! and puts the summary (`settle`). Whatever the rule files, the topology and the entries are, that
 //! book has exact suspects, by a law of fm_exact (`specs/Exact`).
 //!
+//! What is done with a store is a `tasks::StoreTask`. One chain of calls (`opened`) opens the store
+//! on six lent disks, does the task with it and gives the disks back, and says what came of it by
+//! the task (`specs/Tasks`). `fmadm` has fm_admin drain the store and tell a text of it, which is put
+//! when the disks are back (`admin`, `specs/Admin`).
+//!
 //! The model of a call is two records of what stands outside, before and after it
 //! (`specs/Outside`). `specs/Calls` says by the command what lies between them; `specs/Order` in
 //! which order a command refuses, and what stands where it goes on; `specs/Ending` what is put
@@ -27,8 +32,8 @@
 //! input with each line answered; between two lines, with each line answered that ended in the
 //! bytes read before; or at a line, with each line before it answered. It says so of any taker, by
 //! what became of the entries; `specs/Accepting` and `specs/Replaying` say what that is for each
-//! command; `specs/Init` says what `init` does, `specs/Esc` what `esc` does, and `specs/Fmd` what
-//! `fmd -1` does.
+//! command; `specs/Init` says what `init` does, `specs/Esc` what `esc` does, `specs/Fmd` what
+//! `fmd -1` does, and `specs/Admin` what an operator's command does that puts one text.
 //!
 //! **The headline.** `specs/Headline` says of every command, whatever its status, what a crash at
 //! the return leaves of the six disks: contents from before, or contents that read as a book which
@@ -50,6 +55,7 @@
 #![tactic(auto)]
 
 mod accept;
+mod admin;
 mod answering;
 mod as_read;
 mod call;
@@ -59,15 +65,17 @@ mod fmd;
 mod init;
 mod last;
 mod lent;
+mod no_input;
+mod opened;
 mod reading;
 mod recording;
 mod replaying;
 mod settle;
 mod status;
 mod stops;
-mod streams;
 mod takers;
 mod tally;
+mod tasks;
 mod words;
 
 pub use call::tool;
@@ -75,4 +83,4 @@ pub use fm_act::{ActFault, Actuator};
 pub use fm_init::{DiskName, Disks};
 pub use status::ToolStatus;
 pub use stops::Stop;
-pub use words::Command;
+pub use words::{AdminCommand, Command};

@@ -2,11 +2,19 @@
 ghost use Rattle.std.specs.Prelude.{◌≡◌};
 ghost use Rattle.std.specs.Str.{bytes_eq};
 ghost use Rattle.uuid.specs.Text.{parsed};
-ghost use Rattle.fm_top.specs.Words.{command_in, command_with, command_of, esc_with, fmd_with};
+ghost use Rattle.fm_top.specs.Words.{command_in, command_with, command_of, esc_with};
+ghost use Rattle.fm_top.specs.Words.{fmadm_with, fmd_with};
 
 use fm_esc::GraphForm;
 use fm_text::ArgText;
 use uuid::Uuid;
+
+/// A command of an operator that puts one text.
+#[derive(Clone, Copy, Debug, PartialEq, Eq)]
+pub enum AdminCommand {
+    /// The cases that are solved and not yet repaired, with their suspects.
+    Faulty,
+}
 
 /// What is to be done.
 #[derive(Clone, Copy, Debug, PartialEq, Eq)]
@@ -24,6 +32,8 @@ pub enum Command {
     Esc(GraphForm),
     /// The compiled files of the input are listed.
     EscInput,
+    /// The store is drained, and what this command tells of it is put.
+    Admin(AdminCommand),
 }
 
 /// Whether the word is this text.
@@ -82,6 +92,17 @@ fn fmd_with(option: &ArgText) -> Option<Command>
     }
 }
 
+/// The command `fmadm` with a word.
+fn fmadm_with(second: &ArgText) -> Option<Command>
+    ensures { result ≡ fmadm_with second.now }
+{
+    if is_word(second, "faulty") {
+        Some(Command::Admin(AdminCommand::Faulty))
+    } else {
+        None
+    }
+}
+
 /// The command of two words.
 #[tactic(auto, unfolding(crate::specs::Words::command_with))]
 fn command_with(word: &ArgText, second: &ArgText) -> Option<Command>
@@ -96,6 +117,8 @@ fn command_with(word: &ArgText, second: &ArgText) -> Option<Command>
         esc_with(second)
     } else if is_word(word, "fmd") {
         fmd_with(second)
+    } else if is_word(word, "fmadm") {
+        fmadm_with(second)
     } else {
         None
     }

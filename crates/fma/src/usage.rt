@@ -10,7 +10,7 @@ struct CommandHelp {
 }
 
 /// The commands that are built.
-const COMMANDS: [CommandHelp; 7] = [
+const COMMANDS: [CommandHelp; 8] = [
     CommandHelp {
         words: "init NAMESPACE",
         does: "makes a store of dx0.esc and on, and of topology.txt; NAMESPACE is a UUID",
@@ -22,6 +22,10 @@ const COMMANDS: [CommandHelp; 7] = [
     CommandHelp {
         words: "fmd -1",
         does: "as accept, then diagnoses, takes what is faulty out of use, and sums up",
+    },
+    CommandHelp {
+        words: "fmadm faulty",
+        does: "tells which cases are solved and not yet repaired, with their suspects",
     },
     CommandHelp {
         words: "replay",

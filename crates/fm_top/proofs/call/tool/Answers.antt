@@ -1,7 +1,8 @@
 use Rattle.std.proofs.Common.{refl, rules, Some}
 use Rattle.fm_top.specs.Outside.{sink_at}
 use Rattle.fm_top.specs.declared.words.Command.TheVariants.{Accept, Fmd, Replay, Init, Esc}
-use Rattle.fm_top.specs.declared.words.Command.TheVariants.{EscInput}
+use Rattle.fm_top.specs.declared.words.Command.TheVariants.{EscInput, Admin}
+use Rattle.fm_top.proofs.AdminDoing.{does_tell}
 use Rattle.fm_top.proofs.Doing.{does_as, does_accept, does_replay}
 use Rattle.fm_top.proofs.Escs.{does_esc, does_input, esc_standing, input_standing}
 use Rattle.fm_top.proofs.FmdDoing.{does_fmd}
@@ -49,3 +50,10 @@ returns-in-Some-EscInput-clause-does g c =
     (does_input _ _ (sink_at g.K.Sink c.esc_input.new.out) c.esc_input.result _
     (input_standing g.S.Source _ _ _ _ c.esc_input.result c.esc_input.ensures)
     c.end-in-Some-EscInput.ensures refl refl refl refl (λ image leaves. leaves))
+
+pub returns-in-Some-Admin-clause-does : goal.returns-in-Some-Admin-clause-does
+returns-in-Some-Admin-clause-does g c =
+    does_as _ (Some (Admin c.in-Some-Admin.asked)) _ _ _ (search rules)
+    (does_tell c.in-Some-Admin.asked _ _ (sink_at g.K.Sink c.tell-ran.new.out) c.tell-ran.result _
+    c.tell-ran.ensures.ran c.end-in-Some-Admin.ensures
+    (record { rules = refl; topo = refl; acts = refl }) refl)

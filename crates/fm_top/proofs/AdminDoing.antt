@@ -1,0 +1,156 @@
+-- What an operator's command that puts one text did, in the words of the whole call.
+use Rattle.std.proofs.Common.{◌≡◌, inl, inr, ℕ, List, refl, sym, subst, Some}
+use Rattle.std.proofs.Common.{OnOk, IfErr, Result, Ok, Err}
+use Rattle.fm_core.specs.Book.{ModuleState}
+use Rattle.fm_logs.specs.Contents.{Contents}
+use Rattle.fm_logs.specs.StoreBook.{StoreBook}
+use Rattle.fm_store.specs.StoreLeft.{ReadsLike}
+use Rattle.fm_top.specs.Accepting.{OpeningStops}
+use Rattle.fm_top.specs.Admin.{AdminRan, ReadsAfter, StoreUntold, TextAsked}
+use Rattle.fm_top.specs.Calls.{IsCaused, Does}
+use Rattle.fm_top.specs.Ending.{EndsAs}
+use Rattle.fm_top.specs.Esc.{TextEnds}
+use Rattle.fm_top.specs.Fmd.{ConcludingStops}
+use Rattle.fm_top.specs.Headline.{Headline}
+use Rattle.fm_top.specs.Kept.{BookAt}
+use Rattle.fm_top.specs.Order.{Goes, looks, world_of}
+use Rattle.fm_top.specs.Outside.{Outside, SinkAt, Tells, counts_of}
+use Rattle.fm_top.specs.declared.status.ToolStatus.{ToolStatus}
+use Rattle.fm_top.specs.declared.stops.Stop.{Stop}
+use Rattle.fm_top.specs.declared.stops.Stop.TheVariants.{Read, Write, Disk, Damaged, Memory, Full}
+use Rattle.fm_top.specs.declared.stops.Stop.TheVariants.{Act}
+use Rattle.fm_top.specs.declared.words.AdminCommand.{AdminCommand}
+use Rattle.fm_top.specs.declared.words.AdminCommand.TheVariants.{Faulty}
+use Rattle.fm_top.specs.declared.words.Command.TheVariants.{Admin}
+use Rattle.fm_top.proofs.Doing.{Rests, quiet_counts}
+use Rattle.fm_top.proofs.Escs.{ok_no_err}
+
+-- what a command leaves reads like the book from before
+like_after : (asked : AdminCommand) (fresh : List ModuleState) (k : StoreBook) (image : Contents)
+    → ReadsAfter asked fresh k image → ReadsLike fresh k image
+like_after Faulty fresh k image reads = reads
+
+module _ (asked : AdminCommand) (before after : Outside) where
+  abbrev RanSo : Result (Unit {0}) Stop → Type 0
+  RanSo ran = AdminRan asked before.out after.out before.disks after.disks ran
+
+  -- ---- the order of refusals
+
+  unopened_goes : (stop : Stop) → OpeningStops before.disks stop
+      → Goes (world_of before after) (looks (Admin asked)) (Err stop)
+  unopened_goes Disk why = inl tt
+  unopened_goes Memory why = inl tt
+  unopened_goes (Damaged disk place) why = inr (inl (inl (disk, place, refl, why)))
+  unopened_goes _ why = absurd why
+
+  untold_goes : (stop : Stop) → StoreUntold before.disks after.disks stop
+      → Goes (world_of before after) (looks (Admin asked)) (Err stop)
+  untold_goes stop untold = by_stop stop untold.why
+    where
+      by_stop : (stop : Stop) → ConcludingStops before.disks stop
+          → Goes (world_of before after) (looks (Admin asked)) (Err stop)
+      by_stop Disk why = inl tt
+      by_stop Memory why = inl tt
+      by_stop (Full kind) why = inr (inr (((λ told tells. (untold.holds told tells).stood), tt), tt))
+      by_stop (Damaged disk place) why =
+          inr (inl (inl (disk, place, refl, λ told tells. absurd (why told tells))))
+      by_stop _ why = absurd why
+
+  put_goes : (text : List ℕ) (ran : Result (Unit {0}) Stop)
+      → ((told : Contents) → Tells before.disks told → BookAt told)
+      → TextEnds before.out after.out text ran
+      → Goes (world_of before after) (looks (Admin asked)) ran
+  put_goes text (Ok done) stood ends = (stood, tt)
+  put_goes text (Err Write) stood ends = inl tt
+  put_goes text (Err Memory) stood ends = inl tt
+  put_goes text (Err _) stood ends = absurd ends
+
+  tell_goes : (ran : Result (Unit {0}) Stop) → RanSo ran
+      → Goes (world_of before after) (looks (Admin asked)) ran
+  tell_goes ran (inl told) =
+      put_goes told.text ran (λ c tells. (told.store.went c tells).stood) told.put
+  tell_goes ran (inr untold) =
+      subst (Goes (world_of before after) (looks (Admin asked))) (sym untold.told)
+      (elim untold.store.went [
+        | inl unopened ↦ unopened_goes untold.stop unopened.why
+        | inr opened ↦ untold_goes untold.stop opened
+      ])
+
+  -- ---- the causes
+
+  untold_caused : (stop : Stop) → TextAsked asked before.disks after.disks (Err stop)
+      → IsCaused before after stop
+  untold_caused Disk asked_so = asked_so.counts
+  untold_caused Read asked_so =
+      absurd (elim asked_so.went [ inl unopened ↦ unopened.why | inr opened ↦ opened.why ])
+  untold_caused Write asked_so =
+      absurd (elim asked_so.went [ inl unopened ↦ unopened.why | inr opened ↦ opened.why ])
+  untold_caused (Act index) asked_so =
+      absurd (elim asked_so.went [ inl unopened ↦ unopened.why | inr opened ↦ opened.why ])
+  untold_caused _ asked_so = tt
+
+  put_caused : (text : List ℕ) (ran : Result (Unit {0}) Stop)
+      → TextEnds before.out after.out text ran → IfErr ran (IsCaused before after)
+  put_caused text (Ok done) ends = tt
+  put_caused text (Err Write) ends = ends.0
+  put_caused text (Err Memory) ends = tt
+  put_caused text (Err _) ends = absurd ends
+
+  tell_caused : (ran : Result (Unit {0}) Stop) → RanSo ran → IfErr ran (IsCaused before after)
+  tell_caused ran (inl told) = put_caused told.text ran told.put
+  tell_caused ran (inr untold) =
+      subst (λ r. IfErr r (IsCaused before after)) (sym untold.told)
+      (untold_caused untold.stop untold.store)
+
+  -- ---- the counts of a command that is done
+
+  tell_quiet : (ran : Result (Unit {0}) Stop) → Rests before after
+      → after.input ≡ before.input → RanSo ran → OnOk ran (counts_of after ≡ counts_of before)
+  tell_quiet (Err stop) rests unread did = tt
+  tell_quiet (Ok done) rests unread (inl told) =
+      quiet_counts before after rests (λ i. (unread i).failures) told.put.quiet told.store.counts
+  tell_quiet (Ok done) rests unread (inr untold) = absurd (ok_no_err done untold.stop untold.told)
+
+  -- ---- the headline
+
+  tell_headline : (ran : Result (Unit {0}) Stop) → after.input ≡ before.input → RanSo ran
+      → Headline (Admin asked) before after ran
+  tell_headline ran unread (inl told) = inr (λ c tells.
+      let holds = told.store.went c tells in record {
+        stood = holds.stood;
+        each = λ book. record {
+          left = λ image leaves.
+              like_after asked book.fresh book.book image ((holds.each book).left image leaves);
+        };
+      })
+  tell_headline ran unread (inr untold) =
+      elim untold.store.went [
+        | inl unopened ↦ inl (record {
+          refused = subst (λ r. OnOk r ⊥) (sym untold.told) tt;
+          unread = unread;
+          unsaid = untold.unsaid;
+          left = λ image leaves name. (unopened.untouched name).images _ (leaves name);
+        })
+        | inr opened ↦ inr opened.holds
+      ]
+
+pub does_tell : (asked : AdminCommand) (before after : Outside) (middle : SinkAt)
+    (ran : Result (Unit {0}) Stop) (result : ToolStatus)
+    → AdminRan asked before.out middle before.disks after.disks ran
+    → EndsAs middle after.out ran result → Rests before after → after.input ≡ before.input
+    → Does (Some (Admin asked)) before after result
+does_tell asked before after middle ran result did ends rests unread =
+    let mid : Outside = record after { out = middle } in
+    let still : Rests before mid =
+    record { rules = rests.rules; topo = rests.topo; acts = rests.acts } in (
+      ran,
+      middle,
+      record {
+        order = tell_goes asked before mid ran did;
+        cause = tell_caused asked before mid ran did;
+        quiet = tell_quiet asked before mid ran still unread did;
+        did = did;
+        headline = tell_headline asked before mid ran unread did;
+      },
+      ends,
+    )

@@ -1,0 +1,258 @@
+-- From an open store with which an operator's command is done to what its disks hold.
+use Rattle.std.proofs.Common.{◌≡◌, inl, inr, ℕ, List, None, Some, Result, Ok, Err, OnOk, IfErr, refl}
+use Rattle.std.proofs.Common.{sym, ◌∙◌, ap, subst, arith}
+use Rattle.std.specs.Global.{Vec}
+use Rattle.std.specs.List.{slice_get}
+use Rattle.dx_engine.specs.Diagnosers.{DiagnoserOf}
+use Rattle.fm_admin.specs.Telling.{IsFaultyOf, TellRefused, TellsBook, WasDrained}
+use Rattle.fm_conclude.specs.Concluding.{NoDiskFailed, SomeDiskFailed}
+use Rattle.fm_core.specs.Book.{ModuleState}
+use Rattle.fm_core.specs.Drained.{drained}
+use Rattle.fm_core.specs.Hands.{HandOf}
+use Rattle.fm_drain.specs.DrainCalls.{AllFollow}
+use Rattle.fm_logs.specs.Contents.{Contents, AreTold, WereOnlyRead, content_named, disk_named}
+use Rattle.fm_logs.specs.StoreBook.{StoreBook, force_now}
+use Rattle.fm_logs.specs.declared.disks.DiskName.{DiskName}
+use Rattle.fm_logs.specs.declared.disks.DiskName.TheVariants.{Conf as ConfDisk, ErrA, ErrB, SlotA}
+use Rattle.fm_logs.specs.declared.disks.DiskName.TheVariants.{SlotB, Flt}
+use Rattle.fm_logs.specs.declared.disks.Disks.{Disks}
+use Rattle.fm_logs.specs.declared.fault.StoreFault.{StoreFault}
+use Rattle.fm_logs.specs.declared.fault.StoreFault.TheVariants as store
+use Rattle.fm_modules.specs.OpenStore.{OpenStoreRefused}
+use Rattle.fm_outer.specs.Failures.{Rose}
+use Rattle.fm_outer.specs.declared.disk.Disk.{Ghosts}
+use Rattle.fm_saved.specs.declared.conf.Conf.{Conf}
+use Rattle.fm_store.specs.Opened.{NoneFailed, RoseOnAny}
+use Rattle.fm_store.specs.StoreLeft.{store_disk, AreDisksOf, StoreIsLeft}
+use Rattle.fm_store.specs.StoreOf.{StoreOf, StoreStandsFor}
+use Rattle.fm_summary.specs.DrainedSummary.{diagnosers}
+use Rattle.fm_top.specs.Accepting.{DisksAccount}
+use Rattle.fm_top.specs.Accounts.{Accounts}
+use Rattle.fm_top.specs.Admin.{AdminDone, AdminOnBook, AdminRefused, TextAsked, ToldOf}
+use Rattle.fm_top.specs.Fmd.{ConcludingStops}
+use Rattle.fm_top.specs.Headline.{HoldsOfBook, LikeBook}
+use Rattle.fm_top.specs.Kept.{BookAt}
+use Rattle.fm_top.specs.Outside.{Tells, Leaves, disks_at}
+use Rattle.fm_top.specs.Stops.{of_store}
+use Rattle.fm_top.specs.declared.stops.Stop.{Stop}
+use Rattle.fm_top.specs.declared.words.AdminCommand.{AdminCommand}
+use Rattle.fm_top.specs.declared.words.AdminCommand.TheVariants.{Faulty}
+use Rattle.fm_top.proofs.Accepts.{opening_account, opening_stops}
+use Rattle.fm_top.proofs.BookHeld.{same_book}
+use Rattle.fm_top.proofs.Fmds.{OpenAt}
+use Rattle.fm_top.proofs.SixDisks.{told_all, images_all, all_only_read, rose_any, none_counts}
+
+-- an object that nothing was done to accounts for any other fault
+pub accounts_still : {T : Type 0} (fault : Stop) (n : ℕ) (r : Result T Stop)
+    → (r ≡ Err fault → ⊥) → Accounts fault n n r
+accounts_still fault n (Ok done) none = refl
+accounts_still fault n (Err stop) none =
+    (omega arith, λ e. absurd (none (ap (λ s. Err s) e)))
+
+-- the store stands for this book that the contents read as, and hands follow it
+pub record OpenFor {D : Type 0} (g : Ghosts D) (first : StoreOf D DiagnoserOf)
+    (hands : List (HandOf DiagnoserOf)) (conf : Conf) {c : Contents} (stood : BookAt c)
+    : Type 0 where
+  pub stands : StoreStandsFor g stood.fresh first stood.book
+  pub follow : AllFollow diagnosers stood.book.book hands
+  pub in_force : slice_get stood.book.confs (force_now stood.book) ≡ Some conf
+
+-- so it does for each such book
+pub open_for : {D : Type 0} (g : Ghosts D) (first : StoreOf D DiagnoserOf)
+    (hands : List (HandOf DiagnoserOf)) (conf : Conf) (c : Contents)
+    (one : OpenAt g first hands conf c) (book : BookAt c) → OpenFor g first hands conf book
+open_for g first hands conf c one book =
+    let same : (one.stood.fresh ≡ book.fresh) × (one.stood.book ≡ book.book) =
+    same_book c one.stood book in record {
+      stands = subst (λ (ms : List ModuleState). StoreStandsFor g ms first book.book) same.0
+          (subst (λ (k : StoreBook). StoreStandsFor g one.stood.fresh first k) same.1 one.stands);
+      follow = subst (λ (k : StoreBook). AllFollow diagnosers k.book hands) same.1 one.follow;
+      in_force = subst (λ (k : StoreBook). slice_get k.confs (force_now k) ≡ Some conf) same.1
+          one.in_force;
+    }
+
+-- ---- a store that was not opened
+
+pub unopened_asked : {D : Type 0} (g : Ghosts D) (disks disks_now : Disks D) (asked : AdminCommand)
+    (fault : StoreFault) → OpenStoreRefused g disks disks_now fault
+    → WereOnlyRead g disks disks_now
+    → TextAsked asked (disks_at g disks) (disks_at g disks_now) (Err (of_store fault))
+unopened_asked g disks disks_now asked fault refused read = record {
+  went = inl (record {
+    untouched = all_only_read g disks disks_now read;
+    why = opening_stops g disks disks_now fault refused;
+  });
+  counts = opening_account g (List ℕ) disks disks_now fault refused;
+}
+
+-- ---- an open store
+
+-- a drain that is done leaves the counts of all disks
+same_counts : {D : Type 0} (g : Ghosts D) (old new : StoreOf D DiagnoserOf)
+    → WasDrained g old new → NoDiskFailed g old new
+same_counts {D = D} g old new was ConfDisk =
+    ap (λ (s : StoreOf D DiagnoserOf). g.failures (store_disk ConfDisk s)) was.only
+same_counts {D = D} g old new was ErrA =
+    ap (λ (s : StoreOf D DiagnoserOf). g.failures (store_disk ErrA s)) was.only
+same_counts {D = D} g old new was ErrB =
+    ap (λ (s : StoreOf D DiagnoserOf). g.failures (store_disk ErrB s)) was.only
+same_counts {D = D} g old new was SlotA =
+    ap (λ (s : StoreOf D DiagnoserOf). g.failures (store_disk SlotA s)) was.only
+same_counts {D = D} g old new was SlotB =
+    ap (λ (s : StoreOf D DiagnoserOf). g.failures (store_disk SlotB s)) was.only
+same_counts g old new was Flt = was.no_failure
+
+-- there is one such command
+pub only_faulty : (asked : AdminCommand) → Faulty ≡ asked
+only_faulty Faulty = refl
+
+-- what is faulty was told
+module _ {D : Type 0} (g : Ghosts D) (old new : StoreOf D DiagnoserOf)
+    (hands : List (HandOf DiagnoserOf)) (conf : Conf) (open_before : old.logs.closed ≡ None) where
+  faulty_refused : (fault : StoreFault) → TellRefused g diagnosers Flt old new hands fault
+      → AdminRefused g old new fault
+  faulty_refused store.Disk why = (Flt, elim why.1 [ inl rose ↦ rose | inr rose ↦ rose ])
+  faulty_refused (store.Closed name failures) why = why.1
+  faulty_refused (store.Full kind) why = tt
+  faulty_refused (store.Damaged name place) why = tt
+  faulty_refused store.NoMemory why = tt
+  faulty_refused store.Exists why = absurd why
+
+  pub faulty_done : (answer : Result (Vec ℕ) StoreFault) → OnOk answer (WasDrained g old new)
+      → IfErr answer (TellRefused g diagnosers Flt old new hands)
+      → ((fresh : List ModuleState) (k : StoreBook) → StoreStandsFor g fresh old k
+      → AllFollow diagnosers k.book hands → TellsBook g fresh Flt old new k answer
+      (λ now text. IsFaultyOf conf.namespace (drained k.book) text.items))
+      → AdminDone g Faulty old new hands conf answer
+  faulty_done (Ok text) drains refused book = record {
+    was_open = open_before;
+    quiet = same_counts g old new drains;
+    refused = tt;
+    book = λ fresh k stands follow. let told = book fresh k stands follow in record {
+      text_is = told.done.told;
+      after = told.left;
+      undamaged = tt;
+      left = told.left;
+    };
+  }
+  faulty_done (Err fault) drains refused book = record {
+    was_open = open_before;
+    quiet = tt;
+    refused = faulty_refused fault refused;
+    book = λ fresh k stands follow. let told = book fresh k stands follow in record {
+      text_is = tt;
+      after = tt;
+      undamaged = told.undamaged;
+      left = told.left;
+    };
+  }
+
+-- ---- the disks of one
+
+module _ {D : Type 0} (g : Ghosts D) (disks disks_now : Disks D)
+    (first new : StoreOf D DiagnoserOf) (hands : List (HandOf DiagnoserOf)) (conf : Conf)
+    (asked : AdminCommand)
+    (kept : (name : DiskName)
+    → g.failures (store_disk name first) ≡ g.failures (disk_named name disks))
+    (opened : (c : Contents) → AreTold g disks c → OpenAt g first hands conf c)
+    (are : AreDisksOf new disks_now) where
+  at_told : (told : Contents) → Tells (disks_at g disks) told → OpenAt g first hands conf told
+  at_told told tells = opened told (told_all g disks told tells)
+
+  left_of : (image : Contents) → Leaves (disks_at g disks_now) image → StoreIsLeft g new image
+  left_of image leaves name =
+      subst (λ (d : D). g.images d (content_named name image)) (sym (are name))
+      (images_all g disks_now image leaves name)
+
+  module _ (answer : Result (Vec ℕ) StoreFault)
+      (did : AdminDone g asked first new hands conf answer) where
+    on_book : (told : Contents) (stood : BookAt told) → OpenFor g first hands conf stood
+        → AdminOnBook g asked stood.fresh new stood.book conf answer
+    on_book told stood at = did.book stood.fresh stood.book at.stands at.follow
+
+    like_book : (told : Contents) → Tells (disks_at g disks) told
+        → HoldsOfBook told (LikeBook told (disks_at g disks_now))
+    like_book told tells = let one = at_told told tells in record {
+      stood = one.stood;
+      each = λ book. record {
+        left = λ image leaves.
+            (on_book told book (open_for g first hands conf told one book)).left image
+            (left_of image leaves);
+      };
+    }
+
+  text_told : (text : Vec ℕ) → AdminDone g asked first new hands conf (Ok text)
+      → (told : Contents) → Tells (disks_at g disks) told
+      → HoldsOfBook told (ToldOf asked told (disks_at g disks_now) text.items)
+  text_told text did told tells = let one = at_told told tells in record {
+    stood = one.stood;
+    each = λ book.
+        let at : OpenFor g first hands conf book = open_for g first hands conf told one book in
+        let found = on_book (Ok text) did told book at in record {
+          left = λ image leaves. found.after image (left_of image leaves);
+          text_is = record {
+            conf = conf;
+            in_force = at.in_force;
+            text_is = found.text_is;
+          };
+        };
+  }
+
+  -- why it was not told
+  untold : (fault : StoreFault) → AdminDone g asked first new hands conf (Err fault)
+      → ConcludingStops (disks_at g disks) (of_store fault)
+  untold store.Disk did = tt
+  untold (store.Full kind) did = tt
+  untold (store.Closed name failures) did = tt
+  untold store.NoMemory did = tt
+  untold (store.Damaged disk place) did = λ told tells.
+      let one = at_told told tells in
+      (on_book (Err (store.Damaged disk place)) did told one.stood
+      (open_for g first hands conf told one one.stood)).undamaged
+  untold store.Exists did = absurd did.refused
+
+  -- ---- the counts of the disks
+
+  none_failed : NoDiskFailed g first new → NoneFailed g disks disks_now
+  none_failed quiet name = sym (ap g.failures (are name)) ∙ quiet name ∙ kept name
+
+  rose_since : SomeDiskFailed g first new → RoseOnAny g disks disks_now
+  rose_since (name, rose) = (
+    name,
+    subst (λ (d : D). Rose (g.failures (disk_named name disks)) (g.failures d)) (are name)
+        (subst (λ n. Rose n (g.failures (store_disk name new))) (kept name) rose),
+  )
+
+  untold_account : (fault : StoreFault) → AdminDone g asked first new hands conf (Err fault)
+      → DisksAccount {T = List ℕ} (disks_at g disks) (disks_at g disks_now) (Err (of_store fault))
+  untold_account store.Disk did =
+      rose_any g disks disks_now (rose_since did.refused)
+  untold_account (store.Full kind) did = tt
+  untold_account (store.Closed name failures) did =
+      absurd (let e : Some (name, failures) ≡ None =
+      sym did.refused ∙ did.was_open in let no : ⊥ = cc in no)
+  untold_account store.NoMemory did = tt
+  untold_account (store.Damaged disk place) did = tt
+  untold_account store.Exists did = absurd did.refused
+
+  -- ---- the whole
+
+  pub asked_told : (text : Vec ℕ) → AdminDone g asked first new hands conf (Ok text)
+      → TextAsked asked (disks_at g disks) (disks_at g disks_now) (Ok text.items)
+  asked_told text did = record {
+    went = text_told text did;
+    counts = none_counts g disks disks_now (none_failed did.quiet);
+  }
+
+  pub asked_untold : (stop : Stop) (fault : StoreFault) → stop ≡ of_store fault
+      → AdminDone g asked first new hands conf (Err fault)
+      → TextAsked asked (disks_at g disks) (disks_at g disks_now) (Err stop)
+  asked_untold stop fault is did =
+      subst (λ s. TextAsked asked (disks_at g disks) (disks_at g disks_now) (Err s)) (sym is)
+      (record {
+        went = inr (record {
+          why = untold fault did;
+          holds = like_book (Err fault) did;
+        });
+        counts = untold_account fault did;
+      })

@@ -1,0 +1,16 @@
+use Rattle.std.proofs.Common.{rules}
+use Rattle.fm_top.specs.Outside.{source_at, sink_at}
+use Rattle.fm_top.specs.declared.tasks.StoreTask.TheVariants.{Accept, Admin}
+use Rattle.fm_top.proofs.TasksDone.{does_task}
+use Rattle.fm_top.proofs.opened.do_task.Goals as goal
+
+pub returns-in-Accept-clause-does : goal.returns-in-Accept-clause-does
+returns-in-Accept-clause-does g c =
+    does_task g.D.Disk _ Accept _ _ _ _ _ _ _ _ _ (search rules)
+    (c.accept_lines.ensures.does c.args.hands.items c.args.conf.now)
+
+pub returns-in-Admin-clause-does : goal.returns-in-Admin-clause-does
+returns-in-Admin-clause-does g c =
+    does_task g.D.Disk _ (Admin c.in-Admin.asked) _ _ _ _ _ _ _ _ _ (search rules)
+    (c.tell_text.ensures.does (source_at g.S.Source c.args.streams.now.input.now)
+    (sink_at g.K.Sink c.args.streams.now.out.now))

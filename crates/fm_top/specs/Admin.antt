@@ -1,0 +1,133 @@
+-- What an operator's command does that puts one text: the store is drained, and the text is a
+-- function of its drained book. No entry is accepted.
+use Rattle.std.specs.Prelude.{◌≡◌, ◌⊎◌, ℕ, List, slice_get, None, Some, Result, Ok, Err}
+use Rattle.std.specs.Prelude.{MatchResult, OnOk, IfOk, IfErr}
+use Rattle.std.specs.Global.{Vec}
+use Rattle.dx_engine.specs.Diagnosers.{DiagnoserOf}
+use Rattle.fm_admin.specs.Telling.{IsFaultyOf}
+use Rattle.fm_conclude.specs.Concluding.{NoDiskFailed, SomeDiskFailed}
+use Rattle.fm_core.specs.Book.{ModuleState}
+use Rattle.fm_core.specs.Drained.{drained}
+use Rattle.fm_core.specs.Hands.{HandOf}
+use Rattle.fm_drain.specs.DrainCalls.{AllFollow}
+use Rattle.fm_logs.specs.Contents.{Contents}
+use Rattle.fm_logs.specs.StoreBook.{StoreBook, force_now}
+use Rattle.fm_logs.specs.declared.fault.StoreFault.{StoreFault}
+use Rattle.fm_logs.specs.declared.fault.StoreFault.TheVariants.{Disk, Full, Closed, Damaged}
+use Rattle.fm_logs.specs.declared.fault.StoreFault.TheVariants.{NoMemory}
+use Rattle.fm_outer.specs.declared.disk.Disk.{Ghosts}
+use Rattle.fm_saved.specs.declared.conf.Conf.{Conf}
+use Rattle.fm_store.specs.StoreLeft.{EachLeft, ReadsLike}
+use Rattle.fm_store.specs.StoreOf.{StoreOf, StoreStandsFor}
+use Rattle.fm_store.specs.StoreReading.{IsNoDamage}
+use Rattle.fm_summary.specs.DrainedSummary.{diagnosers}
+use Rattle.fm_top.specs.Accepting.{DisksAccount, OpeningStops}
+use Rattle.fm_top.specs.Esc.{TextEnds}
+use Rattle.fm_top.specs.Fmd.{ConcludingStops}
+use Rattle.fm_top.specs.Headline.{HoldsOfBook, LikeBook}
+use Rattle.fm_top.specs.Init.{AreUnwritten}
+use Rattle.fm_top.specs.Kept.{BookAt}
+use Rattle.fm_top.specs.Outside.{SinkAt, DisksAt, Tells, Leaves}
+use Rattle.fm_top.specs.declared.stops.Stop.{Stop}
+use Rattle.fm_top.specs.declared.words.AdminCommand.{AdminCommand}
+use Rattle.fm_top.specs.declared.words.AdminCommand.TheVariants.{Faulty}
+
+-- WHICH TEXT EACH COMMAND PUTS, one line a command: of a book with this configuration in force
+abbrev pub IsTextOf : AdminCommand → Conf → StoreBook → List ℕ → Type 0
+IsTextOf Faulty conf k text = IsFaultyOf conf.namespace (drained k.book) text
+
+-- WHAT EACH COMMAND LEAVES once it is done, one line a command: how an image reads
+abbrev pub ReadsAfter : AdminCommand → List ModuleState → StoreBook → Contents → Type 0
+ReadsAfter Faulty fresh k image = ReadsLike fresh k image
+
+-- ---- an open store
+
+-- Why a command was refused, which an open store is by a disk that failed, at a limit, or for want
+-- of memory. A log that reads as none is damaged.
+abbrev pub AdminRefused : {D M : Type 0} → Ghosts D → StoreOf D M → StoreOf D M → StoreFault → Type 0
+AdminRefused g old new Disk = SomeDiskFailed g old new
+AdminRefused g old new (Closed name failures) = old.logs.closed ≡ Some (name, failures)
+AdminRefused g old new (Full kind) = Unit {0}
+AdminRefused g old new (Damaged name place) = Unit {0}
+AdminRefused g old new NoMemory = Unit {0}
+AdminRefused _ _ _ _ = ⊥
+
+-- What becomes of a book that the hands follow: each crash leaves contents that read like it,
+-- whatever is answered; after Ok they read as the command leaves them, and this is its text.
+pub record AdminOnBook {D M : Type 0} (g : Ghosts D) (asked : AdminCommand)
+    (fresh : List ModuleState) (new : StoreOf D M) (k : StoreBook) (conf : Conf)
+    (answer : Result (Vec ℕ) StoreFault) : Type 0 where
+  pub text_is : IfOk answer (λ text. IsTextOf asked conf k text.items)
+  pub after : OnOk answer (EachLeft g new (ReadsAfter asked fresh k))
+  pub undamaged : IfErr answer IsNoDamage
+  pub left : EachLeft g new (ReadsLike fresh k)
+
+-- What a command does with an open store that has this configuration in force.
+pub record AdminDone {D : Type 0} (g : Ghosts D) (asked : AdminCommand)
+    (old new : StoreOf D DiagnoserOf) (hands : List (HandOf DiagnoserOf)) (conf : Conf)
+    (answer : Result (Vec ℕ) StoreFault) : Type 0 where
+  pub was_open : old.logs.closed ≡ None
+  pub quiet : OnOk answer (NoDiskFailed g old new)
+  pub refused : IfErr answer (AdminRefused g old new)
+  pub book : (fresh : List ModuleState) (k : StoreBook) → StoreStandsFor g fresh old k
+      → AllFollow diagnosers k.book hands → AdminOnBook g asked fresh new k conf answer
+
+-- ---- six disks
+
+-- the text of a command, of a book that contents read as
+pub record IsTextAt (asked : AdminCommand) {told : Contents} (stood : BookAt told) (text : List ℕ)
+    : Type 0 where
+  pub conf : Conf
+  pub in_force : slice_get stood.book.confs (force_now stood.book) ≡ Some conf
+  pub text_is : IsTextOf asked conf stood.book text
+
+-- A book that the contents read as was drained: each image that a crash now may leave reads as the
+-- command leaves it, and this is its text.
+pub record ToldOf (asked : AdminCommand) (told : Contents) (after : DisksAt) (text : List ℕ)
+    (stood : BookAt told) : Type 0 where
+  pub left : (image : Contents) → Leaves after image
+      → ReadsAfter asked stood.fresh stood.book image
+  pub text_is : IsTextAt asked stood text
+
+-- The store was not opened: the disks were read at most.
+pub record StoreUnopened (disks disks_now : DisksAt) (stop : Stop) : Type 0 where
+  pub untouched : AreUnwritten disks disks_now
+  pub why : OpeningStops disks stop
+
+-- It was opened, and the text not told.
+pub record StoreUntold (disks disks_now : DisksAt) (stop : Stop) : Type 0 where
+  pub why : ConcludingStops disks stop
+  pub holds : (told : Contents) → Tells disks told → HoldsOfBook told (LikeBook told disks_now)
+
+-- What was done with the store up to the text, which is told or not.
+pub record TextAsked (asked : AdminCommand) (disks disks_now : DisksAt) (ran : Result (List ℕ) Stop)
+    : Type 0 where
+  pub went : MatchResult ran
+      (λ text. (told : Contents) → Tells disks told
+      → HoldsOfBook told (ToldOf asked told disks_now text))
+      (λ stop. StoreUnopened disks disks_now stop ⊎ StoreUntold disks disks_now stop)
+  pub counts : DisksAccount disks disks_now ran
+
+-- ---- the command
+
+-- the text was told, and then put, or the sink failed and took a front of it
+pub record TextTold (asked : AdminCommand) (out out_now : SinkAt) (disks disks_now : DisksAt)
+    (ran : Result (Unit {0}) Stop) : Type 0 where
+  pub text : List ℕ
+  pub store : TextAsked asked disks disks_now (Ok text)
+  pub put : TextEnds out out_now text ran
+
+-- it was not told, and nothing put
+pub record TextUntold (asked : AdminCommand) (out out_now : SinkAt) (disks disks_now : DisksAt)
+    (ran : Result (Unit {0}) Stop) : Type 0 where
+  pub stop : Stop
+  pub told : ran ≡ Err stop
+  pub store : TextAsked asked disks disks_now (Err stop)
+  pub unsaid : out_now ≡ out
+
+-- the command ran, up to its last line
+abbrev pub AdminRan : AdminCommand → SinkAt → SinkAt → DisksAt → DisksAt → Result (Unit {0}) Stop
+    → Type 0
+AdminRan asked out out_now disks disks_now ran =
+    TextTold asked out out_now disks disks_now ran
+    ⊎ TextUntold asked out out_now disks disks_now ran

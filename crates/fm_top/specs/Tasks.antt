@@ -1,0 +1,61 @@
+-- What becomes of an open store by what is done with it, and of its disks.
+use Rattle.std.specs.Prelude.{◌≡◌, List, true, Result, Ok, Err}
+use Rattle.std.specs.Io.KnownBytes.{Appends, Consumes, IsAtEnd}
+use Rattle.dx_engine.specs.Diagnosers.{DiagnoserOf}
+use Rattle.fm_core.specs.Hands.{HandOf}
+use Rattle.fm_outer.specs.declared.disk.Disk.{Ghosts}
+use Rattle.fm_saved.specs.declared.conf.Conf.{Conf}
+use Rattle.fm_store.specs.StoreCalls.{next_entry}
+use Rattle.fm_store.specs.StoreOf.{StoreOf}
+use Rattle.fm_top.specs.Accepting.{AcceptRan}
+use Rattle.fm_top.specs.Admin.{AdminDone, TextAsked}
+use Rattle.fm_top.specs.Fmd.{StoreRan}
+use Rattle.fm_top.specs.FmdStore.{StoreWorks}
+use Rattle.fm_top.specs.Outside.{SourceAt, SinkAt, DisksAt}
+use Rattle.fm_top.specs.Recording.{Recorded}
+use Rattle.fm_top.specs.Running.{RanAll, RanUntil}
+use Rattle.fm_logs.specs.declared.fault.StoreFault.{StoreFault}
+use Rattle.fm_top.specs.Stops.{of_store}
+use Rattle.fm_top.specs.declared.stops.Stop.{Stop}
+use Rattle.fm_top.specs.declared.tasks.StoreTask.{StoreTask}
+use Rattle.fm_top.specs.declared.tasks.StoreTask.TheVariants.{Accept, Fmd, Admin}
+use Rattle.fm_top.specs.declared.tasks.TaskDone.{TaskDone}
+use Rattle.fm_top.specs.declared.tasks.TaskDone.TheVariants.{Nothing, Concluded, Text}
+
+-- WHAT BECOMES OF AN OPEN STORE, two lines a task: with these hands and this configuration in force
+abbrev pub TaskDoes : {D : Type 0} → Ghosts D → StoreTask → StoreOf D DiagnoserOf
+    → StoreOf D DiagnoserOf → List (HandOf DiagnoserOf) → Conf → SourceAt → SourceAt → SinkAt
+    → SinkAt → Result TaskDone Stop → Type 0
+TaskDoes g Accept old new hands conf input input_now out out_now (Ok Nothing) =
+    RanAll (Recorded g old new) (Appends out.bytes out_now.bytes) true (next_entry old.logs)
+    (Consumes input.left input_now.left) (IsAtEnd input_now.left)
+TaskDoes g Accept old new hands conf input input_now out out_now (Err stop) =
+    RanUntil (Recorded g old new) (Appends out.bytes out_now.bytes) true (next_entry old.logs)
+    (Consumes input.left input_now.left) (IsAtEnd input_now.left) stop
+TaskDoes g (Fmd got) old new hands conf input input_now out out_now (Ok (Concluded conclusion)) =
+    StoreWorks g old new hands conf got input input_now out out_now (Ok conclusion)
+TaskDoes g (Fmd got) old new hands conf input input_now out out_now (Err stop) =
+    StoreWorks g old new hands conf got input input_now out out_now (Err stop)
+TaskDoes g (Admin asked) old new hands conf input input_now out out_now (Ok (Text text)) =
+    (input_now ≡ input) × (out_now ≡ out) × AdminDone g asked old new hands conf (Ok text)
+TaskDoes g (Admin asked) old new hands conf input input_now out out_now (Err stop) =
+    (input_now ≡ input) × (out_now ≡ out) × ((fault : StoreFault) × (stop ≡ of_store fault)
+    × AdminDone g asked old new hands conf (Err fault))
+TaskDoes _ _ _ _ _ _ _ _ _ _ _ = ⊥
+
+-- WHAT WAS DONE WITH THE STORE ON SIX DISKS, two lines a task: it was opened, or not
+abbrev pub TaskRan : StoreTask → SourceAt → SourceAt → SinkAt → SinkAt → DisksAt → DisksAt
+    → Result TaskDone Stop → Type 0
+TaskRan Accept input input_now out out_now disks disks_now (Ok Nothing) =
+    AcceptRan input input_now out out_now disks disks_now (Ok tt)
+TaskRan Accept input input_now out out_now disks disks_now (Err stop) =
+    AcceptRan input input_now out out_now disks disks_now (Err stop)
+TaskRan (Fmd got) input input_now out out_now disks disks_now (Ok (Concluded conclusion)) =
+    StoreRan input input_now out out_now disks disks_now got (Ok conclusion)
+TaskRan (Fmd got) input input_now out out_now disks disks_now (Err stop) =
+    StoreRan input input_now out out_now disks disks_now got (Err stop)
+TaskRan (Admin asked) input input_now out out_now disks disks_now (Ok (Text text)) =
+    (out_now ≡ out) × TextAsked asked disks disks_now (Ok text.items)
+TaskRan (Admin asked) input input_now out out_now disks disks_now (Err stop) =
+    (out_now ≡ out) × TextAsked asked disks disks_now (Err stop)
+TaskRan _ _ _ _ _ _ _ _ = ⊥

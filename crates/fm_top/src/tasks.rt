@@ -1,0 +1,37 @@
+// What a command does with a store that is open, and what is left to do once the disks are back.
+use crate::words::AdminCommand;
+use fm_conclude::Conclusion;
+use fm_sources::Sources;
+use std::alloc::Global;
+
+/// What is done with a store once it is open.
+#[derive(Drop)]
+pub(crate) enum StoreTask {
+    /// It takes the entry of each line of the input, and each line is answered.
+    Accept,
+    /// Where it keeps what was read of the sources, it does so too, and is then concluded.
+    Fmd(Sources),
+    /// It is drained, and what this command tells of it is told.
+    Admin(AdminCommand),
+}
+
+/// What is left to do once the disks are back.
+#[derive(Drop)]
+pub(crate) enum TaskDone {
+    /// Nothing.
+    Nothing,
+    /// What the drained book wants is to be taken out of use, and its summary put.
+    Concluded(Conclusion),
+    /// This text is to be put.
+    Text(Vec<u8>),
+}
+
+/// What a command over a store works with beside the disks: where memory comes from, what is done
+/// with the store, the input, and the sink.
+#[derive(Drop)]
+pub(crate) struct Streams<'t, 'i, 'o, S, K> {
+    pub(crate) alloc: Global,
+    pub(crate) task: &'t StoreTask,
+    pub(crate) input: &'i mut S,
+    pub(crate) out: &'o mut K,
+}
