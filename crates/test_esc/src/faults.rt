@@ -1,16 +1,14 @@
 // Objects that fail.
-use crate::asserts::{NO_RULES, ends, ruled};
-use crate::world::{Fails, Given, NONE_FAILS, PARTS};
+use crate::rows::{NO_LINE, all_end};
 use fm_top::ToolStatus;
+use small_tool::{Fails, Given, NO_FAILS, PARTS, done, ended};
 use std::test::Fail;
 
-/// Of these calls one fails, beside good rules and the empty input.
+/// A rule file without statements and the parts, where these calls fail.
 fn failing(fails: Fails) -> Given<'static> {
     Given {
-        rules: ["event fault.x@chassis;", NO_RULES],
-        parts: PARTS,
-        input: b"",
         fails,
+        ..Given::over(&[""], PARTS)
     }
 }
 
@@ -18,68 +16,57 @@ fn failing(fails: Fails) -> Given<'static> {
 fn a_failing_rule_file_is_told(rt: HostRuntime) -> Result<(), Fail> {
     let given = failing(Fails {
         rules: Some(0),
-        ..NONE_FAILS
+        ..NO_FAILS
     });
-    let fault = ToolStatus::ReadFault;
-    ends(&rt, rt.alloc(), &["esc"], given, fault, "read fault\n")?;
-    ends(
-        &rt,
-        rt.alloc(),
-        &["esc", "-b"],
-        given,
-        fault,
-        "read fault\n",
-    )
+    let rows = [
+        ended("esc", "", ToolStatus::ReadFault, "read fault\n"),
+        ended("esc -b", "", ToolStatus::ReadFault, "read fault\n"),
+        done("esc -l", "", ""),
+    ];
+    all_end(&rt, rt.alloc(), given, &rows)
 }
 
 #[test]
 fn a_refused_file_comes_before_a_failing_one(rt: HostRuntime) -> Result<(), Fail> {
     let given = Given {
-        fails: Fails {
+        rules: &["event $", ""],
+        ..failing(Fails {
             rules: Some(0),
-            ..NONE_FAILS
-        },
-        ..ruled("event $")
+            ..NO_FAILS
+        })
     };
-    let refused = ToolStatus::Rules;
-    ends(
-        &rt,
-        rt.alloc(),
-        &["esc"],
-        given,
-        refused,
-        "rules 0 6 token\n",
-    )
+    let rows = [ended("esc", "", ToolStatus::Rules, "rules 0 6 token\n")];
+    all_end(&rt, rt.alloc(), given, &rows)
 }
 
 #[test]
 fn a_failing_input_is_told(rt: HostRuntime) -> Result<(), Fail> {
     let given = failing(Fails {
         input: Some(0),
-        ..NONE_FAILS
+        ..NO_FAILS
     });
-    let fault = ToolStatus::ReadFault;
-    ends(
-        &rt,
-        rt.alloc(),
-        &["esc", "-l"],
-        given,
-        fault,
-        "read fault\n",
-    )?;
-    let text = "dx0 events 1 roots 1 reports 0 instances 0 skipped 0\n\
-dx1 events 0 roots 0 reports 0 instances 0 skipped 0\n";
-    ends(&rt, rt.alloc(), &["esc"], given, ToolStatus::Done, text)
+    let rows = [
+        ended("esc -l", "", ToolStatus::ReadFault, "read fault\n"),
+        done("esc", "", NO_LINE),
+    ];
+    all_end(&rt, rt.alloc(), given, &rows)
 }
 
 #[test]
 fn a_failing_sink_is_told(rt: HostRuntime) -> Result<(), Fail> {
     let given = failing(Fails {
         out: Some(0),
-        ..NONE_FAILS
+        ..NO_FAILS
     });
-    let fault = ToolStatus::WriteFault;
-    ends(&rt, rt.alloc(), &["esc"], given, fault, "")?;
-    ends(&rt, rt.alloc(), &["esc", "-b"], given, fault, "")?;
-    ends(&rt, rt.alloc(), &["esc", "-l"], given, fault, "")
+    let rows = [
+        ended("esc", "", ToolStatus::WriteFault, ""),
+        ended("esc -b", "", ToolStatus::WriteFault, ""),
+        ended(
+            "esc -l",
+            "FMAESC01\0\0\0\0\0\0\0\0\0\0\0\0\0\0\0\0\0\0\0\0",
+            ToolStatus::WriteFault,
+            "",
+        ),
+    ];
+    all_end(&rt, rt.alloc(), given, &rows)
 }

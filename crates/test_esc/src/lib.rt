@@ -1,13 +1,12 @@
 //! Tests of the command `esc` over objects in memory: what no clause says of it. They stand in a
 //! crate of their own, so that the libraries below are not proved again with each of them.
 //!
-//! `world` has what a call is handed, and the call; `asserts` the call with what it must put. The
-//! tests are by subject: `listings` for what rule files come to, `compiled` for compiled files,
-//! `refused` for sources and words that are refused, and `faults` for objects that fail.
+//! A test is a table of calls over a small machine whose disks fail at their first call, with what
+//! each must put: `listings` for what rule files come to, `compiled` for their compiled files and
+//! the listing of these, `refused` for sources and words that are refused, and `faults` for objects
+//! that fail.
 #![tactic(auto)]
 
-#[cfg(test)]
-mod asserts;
 #[cfg(test)]
 mod compiled;
 #[cfg(test)]
@@ -17,4 +16,4 @@ mod listings;
 #[cfg(test)]
 mod refused;
 #[cfg(test)]
-mod world;
+mod rows;

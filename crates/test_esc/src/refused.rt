@@ -1,70 +1,56 @@
 // Sources and words that are refused.
-use crate::asserts::{NO_RULES, ends, ruled};
-use crate::world::{Given, NONE_FAILS};
+use crate::rows::{BAD, all_end, all_end_of};
 use fm_top::ToolStatus;
-use std::alloc::Global;
-use std::process::Abort;
+use small_tool::{Given, ended};
 use std::test::Fail;
 
-/// Two events that lead to each other.
-const RING: &str = "event error.a.x@chassis;\nevent error.b.y@chassis;\n\
-prop error.a.x@chassis -> error.b.y@chassis;\nprop error.b.y@chassis -> error.a.x@chassis;\n";
-
-/// Asserts how this rule file is refused, listed and compiled.
-fn rules_refused(rt: &impl Abort, alloc: Global, rules: &str, text: &str) -> Result<(), Fail> {
-    let refused = ToolStatus::Rules;
-    ends(rt, alloc, &["esc"], ruled(rules), refused, text)?;
-    ends(rt, alloc, &["esc", "-b"], ruled(rules), refused, text)
-}
-
-#[test]
-fn a_ring_is_told(rt: HostRuntime) -> Result<(), Fail> {
-    let text = "rules 0 0 cycle error.a.x@chassis error.b.y@chassis\n";
-    rules_refused(&rt, rt.alloc(), RING, text)
-}
+/// A rule file that is refused, and the last line.
+const RULES: [[&str; 2]; 3] = [
+    [
+        "event error.a.x@chassis;\nevent error.b.y@chassis;\n\
+prop error.a.x@chassis -> error.b.y@chassis;\nprop error.b.y@chassis -> error.a.x@chassis;\n",
+        "rules 0 0 cycle error.a.x@chassis error.b.y@chassis\n",
+    ],
+    ["event fault.x@chassis", "rules 0 21 grammar\n"],
+    ["event fault.x@chassis, engine=serd.x;", "rules 0 0 kind\n"],
+];
 
 #[test]
-fn an_open_statement_is_told(rt: HostRuntime) -> Result<(), Fail> {
-    let open = "event fault.x@chassis";
-    rules_refused(&rt, rt.alloc(), open, "rules 0 21 grammar\n")
+fn a_rule_file_is_refused(rt: HostRuntime) -> Result<(), Fail> {
+    for [rules, text] in RULES {
+        let rows = [
+            ended("esc", "", ToolStatus::Rules, text),
+            ended("esc -b", "", ToolStatus::Rules, text),
+        ];
+        all_end_of(&rt, rt.alloc(), rules, &rows)?;
+    }
+    Ok(())
 }
 
-#[test]
-fn an_upset_without_an_engine_is_told(rt: HostRuntime) -> Result<(), Fail> {
-    let rules = "event fault.x@chassis, engine=serd.x;";
-    rules_refused(&rt, rt.alloc(), rules, "rules 0 0 kind\n")
-}
-
-/// Asserts that a topology is refused behind good rules, and before their graph is made.
-fn parts_refused(rt: &impl Abort, alloc: Global, parts: &str, text: &str) -> Result<(), Fail> {
-    let given = Given {
-        rules: ["event fault.x@chassis;", NO_RULES],
-        parts,
-        input: b"",
-        fails: NONE_FAILS,
-    };
-    ends(rt, alloc, &["esc"], given, ToolStatus::Topology, text)
-}
+/// A topology that is refused, and the last line.
+const PARTS: [[&str; 2]; 2] = [
+    ["hc:///chassis=0/cpu=0", "topology 1 parent\n"],
+    ["hc:///chassis=0\nhc:///chassis=0\n", "topology 2 twice\n"],
+];
 
 #[test]
 fn a_topology_is_refused(rt: HostRuntime) -> Result<(), Fail> {
-    let alloc = rt.alloc();
-    parts_refused(&rt, alloc, "hc:///chassis=0/cpu=0", "topology 1 parent\n")?;
-    let twice = "hc:///chassis=0\nhc:///chassis=0\n";
-    parts_refused(&rt, alloc, twice, "topology 2 twice\n")
+    let rules = ["event fault.x@chassis;"];
+    for [parts, text] in PARTS {
+        let rows = [ended("esc", "", ToolStatus::Topology, text)];
+        all_end(&rt, rt.alloc(), Given::over(&rules, parts), &rows)?;
+    }
+    Ok(())
 }
 
-/// Asserts that these words are no command.
-fn are_none(rt: &impl Abort, alloc: Global, texts: &[&str]) -> Result<(), Fail> {
-    let usage = ToolStatus::Usage;
-    ends(rt, alloc, texts, ruled("event $"), usage, "usage\n")
-}
+/// Words that are no command.
+const WORDS: [&str; 5] = ["Esc", "esc ", "esc -B", "esc -b -l", "-l esc"];
 
 #[test]
 fn other_words_are_usage(rt: HostRuntime) -> Result<(), Fail> {
-    are_none(&rt, rt.alloc(), &["Esc"])?;
-    are_none(&rt, rt.alloc(), &["esc", ""])?;
-    are_none(&rt, rt.alloc(), &["esc", "-B"])?;
-    are_none(&rt, rt.alloc(), &["esc", "-b", "-l"])?;
-    are_none(&rt, rt.alloc(), &["-l", "esc"])
+    for words in WORDS {
+        let rows = [ended(words, "", ToolStatus::Usage, "usage\n")];
+        all_end(&rt, rt.alloc(), BAD, &rows)?;
+    }
+    Ok(())
 }

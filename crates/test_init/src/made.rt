@@ -1,8 +1,9 @@
 // A store that is made.
-use crate::asserts::inits_good;
-use crate::world::{NO_FAULTS, bytes_of, disks};
+use crate::rows::{GOOD, all_end_over, inits, machine};
 use fm_outer::MemDisk;
-use fm_top::{Disks, ToolStatus};
+use fm_top::ToolStatus;
+use small_store::bytes_of;
+use small_tool::{Machine, made};
 use std::alloc::Global;
 use std::process::Abort;
 use std::test::Fail;
@@ -24,33 +25,22 @@ fn has(rt: &impl Abort, alloc: Global, disk: &mut MemDisk, bytes: &[u8]) -> Resu
     Ok(())
 }
 
-/// Asserts that the disks of the configuration and of the logs are those of a new store.
-fn has_logs(rt: &impl Abort, alloc: Global, disks: &mut Disks<MemDisk>) -> Result<(), Fail> {
-    has(rt, alloc, &mut disks.conf, CONF)?;
-    has(rt, alloc, &mut disks.err_a, EMPTY)?;
-    has(rt, alloc, &mut disks.flt, EMPTY)
-}
-
-/// Asserts that the other disks are those of a new store.
-fn has_others(rt: &impl Abort, alloc: Global, disks: &mut Disks<MemDisk>) -> Result<(), Fail> {
-    has(rt, alloc, &mut disks.err_b, b"")?;
-    has(rt, alloc, &mut disks.slot_a, b"\0")?;
-    has(rt, alloc, &mut disks.slot_b, b"\0")
-}
-
-#[test]
-fn a_store_is_made(rt: HostRuntime) -> Result<(), Fail> {
-    let mut disks = disks(rt.alloc(), NO_FAULTS)?;
-    inits_good(&rt, rt.alloc(), &mut disks, ToolStatus::Done, "")?;
-    has_logs(&rt, rt.alloc(), &mut disks)?;
-    has_others(&rt, rt.alloc(), &mut disks)
+/// Asserts that the disks are those of a new store.
+fn is_new(rt: &impl Abort, alloc: Global, machine: &mut Machine) -> Result<(), Fail> {
+    has(rt, alloc, &mut machine.disks.conf, CONF)?;
+    has(rt, alloc, &mut machine.disks.err_a, EMPTY)?;
+    has(rt, alloc, &mut machine.disks.flt, EMPTY)?;
+    has(rt, alloc, &mut machine.disks.err_b, b"")?;
+    has(rt, alloc, &mut machine.disks.slot_a, b"\0")?;
+    has(rt, alloc, &mut machine.disks.slot_b, b"\0")
 }
 
 #[test]
 fn a_store_is_made_once(rt: HostRuntime) -> Result<(), Fail> {
-    let mut disks = disks(rt.alloc(), NO_FAULTS)?;
-    let exists = ToolStatus::Exists;
-    inits_good(&rt, rt.alloc(), &mut disks, ToolStatus::Done, "")?;
-    inits_good(&rt, rt.alloc(), &mut disks, exists, "store exists\n")?;
-    has_logs(&rt, rt.alloc(), &mut disks)
+    let mut machine = machine(rt.alloc())?;
+    all_end_over(&rt, rt.alloc(), &mut machine, GOOD, &[made()])?;
+    is_new(&rt, rt.alloc(), &mut machine)?;
+    let again = [inits(ToolStatus::Exists, "store exists\n")];
+    all_end_over(&rt, rt.alloc(), &mut machine, GOOD, &again)?;
+    is_new(&rt, rt.alloc(), &mut machine)
 }

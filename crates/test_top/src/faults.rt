@@ -1,107 +1,99 @@
 // What failures of the outside leave.
-use crate::asserts::{accepts, ends, puts};
-use crate::stopped::calls_over;
-use crate::world::{
-    EMPTY, REPORT, bare_disks, disks_of, failing_disks, failing_streams, new_disks, streams_of,
-    with_failing_sink,
-};
+use crate::rows::{GOOD, accept, all_end, all_end_fresh, stored};
+use crate::stopped::{calls_in, reported};
 use fm_outer::MemDisk;
-use fm_top::{Disks, ToolStatus};
+use fm_top::{DiskName, ToolStatus};
+use small_tool::{Fails, Given, Machine, NO_FAILS, REPORT, Row, ended, fail_once};
 use std::alloc::Global;
 use std::process::Abort;
 use std::test::Fail;
 
-/// Asserts what `accept` of one report puts, where this call of the source fails.
-fn read_fault_at(rt: &impl Abort, alloc: Global, at: u64, text: &str) -> Result<(), Fail> {
-    let mut disks = new_disks(alloc)?;
-    let mut streams = failing_streams(alloc, at)?;
-    let fault = ToolStatus::ReadFault;
-    ends(rt, alloc, &mut disks, "accept", &mut streams, fault, text)
+/// This call of the input fails.
+fn input_fails(call: u64) -> Given<'static> {
+    Given {
+        fails: Fails {
+            input: Some(call),
+            ..NO_FAILS
+        },
+        ..GOOD
+    }
+}
+
+/// This call of the sink fails.
+fn sink_fails(call: u64) -> Given<'static> {
+    Given {
+        fails: Fails {
+            out: Some(call),
+            ..NO_FAILS
+        },
+        ..GOOD
+    }
+}
+
+/// `accept` of a report stops where its source fails.
+fn unread(text: &str) -> Row<'_> {
+    ended("accept", REPORT, ToolStatus::ReadFault, text)
 }
 
 #[test]
 fn a_failing_source_is_told(rt: HostRuntime) -> Result<(), Fail> {
-    read_fault_at(&rt, rt.alloc(), 0, "read fault\n")?;
-    read_fault_at(&rt, rt.alloc(), 1, "ok 0\nread fault\n")
+    all_end_fresh(&rt, rt.alloc(), input_fails(0), &[unread("read fault\n")])?;
+    let text = "ok 0\nread fault\n";
+    all_end_fresh(&rt, rt.alloc(), input_fails(1), &[unread(text)])
 }
 
-/// Asserts what a call of one word puts over these disks, where this call of the sink fails.
-fn put_fails(
-    rt: &impl Abort,
-    alloc: Global,
-    disks: &mut Disks<MemDisk>,
-    word: &str,
-    input: &str,
-    at: u64,
-    text: &str,
-) -> Result<(), Fail> {
-    let streams = streams_of(alloc, input.as_bytes())?;
-    let mut streams = with_failing_sink(alloc, streams, at)?;
-    let fault = ToolStatus::WriteFault;
-    ends(rt, alloc, disks, word, &mut streams, fault, text)
-}
-
-/// Asserts the same over a new store.
-fn fresh_put_fails(
-    rt: &impl Abort,
-    alloc: Global,
-    word: &str,
-    input: &str,
-    at: u64,
-    text: &str,
-) -> Result<(), Fail> {
-    let mut disks = new_disks(alloc)?;
-    put_fails(rt, alloc, &mut disks, word, input, at, text)
+/// These words over this input stop where the sink fails.
+fn unput<'a>(words: &'a str, input: &'a str, text: &'a str) -> Row<'a> {
+    ended(words, input, ToolStatus::WriteFault, text)
 }
 
 #[test]
 fn a_failing_sink_is_told(rt: HostRuntime) -> Result<(), Fail> {
-    fresh_put_fails(&rt, rt.alloc(), "accept", REPORT, 0, "")?;
-    fresh_put_fails(&rt, rt.alloc(), "replay", REPORT, 0, "")?;
-    // the last line
-    fresh_put_fails(&rt, rt.alloc(), "accepts", REPORT, 0, "")
+    let rows = [
+        unput("accept", REPORT, ""),
+        unput("replay", REPORT, ""),
+        // the last line
+        unput("accepts", REPORT, ""),
+    ];
+    all_end_fresh(&rt, rt.alloc(), sink_fails(0), &rows)
 }
 
 #[test]
 fn a_line_is_answered_by_one_put(rt: HostRuntime) -> Result<(), Fail> {
-    fresh_put_fails(&rt, rt.alloc(), "accept", "tick 1\ntick 2\n", 1, "ok 0\n")?;
-    fresh_put_fails(
-        &rt,
-        rt.alloc(),
-        "accept",
-        "hello\ntick 2\n",
-        1,
-        "refused 1 2\n",
-    )
+    let rows = [
+        unput("accept", "tick 1\ntick 2\n", "ok 0\n"),
+        unput("accept", "hello\ntick 2\n", "refused 1 2\n"),
+    ];
+    all_end_fresh(&rt, rt.alloc(), sink_fails(1), &rows)
 }
 
 #[test]
 fn an_answer_is_put_after_the_append(rt: HostRuntime) -> Result<(), Fail> {
-    let alloc = rt.alloc();
-    let mut disks = new_disks(alloc)?;
-    put_fails(&rt, alloc, &mut disks, "accept", REPORT, 0, "")?;
-    accepts(&rt, alloc, &mut disks, b"tick 1\n", "ok 1\n")
+    let mut machine = stored(&rt, rt.alloc())?;
+    let rows = [unput("accept", REPORT, "")];
+    all_end(&rt, rt.alloc(), &mut machine, sink_fails(0), &rows)?;
+    let rows = [accept("tick 1\n", "ok 1\n")];
+    all_end(&rt, rt.alloc(), &mut machine, GOOD, &rows)
 }
 
 #[test]
 fn no_store_is_damage(rt: HostRuntime) -> Result<(), Fail> {
-    let mut disks = bare_disks(rt.alloc())?;
-    puts(
-        &rt,
-        rt.alloc(),
-        &mut disks,
+    let mut machine = Machine::new(rt.alloc(), Vec::new(rt.alloc()))?;
+    let damaged = ended(
         "accept",
-        b"tick 1\n",
+        "tick 1\n",
         ToolStatus::Damaged,
         "damaged conf 0\n",
-    )
+    );
+    all_end(&rt, rt.alloc(), &mut machine, GOOD, &[damaged])
 }
 
 /// Asserts where a store with these bytes as its error journal is damaged.
 fn damaged(rt: &impl Abort, alloc: Global, err_a: &[u8], text: &str) -> Result<(), Fail> {
-    let mut disks = disks_of(alloc, err_a)?;
-    let status = ToolStatus::Damaged;
-    puts(rt, alloc, &mut disks, "accept", b"tick 1\n", status, text)
+    let mut machine = stored(rt, alloc)?;
+    machine.disks.err_a = MemDisk::new(alloc, err_a, 64, 64, Vec::new(alloc))?;
+    let damaged = ended("accept", "tick 1\n", ToolStatus::Damaged, text);
+    all_end(rt, alloc, &mut machine, GOOD, &[damaged])
 }
 
 /// A journal that is cut to ten bytes, and one whose first record has a length past its end.
@@ -115,30 +107,27 @@ fn a_damaged_journal_is_told(rt: HostRuntime) -> Result<(), Fail> {
     damaged(&rt, rt.alloc(), TOO_LONG, "damaged err_a 16\n")
 }
 
-/// Asserts that a run whose call of this number to the disk fails tells it, and what number the
-/// next run goes on with.
-fn goes_on_after(rt: &impl Abort, alloc: Global, at: u64, text: &str) -> Result<(), Fail> {
-    let mut disks = failing_disks(alloc, at)?;
-    let report = REPORT.as_bytes();
-    let fault = ToolStatus::DiskFault;
-    puts(
+/// Asserts that a run in which this call of the error journal's disk fails tells it, and what
+/// number the next run goes on with.
+fn goes_on_after(rt: &impl Abort, alloc: Global, call: u64, text: &str) -> Result<(), Fail> {
+    let mut machine = reported(rt, alloc)?;
+    fail_once(alloc, &mut machine.disks, DiskName::ErrA, call)?;
+    let fault = ended("accept", REPORT, ToolStatus::DiskFault, "disk fault\n");
+    all_end(
         rt,
         alloc,
-        &mut disks,
-        "accept",
-        report,
-        fault,
-        "disk fault\n",
-    )?;
-    accepts(rt, alloc, &mut disks, report, text)
+        &mut machine,
+        GOOD,
+        &[fault, accept(REPORT, text)],
+    )
 }
 
 #[test]
 fn what_was_not_answered_is_there_or_not(rt: HostRuntime) -> Result<(), Fail> {
     // the last call is the sync of the gate
-    let last = calls_over(rt.alloc(), EMPTY)?.saturating_sub(1);
-    for at in 0..last {
-        goes_on_after(&rt, rt.alloc(), at, "ok 0\n")?;
+    let last = calls_in(&rt, rt.alloc())?.saturating_sub(1);
+    for call in 0..last {
+        goes_on_after(&rt, rt.alloc(), call, "ok 1\n")?;
     }
-    goes_on_after(&rt, rt.alloc(), last, "ok 1\n")
+    goes_on_after(&rt, rt.alloc(), last, "ok 2\n")
 }

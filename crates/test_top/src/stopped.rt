@@ -1,9 +1,8 @@
 // What a disk leaves that stops within a run.
-use crate::asserts::{accepts, call};
-use crate::kept::WITHOUT;
-use crate::world::{EMPTY, REPORT, disk_of, disks_around, streams_of};
-use fm_outer::{Image, MemDisk};
-use fm_top::Disks;
+use crate::rows::{GOOD, accept, all_end, stored};
+use fm_outer::Image;
+use fm_top::DiskName;
+use small_tool::{Given, Machine, REPORT, calls_of, stop};
 use std::alloc::Global;
 use std::process::Abort;
 use std::test::Fail;
@@ -18,55 +17,56 @@ const IMAGES: [Image; 6] = [
     Image::Fill(255),
 ];
 
-/// Lets `accept` take one report, as far as the disk goes.
-fn run_report(alloc: Global, disks: &mut Disks<MemDisk>) -> Result<(), Fail> {
-    let mut streams = streams_of(alloc, REPORT.as_bytes())?;
-    call(alloc, disks, "accept", &mut streams)?;
+/// A machine whose store has a report, and whose disks have not been called.
+pub(crate) fn reported(rt: &impl Abort, alloc: Global) -> Result<Machine, Fail> {
+    let mut machine = stored(rt, alloc)?;
+    all_end(rt, alloc, &mut machine, GOOD, &[accept(REPORT, "ok 0\n")])?;
+    Ok(machine.crash(alloc, Image::Old)?)
+}
+
+/// Lets `accept` take one report, as far as the disks go.
+fn run_report(alloc: Global, machine: &mut Machine) -> Result<(), Fail> {
+    let given = Given {
+        input: REPORT.as_bytes(),
+        ..GOOD
+    };
+    machine.call(alloc, "accept", given)?;
     Ok(())
 }
 
-/// How often a run over a store calls its error journal's disk, which has these bytes.
-pub(crate) fn calls_over(alloc: Global, err_a: &[u8]) -> Result<u64, Fail> {
-    let mut disks = disks_around(alloc, disk_of(alloc, err_a)?)?;
-    run_report(alloc, &mut disks)?;
-    Ok(disks.err_a.calls())
+/// How often a run that takes a report calls the error journal's disk.
+pub(crate) fn calls_in(rt: &impl Abort, alloc: Global) -> Result<u64, Fail> {
+    let mut machine = reported(rt, alloc)?;
+    run_report(alloc, &mut machine)?;
+    Ok(calls_of(&machine.disks, DiskName::ErrA))
 }
 
-/// The disk that a crash leaves of one of these bytes, after a run in which it stopped at this
-/// call.
-fn crashed(alloc: Global, err_a: &[u8], stop: u64, image: Image) -> Result<MemDisk, Fail> {
-    let mut disks = disks_around(alloc, disk_of(alloc, err_a)?)?;
-    disks.err_a.stop_at(stop);
-    run_report(alloc, &mut disks)?;
-    let Disks { err_a, .. } = disks;
-    Ok(err_a.crash(alloc, image).ok().ok_or("no memory")?)
-}
-
-/// Asserts that after such a crash two runs open the journal, and the second goes on with this
-/// number.
+/// Asserts that after a run in which the error journal's disk stopped at this call, and a crash
+/// that leaves this image, two runs open the store, and the second goes on with this number.
 fn goes_on(
     rt: &impl Abort,
     alloc: Global,
-    err_a: &[u8],
-    stop: u64,
+    call: u64,
     image: Image,
     text: &str,
 ) -> Result<(), Fail> {
-    let mut disks = disks_around(alloc, crashed(alloc, err_a, stop, image)?)?;
-    accepts(rt, alloc, &mut disks, b"", "")?;
-    accepts(rt, alloc, &mut disks, b"tick 1\n", text)
+    let mut machine = reported(rt, alloc)?;
+    stop(&mut machine.disks, DiskName::ErrA, call);
+    run_report(alloc, &mut machine)?;
+    let mut left = machine.crash(alloc, image)?;
+    all_end(
+        rt,
+        alloc,
+        &mut left,
+        GOOD,
+        &[accept("", ""), accept("tick 1\n", text)],
+    )
 }
 
 /// Asserts that with each image.
-fn goes_on_with_all(
-    rt: &impl Abort,
-    alloc: Global,
-    err_a: &[u8],
-    stop: u64,
-    text: &str,
-) -> Result<(), Fail> {
+fn goes_on_with_all(rt: &impl Abort, alloc: Global, call: u64, text: &str) -> Result<(), Fail> {
     for image in IMAGES {
-        goes_on(rt, alloc, err_a, stop, image, text)?;
+        goes_on(rt, alloc, call, image, text)?;
     }
     Ok(())
 }
@@ -74,42 +74,31 @@ fn goes_on_with_all(
 #[test]
 fn a_stop_before_the_gate_leaves_the_list(rt: HostRuntime) -> Result<(), Fail> {
     // the gate is written and synced by the last two calls
-    let gate = calls_over(rt.alloc(), WITHOUT)?.saturating_sub(2);
-    for stop in 0..gate {
-        goes_on_with_all(&rt, rt.alloc(), WITHOUT, stop, "ok 1\n")?;
+    let gate = calls_in(&rt, rt.alloc())?.saturating_sub(2);
+    for call in 0..gate {
+        goes_on_with_all(&rt, rt.alloc(), call, "ok 1\n")?;
     }
     Ok(())
 }
 
 /// Asserts what a stop at the gate's write, or at its sync, leaves.
-fn leaves_one_of_two(rt: &impl Abort, alloc: Global, stop: u64) -> Result<(), Fail> {
-    goes_on(rt, alloc, WITHOUT, stop, Image::Old, "ok 1\n")?;
-    goes_on(rt, alloc, WITHOUT, stop, Image::Fill(0), "ok 1\n")?;
-    goes_on(rt, alloc, WITHOUT, stop, Image::Fill(7), "ok 1\n")?;
-    goes_on(rt, alloc, WITHOUT, stop, Image::New, "ok 2\n")?;
-    goes_on(rt, alloc, WITHOUT, stop, Image::Fill(1), "ok 2\n")
+fn leaves_one_of_two(rt: &impl Abort, alloc: Global, call: u64) -> Result<(), Fail> {
+    goes_on(rt, alloc, call, Image::Old, "ok 1\n")?;
+    goes_on(rt, alloc, call, Image::Fill(0), "ok 1\n")?;
+    goes_on(rt, alloc, call, Image::Fill(7), "ok 1\n")?;
+    goes_on(rt, alloc, call, Image::New, "ok 2\n")?;
+    goes_on(rt, alloc, call, Image::Fill(1), "ok 2\n")
 }
 
 #[test]
 fn a_stop_at_the_gate_leaves_one_of_two_lists(rt: HostRuntime) -> Result<(), Fail> {
-    let calls = calls_over(rt.alloc(), WITHOUT)?;
+    let calls = calls_in(&rt, rt.alloc())?;
     leaves_one_of_two(&rt, rt.alloc(), calls.saturating_sub(2))?;
     leaves_one_of_two(&rt, rt.alloc(), calls.saturating_sub(1))
 }
 
 #[test]
 fn what_was_answered_is_kept(rt: HostRuntime) -> Result<(), Fail> {
-    let calls = calls_over(rt.alloc(), WITHOUT)?;
-    goes_on_with_all(&rt, rt.alloc(), WITHOUT, calls, "ok 2\n")
-}
-
-#[test]
-fn a_first_append_is_there_or_not(rt: HostRuntime) -> Result<(), Fail> {
-    let alloc = rt.alloc();
-    let calls = calls_over(alloc, EMPTY)?;
-    let gate = calls.saturating_sub(2);
-    goes_on(&rt, alloc, EMPTY, gate, Image::Old, "ok 0\n")?;
-    goes_on(&rt, alloc, EMPTY, gate, Image::Fill(7), "ok 0\n")?;
-    goes_on(&rt, alloc, EMPTY, gate, Image::New, "ok 1\n")?;
-    goes_on_with_all(&rt, alloc, EMPTY, calls, "ok 1\n")
+    let calls = calls_in(&rt, rt.alloc())?;
+    goes_on_with_all(&rt, rt.alloc(), calls, "ok 2\n")
 }

@@ -1,0 +1,122 @@
+// What ends the command before all is done.
+use crate::rows::{all_end, machine, run};
+use fm_top::ToolStatus;
+use small_tool::{CPU_RULES, Given, OPEN_SUMMARY, PARTS, REPORT, Row, ended, made};
+use std::test::Fail;
+
+/// Without a store.
+fn none() -> [Row<'static>; 1] {
+    [ended(
+        "fmd -1",
+        "tick 1\n",
+        ToolStatus::Damaged,
+        "damaged conf 0\n",
+    )]
+}
+
+/// A second store is not made of the first.
+fn twice() -> [Row<'static>; 2] {
+    [
+        made(),
+        ended(
+            "init 6ba7b810-9dad-11d1-80b4-00c04fd430c8",
+            "",
+            ToolStatus::Exists,
+            "store exists\n",
+        ),
+    ]
+}
+
+#[test]
+fn a_store_is_there_once(rt: HostRuntime) -> Result<(), Fail> {
+    let given = Given::over(&[CPU_RULES], PARTS);
+    all_end(&rt, rt.alloc(), given, &none())?;
+    all_end(&rt, rt.alloc(), given, &twice())
+}
+
+/// What was read is not what the store keeps.
+fn differs() -> [Row<'static>; 1] {
+    [ended(
+        "fmd -1",
+        "tick 1\n",
+        ToolStatus::Differs,
+        "configuration differs\n",
+    )]
+}
+
+/// The store goes on.
+fn goes_on() -> [Row<'static>; 1] {
+    [run("", OPEN_SUMMARY)]
+}
+
+/// A store with one report, whose case is open.
+fn open() -> [Row<'static>; 2] {
+    [
+        made(),
+        run(
+            REPORT,
+            "ok 0\nentries 1\n\
+cases open 1 solved 0 upset 0 undiagnosable 0 repaired 0\ncase dx0/0 open 1\n",
+        ),
+    ]
+}
+
+#[test]
+fn other_rules_and_parts_differ(rt: HostRuntime) -> Result<(), Fail> {
+    let alloc = rt.alloc();
+    let given = Given::over(&[CPU_RULES], PARTS);
+    let mut machine = machine(alloc, &[])?;
+    assert_eq!(&rt; machine.first_wrong(alloc, given, &open())?, None);
+    let rules = Given::over(&["event fault.x@chassis;\n"], PARTS);
+    assert_eq!(&rt; machine.first_wrong(alloc, rules, &differs())?, None);
+    let more = Given::over(&[CPU_RULES, ""], PARTS);
+    assert_eq!(&rt; machine.first_wrong(alloc, more, &differs())?, None);
+    let parts = Given::over(&[CPU_RULES], "hc:///chassis=0\n");
+    assert_eq!(&rt; machine.first_wrong(alloc, parts, &differs())?, None);
+    assert_eq!(&rt; machine.first_wrong(alloc, given, &goes_on())?, None);
+    Ok(())
+}
+
+/// Rules that are refused, and a topology that is.
+fn rules_refused() -> [Row<'static>; 1] {
+    [ended(
+        "fmd -1",
+        "tick 1\n",
+        ToolStatus::Rules,
+        "rules 1 21 grammar\n",
+    )]
+}
+
+fn parts_refused() -> [Row<'static>; 1] {
+    [ended(
+        "fmd -1",
+        "tick 1\n",
+        ToolStatus::Topology,
+        "topology 1 parent\n",
+    )]
+}
+
+#[test]
+fn sources_are_refused_before_the_store_is_opened(rt: HostRuntime) -> Result<(), Fail> {
+    let rules = Given::over(&[CPU_RULES, "event fault.x@chassis"], "x");
+    all_end(&rt, rt.alloc(), rules, &rules_refused())?;
+    let parts = Given::over(&[CPU_RULES], "hc:///chassis=0/cpu=0");
+    all_end(&rt, rt.alloc(), parts, &parts_refused())
+}
+
+/// Words that are no command.
+fn words() -> [Row<'static>; 6] {
+    [
+        ended("", "", ToolStatus::Usage, "usage\n"),
+        ended("fmd", "", ToolStatus::Usage, "usage\n"),
+        ended("fmd -2", "", ToolStatus::Usage, "usage\n"),
+        ended("fmd -1 -1", "", ToolStatus::Usage, "usage\n"),
+        ended("Fmd -1", "", ToolStatus::Usage, "usage\n"),
+        ended("-1 fmd", "", ToolStatus::Usage, "usage\n"),
+    ]
+}
+
+#[test]
+fn other_words_are_usage(rt: HostRuntime) -> Result<(), Fail> {
+    all_end(&rt, rt.alloc(), Given::over(&["event $"], "x"), &words())
+}
