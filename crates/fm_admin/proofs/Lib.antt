@@ -4,3 +4,4 @@ pub mod Rotations
 pub mod Rows
 pub mod Repairs
 pub mod RepairBooks
+pub mod Dumps

@@ -1,5 +1,6 @@
 -- What a drain and a reading of the fault log come to.
-use Rattle.std.proofs.Common.{◌≡◌, inl, inr, ℕ, ◌≤◌, length, true, ◌==◌, List, [], map, Option, Some, None}
+use Rattle.std.proofs.Common.{◌≡◌, inl, inr, ℕ, ◌≤◌, length, true, ◌==◌, List, [], map, Option}
+use Rattle.std.proofs.Common.{Some, None}
 use Rattle.std.proofs.Common.{Result, Ok, Err, IfOk, IfErr, IsTrue, refl, sym, ◌∙◌, ap, subst}
 use Rattle.std.specs.List.{slice_get}
 use Rattle.std.proofs.lemmas.Result.{IfOk-weaker}
@@ -287,7 +288,8 @@ module _ {D M : Type 0} (g : Ghosts D) (m : ModuleGhosts M) where
 
   -- the drain came to the end, and the log was read or not
   pub read_book : {X : Type 0} (fresh : List ModuleState) (log : DiskName)
-      (old mid new : StoreOf D M) (k : StoreBook) (now : List (HandOf M)) (done : Unit) (result : Result X StoreFault)
+      (old mid new : StoreOf D M) (k : StoreBook) (now : List (HandOf M)) (done : Unit)
+      (result : Result X StoreFault)
       (Told : StoreBook → X → Type 0) → StoreStandsFor g fresh old k
       → DrainsOnBook g m fresh old mid k now (Ok done) → AreAtEnd mid.logs
       → OnlyRead g (store_disk log mid) (store_disk log new)

@@ -96,8 +96,8 @@ RepairFollows g fresh mid new k (Ok (Some e)) result =
 RepairFollows g fresh mid new k (Ok None) result = (result ≡ Ok None) × (new ≡ mid)
 RepairFollows g fresh mid new k (Err fault) result = (result ≡ Err fault) × (new ≡ mid)
 
--- What becomes of a book that the hands follow: it is drained and looked at, up to `after_look`, and
--- then the entry that was found is taken.
+-- What becomes of a book that the hands follow: it is drained and looked at, up to `after_look`,
+-- and then the entry that was found is taken.
 pub record RepairsBook {D M : Type 0} (g : Ghosts D) (fresh : List ModuleState)
     (old new : StoreOf D M) (k : StoreBook) (order : RepairOrder)
     (result : Result (Option Repaired) StoreFault) : Type 0 where

@@ -54,7 +54,7 @@ TellRefused g m log old new hands NoMemory = Unit {0}
 TellRefused _ _ _ _ _ _ _ = ⊥
 
 -- A book after works of its modules, each of which has come to the end: it drains to the same, also
--- after more entries, and of each module it has the state and the records that the drained book has.
+-- after more entries, and of each module it has the state and the records of the drained book.
 pub record IsDrainedOf (k now : StoreBook) : Type 0 where
   pub alike : DrainAlike now.book k.book
   pub confs_same : now.confs ≡ k.confs

@@ -10,11 +10,13 @@
 //! contents that read like the book of before, or with the entry that was being accepted.
 #![tactic(auto)]
 
+mod dumping;
 mod marking;
 mod repairing;
 mod rotating;
 mod telling;
 
+pub use dumping::{FaultsOrder, dump_errors, dump_faults};
 pub use marking::{Repair, RepairOrder};
 pub use repairing::{Repaired, repair};
 pub use rotating::rotate_drained;

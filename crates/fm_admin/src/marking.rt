@@ -4,7 +4,7 @@ ghost use Rattle.std.specs.List.{find};
 ghost use Rattle.std.specs.Option.{option_map};
 ghost use Rattle.std.specs.Prelude.{◌≡◌, ◌<◌, ◌^◌, map, IfOk, IfSome};
 ghost use Rattle.fm_admin.specs.Marking.{case_with, entry_by, has_uuid, marks_hands};
-ghost use Rattle.fm_admin.specs.Marking.{where_acquits};
+ghost use Rattle.fm_admin.specs.Marking.{solved_of, where_acquits};
 ghost use Rattle.fm_core.specs.Book.{IsAdmitted};
 ghost use Rattle.fm_summary.specs.DrainedSummary.{diagnosers};
 
@@ -35,13 +35,18 @@ pub struct RepairOrder {
     pub repair: Repair,
 }
 
+/// The last words of the solved cases of a hand's module.
+fn solved_by(hand: &Hand<Diagnoser>) -> &[ListEvent]
+    ensures { result.now ≡ solved_of (diagnosers.state hand.now.object) }
+{
+    hand.state().solved()
+}
+
 /// Whether some suspect of a solved case of these modules is present and chosen.
 fn marks_hands<C: Choice>(choice: &C, hands: &[Hand<Diagnoser>]) -> bool
     ensures { result ≡ marks_hands diagnosers hands.now (C.chosen choice.now) }
 {
-    hands
-        .iter()
-        .any(|hand| marks_any(choice, hand.state().solved()))
+    hands.iter().any(|hand| marks_any(choice, solved_by(hand)))
 }
 
 /// Whether the case has the UUID.

@@ -1,5 +1,7 @@
 -- The store was drained and read, and an entry looked for.
+use denote.Param.Send.{sendable}
 use Rattle.std.proofs.Common.{◌≡◌, rules, subst}
+use Rattle.dx_engine.proofs.Crossing.{diagnoser_send}
 use Rattle.fm_logs.specs.declared.disks.DiskName.TheVariants.{Flt}
 use Rattle.fm_summary.specs.DrainedSummary.{diagnosers}
 use Rattle.fm_admin.specs.Marking.{entry_by, marks_hands}
@@ -33,3 +35,6 @@ returns-clause-book g c = λ fresh k stands follow.
     (subst (λ hands. c.in_ok-entry.entry ≡ entry_by c.args.order.now.namespace
     c.args.order.now.moment c.args.order.now.repair c.in_ok-hands.status
     (marks_hands diagnosers hands)) c.deref.ensures.value c.in_ok-entry.ensures.entry)) tt
+
+pub drain_status-requires-send-M : goal.drain_status-requires-send-M
+drain_status-requires-send-M g c κs = search (diagnoser_send, sendable)

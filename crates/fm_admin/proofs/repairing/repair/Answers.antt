@@ -1,4 +1,6 @@
 -- An entry was found and taken, or there was none, or the look for it was refused.
+use denote.Param.Send.{sendable}
+use Rattle.dx_engine.proofs.Crossing.{diagnoser_send}
 use Rattle.fm_summary.specs.DrainedSummary.{diagnosers}
 use Rattle.fm_admin.specs.Repairing.{AreHandsAndEntry}
 use Rattle.fm_admin.proofs.RepairBooks.{entry_taken, look_refused, none_repaired, repair_did}
@@ -38,3 +40,6 @@ returns-in-Err-clause-book g c = λ fresh k stands follow.
     c.args.order.now c.in-Err.fault
     (λ now found. AreHandsAndEntry diagnosers c.args.order.now k now found.0.items found.1)
     (c.in-Err.ensures.book fresh k stands follow)
+
+pub take_entry-requires-send-M : goal.take_entry-requires-send-M
+take_entry-requires-send-M g c κs = search (diagnoser_send, sendable)
