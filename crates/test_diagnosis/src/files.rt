@@ -2,7 +2,7 @@
 
 use dx_rules::{Configs, Rulebook, Ruled};
 use ev_check::Checked;
-use ev_inst::instantiate;
+use ev_inst::{instantiate, make_guards};
 use fm_sources::read_rules;
 use fm_topo::{Topo, read_topo};
 use std::alloc::{AllocError, Global};
@@ -43,6 +43,18 @@ engine serd.cpu.ce@chassis/cpu, N=3, T=1h, trip=ereport.cpu.thr;\
 prop upset.cpu.ce@chassis/cpu -> ereport.cpu.ce@chassis/cpu;\
 prop fault.cpu.cache@chassis/cpu (0)-> ereport.cpu.thr@chassis/cpu;";
 
+/// The cache shows the report only where the bank is the processor's and two more.
+pub const BANKS: &str = "event fault.cpu.cache@chassis/cpu, FITrate=200;\
+event fault.cpu.core@chassis/cpu, FITrate=100;\
+event ereport.cpu.ue@chassis/cpu, within=0s;\
+prop fault.cpu.core@chassis/cpu -> ereport.cpu.ue@chassis/cpu;\
+prop fault.cpu.cache@chassis/cpu -> ereport.cpu.ue@chassis/cpu\
+{payloadprop(\"bank\") == cpu + 2};";
+
+/// A second report that only the cache shows, for the same rules.
+pub const SECOND: &str = "event ereport.cpu.wd@chassis/cpu, within=5s;\
+prop fault.cpu.cache@chassis/cpu (0)-> ereport.cpu.wd@chassis/cpu;";
+
 /// The parts of a text, one after the other.
 fn joined(alloc: Global, parts: &[&str]) -> Result<String, AllocError> {
     let mut text = String::new(alloc);
@@ -70,12 +82,16 @@ fn topology(alloc: Global) -> Result<Topo, Fail> {
 fn ruled(alloc: Global, text: &str) -> Result<Ruled, Fail> {
     let topo = topology(alloc)?;
     let checked = checked(alloc, text)?;
-    match instantiate(alloc, &checked, &topo) {
-        Ok(made) => Ok(Ruled {
+    let made = match instantiate(alloc, &checked, &topo) {
+        Ok(made) => made,
+        Err(_) => return Err(Fail::new("no graph")),
+    };
+    match make_guards(alloc, &checked, topo, &made.graph) {
+        Ok(guards) => Ok(Ruled {
             graph: made.graph,
-            guards: None,
+            guards: Some(guards),
         }),
-        Err(_) => Err(Fail::new("no graph")),
+        Err(_) => Err(Fail::new("no memory")),
     }
 }
 

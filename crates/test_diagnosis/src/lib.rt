@@ -7,6 +7,8 @@ mod engines;
 #[cfg(test)]
 mod files;
 #[cfg(test)]
+mod payloads;
+#[cfg(test)]
 mod played;
 #[cfg(test)]
 mod solved;
