@@ -13,11 +13,12 @@
 #![tactic(auto)]
 
 mod disks;
+mod later;
 mod parts;
 mod small;
 mod told;
 
 pub use disks::{bytes_of, crashed, disk_of, empty_disks, new_store};
-pub use parts::{counters, report, small_conf};
+pub use parts::{counters, letter_at, moment_at, report, small_conf};
 pub use small::{SmallStore, Stopped, opened};
 pub use told::{Told, comes_to, told_by};

@@ -24,14 +24,43 @@ pub fn small_conf(alloc: Global, files: u8) -> Result<Option<Conf>, NoMemory>
     read_conf(alloc, &bytes)
 }
 
-/// A report of a class at a path, without a payload.
-pub fn report(alloc: Global, moment: u32) -> Result<Option<Entry>, NoMemory>
+/// A report of the class `ereport.cpu.u` and this letter, at a path, without a payload.
+fn report_of(alloc: Global, letter: u8, moment: u32) -> Result<Option<Entry>, NoMemory>
     ensures { IfOk result (λ entry. IfSome entry IsSpelled) }
 {
-    let mut bytes = b"\x01\0\x0eereport.cpu.ue\0\x15hc:///chassis=0/cpu=1\0\0\0\0".to_vec(alloc)?;
+    let mut bytes = b"\x01\0\x0eereport.cpu.u".to_vec(alloc)?;
+    bytes.push(letter)?;
+    bytes.extend_from_slice(b"\0\x15hc:///chassis=0/cpu=1\0\0\0\0")?;
     bytes.extend_from_slice(&moment.to_be_bytes())?;
     bytes.extend_from_slice(b"\0\0")?;
     read_entry(alloc, &bytes)
+}
+
+/// A report of one class.
+pub fn report(alloc: Global, moment: u32) -> Result<Option<Entry>, NoMemory>
+    ensures { IfOk result (λ entry. IfSome entry IsSpelled) }
+{
+    report_of(alloc, b'e', moment)
+}
+
+/// The letter of the class of the report with this number, where the reports are mixed.
+pub fn letter_at(number: u64) -> u8 {
+    match number % 10 {
+        3 | 4 | 6 | 9 => b'b',
+        _ => b'a',
+    }
+}
+
+/// The moment of the report with this number, where the reports are mixed: each is before the last.
+pub fn moment_at(number: u64) -> u32 {
+    100 - (number % 100) as u32
+}
+
+/// The report with this number, where the reports are mixed.
+pub(crate) fn mixed_report(alloc: Global, number: u64) -> Result<Option<Entry>, NoMemory>
+    ensures { IfOk result (λ entry. IfSome entry IsSpelled) }
+{
+    report_of(alloc, letter_at(number), moment_at(number))
 }
 
 /// The two modules as they are made.

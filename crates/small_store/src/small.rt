@@ -5,11 +5,12 @@ ghost use Rattle.fm_entry.specs.Entries.{IsSpelled};
 ghost use Rattle.fm_store.specs.StoreCalls.{AreAtEnd};
 ghost use Rattle.small_store.specs.Small.{IsReady, fresh_counter};
 
-use crate::parts::{counters, report};
+use crate::later::closed_with;
+use crate::parts::{counters, mixed_report, report};
 use fm_core::{Counter, Hand};
 use fm_drain::drain;
 use fm_entry::Entry;
-use fm_logs::{Disks, StoreFault};
+use fm_logs::{DiskName, Disks, StoreFault};
 use fm_outer::MemDisk;
 use fm_store::{Opened, Store, StoreRefused};
 use std::alloc::Global;
@@ -22,12 +23,14 @@ pub struct SmallStore {
     pub taken: u64,
 }
 
-/// A step that was not done, with the disks, why, and how many reports were taken before it.
+/// A step that was not done, with the disks, why, and how many reports were taken before it. Where
+/// the store is closed, `closed` has the disk and the count that each later writing call named.
 #[derive(Drop)]
 pub struct Stopped {
     pub disks: Disks<MemDisk>,
     pub fault: StoreFault,
     pub taken: u64,
+    pub closed: Option<(DiskName, u64)>,
 }
 
 /// An opening that was refused.
@@ -36,6 +39,7 @@ fn refuse(refused: StoreRefused<MemDisk>) -> Stopped {
         disks: refused.disks,
         fault: refused.fault,
         taken: 0,
+        closed: None,
     }
 }
 
@@ -77,17 +81,19 @@ fn adopted(
 }
 
 impl SmallStore {
-    /// The disks, where a step was not done.
-    fn stop(self, fault: StoreFault) -> Stopped {
+    /// The disks, where a step was not done, and what later writing calls answer then.
+    fn stop(self, alloc: Global, fault: StoreFault) -> Stopped {
         let SmallStore {
-            store,
-            hands: _,
+            mut store,
+            hands,
             taken,
         } = self;
+        let closed = closed_with(alloc, &mut store, &hands);
         Stopped {
             disks: store.into_disks(),
             fault,
             taken,
+            closed,
         }
     }
 
@@ -113,7 +119,7 @@ impl SmallStore {
                 small.taken = small.taken.saturating_add(1);
                 Ok(small)
             }
-            Err(fault) => Err(small.stop(fault)),
+            Err(fault) => Err(small.stop(alloc, fault)),
         }
     }
 
@@ -124,7 +130,7 @@ impl SmallStore {
     {
         match report(alloc, 5) {
             Ok(Some(entry)) => self.take_entry(alloc, entry),
-            _ => Err(self.stop(StoreFault::NoMemory)),
+            _ => Err(self.stop(alloc, StoreFault::NoMemory)),
         }
     }
 
@@ -136,6 +142,29 @@ impl SmallStore {
         let mut small = self;
         'reports: for _report in 0..count {
             small = small.take_one(alloc)?;
+        }
+        Ok(small)
+    }
+
+    /// Takes the next of the mixed reports.
+    fn take_next(self, alloc: Global) -> Result<SmallStore, Stopped>
+        requires ready { IsReady self }
+        ensures { IfOk result IsReady }
+    {
+        match mixed_report(alloc, self.store.next_entry()) {
+            Ok(Some(entry)) => self.take_entry(alloc, entry),
+            _ => Err(self.stop(alloc, StoreFault::NoMemory)),
+        }
+    }
+
+    /// Takes so many of the mixed reports, one after another.
+    pub fn take_mixed(self, alloc: Global, count: u32) -> Result<SmallStore, Stopped>
+        requires ready { IsReady self }
+        ensures { IfOk result IsReady }
+    {
+        let mut small = self;
+        'reports: for _report in 0..count {
+            small = small.take_next(alloc)?;
         }
         Ok(small)
     }
@@ -159,7 +188,7 @@ impl SmallStore {
         };
         match done {
             Ok(()) => Ok(small),
-            Err(fault) => Err(small.stop(fault)),
+            Err(fault) => Err(small.stop(alloc, fault)),
         }
     }
 
@@ -172,7 +201,7 @@ impl SmallStore {
         let mut small = self;
         match small.store.checkpoint(alloc, &small.hands) {
             Ok(()) => Ok(small),
-            Err(fault) => Err(small.stop(fault)),
+            Err(fault) => Err(small.stop(alloc, fault)),
         }
     }
 
@@ -185,7 +214,7 @@ impl SmallStore {
         let mut small = self;
         match small.store.rotate(alloc, &small.hands) {
             Ok(_) => Ok(small),
-            Err(fault) => Err(small.stop(fault)),
+            Err(fault) => Err(small.stop(alloc, fault)),
         }
     }
 }
