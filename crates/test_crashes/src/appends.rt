@@ -9,7 +9,7 @@ use std::process::Abort;
 use std::test::Fail;
 
 fn take_one(alloc: Global, disks: Disks<MemDisk>) -> Result<SmallStore, Stopped> {
-    opened(alloc, disks)?.take(alloc, 1)
+    opened(alloc, disks)?.take_mixed(alloc, 1)
 }
 
 /// How many calls of the first error journal an opening makes.

@@ -1,6 +1,6 @@
 // A checkpoint that stops, what was said before it, and the next one, which stops too.
 use crate::left::{IMAGES, reports_in};
-use crate::runs::{calls_of, ended, fresh, stop};
+use crate::runs::{calls_of, ended, fresh, rebase, stop};
 use fm_journal::Journal;
 use fm_logs::{DiskName, Disks};
 use fm_outer::{Image, MemDisk};
@@ -12,14 +12,9 @@ use std::test::Fail;
 /// Takes three reports, at the last of which both modules speak, and moves the base.
 fn take_three(alloc: Global, disks: Disks<MemDisk>) -> Result<SmallStore, Stopped> {
     opened(alloc, disks)?
-        .take(alloc, 3)?
+        .take_mixed(alloc, 3)?
         .drain(alloc)?
         .checkpoint(alloc)
-}
-
-/// Moves the base.
-fn rebase(alloc: Global, disks: Disks<MemDisk>) -> Result<SmallStore, Stopped> {
-    opened(alloc, disks)?.drain(alloc)?.checkpoint(alloc)
 }
 
 /// What is left where the checkpoint stops within this call of the first slot.

@@ -8,6 +8,8 @@ mod checkpoints;
 #[cfg(test)]
 mod failures;
 #[cfg(test)]
+mod fold;
+#[cfg(test)]
 mod left;
 #[cfg(test)]
 mod runs;

@@ -5,12 +5,13 @@ use small_store::{SmallStore, Stopped, bytes_of, crashed, disk_of, new_store, op
 use std::alloc::Global;
 use std::test::Fail;
 
-/// The disks of a run, how many reports it took, and what it met.
+/// The disks of a run, how many reports it took, what it met, and what later calls answered then.
 #[derive(Drop)]
 pub(crate) struct Ran {
     pub(crate) disks: Disks<MemDisk>,
     pub(crate) taken: u64,
     pub(crate) fault: Option<StoreFault>,
+    pub(crate) closed: Option<(DiskName, u64)>,
 }
 
 /// A store that was just made, whose disks have not been called.
@@ -21,10 +22,15 @@ pub(crate) fn fresh(alloc: Global) -> Result<Disks<MemDisk>, Fail> {
 
 /// Takes ten reports, moves the base, begins the other error journal, and comes back to the first.
 fn run(alloc: Global, disks: Disks<MemDisk>) -> Result<SmallStore, Stopped> {
-    let small = opened(alloc, disks)?.take(alloc, 4)?.drain(alloc)?;
-    let small = small.checkpoint(alloc)?.take(alloc, 2)?.drain(alloc)?;
-    let small = small.rotate(alloc)?.take(alloc, 3)?.drain(alloc)?;
-    small.rotate(alloc)?.take(alloc, 1)
+    let small = opened(alloc, disks)?.take_mixed(alloc, 4)?.drain(alloc)?;
+    let small = small.checkpoint(alloc)?.take_mixed(alloc, 2)?.drain(alloc)?;
+    let small = small.rotate(alloc)?.take_mixed(alloc, 3)?.drain(alloc)?;
+    small.rotate(alloc)?.take_mixed(alloc, 1)
+}
+
+/// Drains, and moves the base.
+pub(crate) fn rebase(alloc: Global, disks: Disks<MemDisk>) -> Result<SmallStore, Stopped> {
+    opened(alloc, disks)?.drain(alloc)?.checkpoint(alloc)
 }
 
 /// What steps leave.
@@ -36,12 +42,14 @@ pub(crate) fn ended(steps: Result<SmallStore, Stopped>) -> Ran {
                 disks,
                 taken,
                 fault: None,
+                closed: None,
             }
         }
         Err(stopped) => Ran {
             disks: stopped.disks,
             taken: stopped.taken,
             fault: Some(stopped.fault),
+            closed: stopped.closed,
         },
     }
 }
