@@ -56,6 +56,13 @@ fn fill(alloc: Global, core: &mut Core<Counter>, count: u32) -> Result<(), Alloc
     Ok(())
 }
 
+/// Takes so many reports into one core of two counters, and works neither: whether each was taken.
+pub fn accept_only(alloc: Global, count: u32) -> Result<bool, AllocError> {
+    let mut core = core(alloc)?;
+    fill(alloc, &mut core, count)?;
+    Ok(core.len() == u64::from(count))
+}
+
 /// Takes so many reports into one core of two counters and works both to the end: whether each was
 /// taken.
 pub fn accept_and_drain(alloc: Global, count: u32) -> Result<bool, AllocError> {

@@ -2,8 +2,8 @@
 //! scripts in bench/.
 //!
 //! Its words are `nv COUNT`: a spelled name-value list of so many pairs is made, read and written
-//! again; or `core COUNT`: a core of two counters takes so many reports, all in memory, and both
-//! are worked to the end. It ends with status 0 where what was written is what was read, or each
+//! again; `core COUNT`: a core of two counters takes so many reports, all in memory, and both
+//! are worked to the end; or `fill COUNT`: it takes them, and neither is worked. It ends with status 0 where what was written is what was read, or each
 //! report was taken, with 1 where not, and with 2 where the words are others.
 #![tactic(auto)]
 
@@ -27,6 +27,7 @@ fn run(rt: &HostRuntime) -> Result<Option<bool>, AllocError> {
     match (operation.as_str(), size.parse::<u16>(), size.parse::<u32>()) {
         ("nv", Ok(count), _) => Ok(Some(lists::read_and_write(rt.alloc(), count)?)),
         ("core", _, Ok(count)) => Ok(Some(cores::accept_and_drain(rt.alloc(), count)?)),
+        ("fill", _, Ok(count)) => Ok(Some(cores::accept_only(rt.alloc(), count)?)),
         _ => Ok(None),
     }
 }
