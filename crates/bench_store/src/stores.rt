@@ -50,10 +50,10 @@ pub fn drain(alloc: Global, disks: Disks<MemDisk>) -> Result<SmallStore, Stopped
 
 /// The same, and then moves the base.
 pub fn checkpoint(alloc: Global, disks: Disks<MemDisk>) -> Result<SmallStore, Stopped> {
-    drain(alloc, disks)?.checkpoint(alloc)
+    opened(alloc, disks)?.drain(alloc)?.checkpoint(alloc)
 }
 
 /// The same, and then begins another error journal.
 pub fn rotate(alloc: Global, disks: Disks<MemDisk>) -> Result<SmallStore, Stopped> {
-    drain(alloc, disks)?.rotate(alloc)
+    opened(alloc, disks)?.drain(alloc)?.rotate(alloc)
 }

@@ -1,7 +1,12 @@
+use denote.Param.Send.{sendable}
 use Rattle.std.proofs.Common.{subst}
+use Rattle.dx_engine.proofs.Crossing.{diagnoser_send}
 use Rattle.fm_top.specs.Admin.{AdminDone}
 use Rattle.fm_top.proofs.Texts.{faulty_done, only_faulty}
 use Rattle.fm_top.proofs.admin.text_of.Goals as goal
+
+pub tell_faulty-requires-send-M : goal.tell_faulty-requires-send-M
+tell_faulty-requires-send-M g c κs = search (diagnoser_send, sendable)
 
 pub returns-clause-did : goal.returns-clause-did
 returns-clause-did g c =
