@@ -3,6 +3,7 @@ use crate::rows::{all_end, machine, run};
 use fm_top::ToolStatus;
 use small_store::bytes_of;
 use small_tool::{Given, INIT, PARTS, REPORT, ended, made};
+use std::alloc::Global;
 use std::test::Fail;
 
 /// Two faults of a cpu, of which the cache's shows only what its own bank carries.
@@ -56,17 +57,22 @@ retire hc:///chassis=0/cpu=1\n";
 /// How a record of one link ends: its number, its instance, its effect, and the gate behind it.
 const LINK: &[u8] = b"\0\0\0\x01\0\0\0\x04\0\0\0\x04\0";
 
+/// The fault log of a run over both reports.
+fn logged(alloc: Global) -> Result<Vec<u8>, Fail> {
+    let rows = [made(), run(THREE, OPENED), run(FOUR, DECIDED)];
+    let mut machine = machine(alloc, &[])?;
+    match machine.first_wrong(alloc, Given::over(&[WATCHED], PARTS), &rows)? {
+        None => Ok(bytes_of(alloc, &mut machine.disks.flt)?),
+        Some(_) => Err(Fail::new("another text")),
+    }
+}
+
 #[test]
 fn each_payload_of_a_case_counts(rt: HostRuntime) -> Result<(), Fail> {
-    let alloc = rt.alloc();
-    let given = Given::over(&[WATCHED], PARTS);
-    let mut machine = machine(alloc, &[])?;
-    let rows = [made(), run(THREE, OPENED), run(FOUR, DECIDED)];
-    assert_eq!(&rt; machine.first_wrong(alloc, given, &rows)?, None);
-    let bytes = bytes_of(alloc, &mut machine.disks.flt)?;
+    let bytes = logged(rt.alloc())?;
     // a kind of word with links, behind the gate and the length, the number, the module and a count
-    assert_eq!(&rt; bytes.get(37), Some(&9));
-    assert!(&rt; bytes.as_slice().ends_with(LINK));
+    let has_links = bytes.get(37) == Some(&9) && bytes.as_slice().ends_with(LINK);
+    assert!(&rt; has_links);
     Ok(())
 }
 

@@ -1,7 +1,11 @@
 // What ends the command before all is done.
-use crate::rows::{all_end, machine, run};
+use crate::rows::{all_end, all_end_over, machine, run};
 use fm_top::ToolStatus;
-use small_tool::{CPU_RULES, Given, OPEN_SUMMARY, PARTS, REPORT, Row, ended, made};
+use small_tool::{
+    CPU_RULES, Given, Machine, NO_FAILS, OPEN_SUMMARY, PARTS, REPORT, Row, ended, made,
+};
+use std::alloc::Global;
+use std::process::Abort;
 use std::test::Fail;
 
 /// Without a store.
@@ -61,20 +65,51 @@ cases open 1 solved 0 upset 0 undiagnosable 0 repaired 0\ncase dx0/0 open 1\n",
     ]
 }
 
+/// Rules and parts of which none are those that the store keeps.
+const OTHERS: [Given<'static>; 3] = [
+    Given {
+        rules: &["event fault.x@chassis;\n"],
+        topology: PARTS,
+        input: b"",
+        piece: 4096,
+        fails: NO_FAILS,
+    },
+    Given {
+        rules: &[CPU_RULES, ""],
+        topology: PARTS,
+        input: b"",
+        piece: 4096,
+        fails: NO_FAILS,
+    },
+    Given {
+        rules: &[CPU_RULES],
+        topology: "hc:///chassis=0\n",
+        input: b"",
+        piece: 4096,
+        fails: NO_FAILS,
+    },
+];
+
+/// Asserts that a run over a store refuses each of them.
+fn all_differ(rt: &impl Abort, alloc: Global, machine: &mut Machine) -> Result<(), Fail> {
+    for given in OTHERS {
+        all_end_over(rt, alloc, machine, given, &differs())?;
+    }
+    Ok(())
+}
+
+/// Asserts it over this machine, and that the store goes on with what it keeps.
+fn refuses_others(rt: &impl Abort, alloc: Global, machine: &mut Machine) -> Result<(), Fail> {
+    let given = Given::over(&[CPU_RULES], PARTS);
+    all_end_over(rt, alloc, machine, given, &open())?;
+    all_differ(rt, alloc, machine)?;
+    all_end_over(rt, alloc, machine, given, &goes_on())
+}
+
 #[test]
 fn other_rules_and_parts_differ(rt: HostRuntime) -> Result<(), Fail> {
-    let alloc = rt.alloc();
-    let given = Given::over(&[CPU_RULES], PARTS);
-    let mut machine = machine(alloc, &[])?;
-    assert_eq!(&rt; machine.first_wrong(alloc, given, &open())?, None);
-    let rules = Given::over(&["event fault.x@chassis;\n"], PARTS);
-    assert_eq!(&rt; machine.first_wrong(alloc, rules, &differs())?, None);
-    let more = Given::over(&[CPU_RULES, ""], PARTS);
-    assert_eq!(&rt; machine.first_wrong(alloc, more, &differs())?, None);
-    let parts = Given::over(&[CPU_RULES], "hc:///chassis=0\n");
-    assert_eq!(&rt; machine.first_wrong(alloc, parts, &differs())?, None);
-    assert_eq!(&rt; machine.first_wrong(alloc, given, &goes_on())?, None);
-    Ok(())
+    let mut machine = machine(rt.alloc(), &[])?;
+    refuses_others(&rt, rt.alloc(), &mut machine)
 }
 
 /// Rules that are refused, and a topology that is.

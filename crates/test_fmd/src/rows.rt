@@ -24,7 +24,19 @@ pub(crate) fn machine(alloc: Global, fails: &[u64]) -> Result<Machine, Fail> {
     Ok(Machine::new(alloc, acts)?)
 }
 
-/// Asserts that the calls of the rows end as they should, over a machine without a store.
+/// Asserts that the calls of the rows end as they should over this machine.
+pub(crate) fn all_end_over(
+    rt: &impl Abort,
+    alloc: Global,
+    machine: &mut Machine,
+    given: Given<'_>,
+    rows: &[Row<'_>],
+) -> Result<(), Fail> {
+    assert_eq!(rt; machine.first_wrong(alloc, given, rows)?, None);
+    Ok(())
+}
+
+/// Asserts the same over a machine without a store.
 pub(crate) fn all_end(
     rt: &impl Abort,
     alloc: Global,
@@ -32,6 +44,5 @@ pub(crate) fn all_end(
     rows: &[Row<'_>],
 ) -> Result<(), Fail> {
     let mut machine = machine(alloc, &[])?;
-    assert_eq!(rt; machine.first_wrong(alloc, given, rows)?, None);
-    Ok(())
+    all_end_over(rt, alloc, &mut machine, given, rows)
 }
