@@ -25,20 +25,18 @@ use fm_outer::Disk;
 use fm_store::{Store, StoreFault};
 use std::alloc::Global;
 
-/// Which words of the fault log are told of, and the namespace of the UUIDs of cases.
-#[derive(Drop)]
-pub struct FaultsOrder {
-    pub namespace: [u8; 16],
-    pub options: DumpOptions,
-}
-
 /// The text of records.
-fn faults_of(alloc: Global, order: &FaultsOrder, records: &[Spoken]) -> Result<Vec<u8>, NoMemory>
+fn faults_of(
+    alloc: Global,
+    namespace: &[u8; 16],
+    options: &DumpOptions,
+    records: &[Spoken],
+) -> Result<Vec<u8>, NoMemory>
     ensures { IfOk result
-        (λ text. text.items ≡ faults_text order.now.options order.now.namespace records.now) }
+        (λ text. text.items ≡ faults_text options.now namespace.now records.now) }
 {
     let mut text = Vec::new(alloc);
-    write_faults(alloc, records, &order.namespace, &order.options, &mut text)?;
+    write_faults(alloc, records, namespace, options, &mut text)?;
     Ok(text)
 }
 
@@ -46,11 +44,12 @@ fn faults_of(alloc: Global, order: &FaultsOrder, records: &[Spoken]) -> Result<V
 fn read_faults<D: Disk, M>(
     store: &mut Store<D, M>,
     alloc: Global,
-    order: &FaultsOrder,
+    namespace: &[u8; 16],
+    options: &DumpOptions,
 ) -> Result<Vec<u8>, StoreFault>
     ensures reads { ReadsSpoken D.Disk store.old.logs store.new.logs }
     ensures base_same { store.new.base ≡ store.old.base }
-    ensures text { IfOk result (λ text. IsFaultsOf D.Disk order.now.options order.now.namespace
+    ensures text { IfOk result (λ text. IsFaultsOf D.Disk options.now namespace.now
         store.old.logs store.new.logs text.items) }
     ensures refused { IfErr result (UnreadLog D.Disk Flt store.old.logs store.new.logs
         store.old.logs.flt.disk store.new.logs.flt.disk) }
@@ -58,21 +57,23 @@ fn read_faults<D: Disk, M>(
         → StoreStandsFor D.Disk fresh store.old k → StoreStandsFor D.Disk fresh store.new k }
     ensures told { (fresh : List ModuleState) (k : StoreBook)
         → StoreStandsFor D.Disk fresh store.old k → IfOk result (λ text.
-        IsFaultsText order.now.options order.now.namespace k.book.records text.items) }
+        IsFaultsText options.now namespace.now k.book.records text.items) }
     ensures undamaged { (fresh : List ModuleState) (k : StoreBook)
         → StoreStandsFor D.Disk fresh store.old k → IfErr result IsNoDamage }
     ensures same_disks { AreSameStore D.Disk store.old store.new }
 {
     let records = store.spoken(alloc)?;
-    Ok(faults_of(alloc, order, &records)?)
+    Ok(faults_of(alloc, namespace, options, &records)?)
 }
 
-/// Drains the store, and dumps the words about cases that its fault log has.
+/// Drains the store, and dumps the words about cases that its fault log has, with UUIDs under the
+/// namespace.
 pub fn dump_faults<D: Disk, M: Module>(
     store: &mut Store<D, M>,
     alloc: Global,
     hands: Vec<Hand<M>>,
-    order: &FaultsOrder,
+    namespace: &[u8; 16],
+    options: &DumpOptions,
 ) -> Result<Vec<u8>, StoreFault>
     requires few { length hands.items ≤ 8 }
     requires at_cursors { AreAtCursors M.Module store.old.logs hands.items }
@@ -82,12 +83,12 @@ pub fn dump_faults<D: Disk, M: Module>(
     ensures book { (fresh : List ModuleState) (k : StoreBook)
         → StoreStandsFor D.Disk fresh store.old k → AllFollow M.Module k.book hands.items
         → TellsBook D.Disk fresh Flt store.old store.new k result (λ now text.
-        IsFaultsText order.now.options order.now.namespace now.book.records text.items) }
+        IsFaultsText options.now namespace.now now.book.records text.items) }
     ensures same_disks { AreSameStore D.Disk store.old store.new }
 {
     let (hands, drained) = drain(store, alloc, hands);
     match drained {
-        Ok(()) => read_faults(store, alloc, order),
+        Ok(()) => read_faults(store, alloc, namespace, options),
         Err(fault) => Err(fault),
     }
 }

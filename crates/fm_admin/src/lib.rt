@@ -16,7 +16,7 @@ mod repairing;
 mod rotating;
 mod telling;
 
-pub use dumping::{FaultsOrder, dump_errors, dump_faults};
+pub use dumping::{dump_errors, dump_faults};
 pub use marking::{Repair, RepairOrder};
 pub use repairing::{Repaired, repair};
 pub use rotating::rotate_drained;

@@ -6,6 +6,8 @@ pub mod Confs
 pub mod CountLines
 pub mod Cuts
 pub mod Doing
+pub mod DumpWords
+pub mod Dumps
 pub mod Escs
 pub mod Exactness
 pub mod FmdDoing
@@ -29,3 +31,4 @@ pub mod Summaries
 pub mod Tallies
 pub mod TasksDone
 pub mod Texts
+pub mod Wanting

@@ -1,7 +1,7 @@
 -- A text that is no UUID, and two words.
 use Rattle.std.proofs.Common.{◌≡◌, ℕ, ◌<◌, ◌≤◌, List, [], ◌∷◌, length, get_or, Option, Some}
 use Rattle.std.proofs.Common.{None, false, true, refl, sym, ◌∙◌, arith}
-use Rattle.fm_top.specs.Words.{command_of, command_with}
+use Rattle.fm_top.specs.Words.{command_with, short_command}
 use Rattle.fm_top.specs.declared.words.Command.{Command}
 
 none_from : (value : Option (List ℕ))
@@ -19,7 +19,7 @@ none_for value other same never = sym same ∙ none_from other never
 pub two_words : (words : List (List ℕ)) (first second : List ℕ) (found : Option Command)
     → 2 ≤ length words → length words < 3 → first ≡ get_or words 0 first
     → second ≡ get_or words 1 second → found ≡ command_with first second
-    → found ≡ command_of words
+    → found ≡ short_command words
 two_words [] first second found many few one two is = absurd (omega (arith, many))
 two_words (a ∷ []) first second found many few one two is = absurd (omega (arith, many))
 two_words (a ∷ b ∷ []) first second found many few one two is =

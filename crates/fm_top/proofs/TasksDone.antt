@@ -81,8 +81,11 @@ module _ {D : Type 0} (g : Ghosts D)
   task_ran (Fmd got) (Err stop) does counts_input counts_out =
       worked_ran g seen_is_image disks disks_now first new hands conf got input input_now out
       out_now read kept opened are (Err stop) does counts_input counts_out
-  task_ran (Admin asked) (Ok (Text text)) does counts_input counts_out =
-      (does.1, asked_told g disks disks_now first new hands conf asked kept opened are text does.2)
+  task_ran (Admin asked) (Ok (Text text)) does counts_input counts_out = (
+    does.1,
+    asked_told g disks disks_now first new hands conf asked kept opened are seen_is_image
+        read text does.2,
+  )
   task_ran (Admin asked) (Err stop) does counts_input counts_out = (
     does.1,
     asked_untold g disks disks_now first new hands conf asked kept opened are stop

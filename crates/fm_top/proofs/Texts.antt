@@ -4,13 +4,14 @@ use Rattle.std.proofs.Common.{sym, ◌∙◌, ap, subst, arith}
 use Rattle.std.specs.Global.{Vec}
 use Rattle.std.specs.List.{slice_get}
 use Rattle.dx_engine.specs.Diagnosers.{DiagnoserOf}
-use Rattle.fm_admin.specs.Telling.{IsFaultyOf, TellRefused, TellsBook, WasDrained}
+use Rattle.fm_admin.specs.Telling.{IsFaultyOf, StandsTold, TellRefused, TellsBook, WasDrained}
 use Rattle.fm_conclude.specs.Concluding.{NoDiskFailed, SomeDiskFailed}
 use Rattle.fm_core.specs.Book.{ModuleState}
 use Rattle.fm_core.specs.Drained.{drained}
 use Rattle.fm_core.specs.Hands.{HandOf}
 use Rattle.fm_drain.specs.DrainCalls.{AllFollow}
-use Rattle.fm_logs.specs.Contents.{Contents, AreTold, WereOnlyRead, content_named, disk_named}
+use Rattle.fm_logs.specs.Contents.{Contents, AreTold, WereOnlyRead, active_of_two, content_named}
+use Rattle.fm_logs.specs.Contents.{disk_named}
 use Rattle.fm_logs.specs.StoreBook.{StoreBook, force_now}
 use Rattle.fm_logs.specs.declared.disks.DiskName.{DiskName}
 use Rattle.fm_logs.specs.declared.disks.DiskName.TheVariants.{Conf as ConfDisk, ErrA, ErrB, SlotA}
@@ -20,15 +21,18 @@ use Rattle.fm_logs.specs.declared.fault.StoreFault.{StoreFault}
 use Rattle.fm_logs.specs.declared.fault.StoreFault.TheVariants as store
 use Rattle.fm_modules.specs.OpenStore.{OpenStoreRefused}
 use Rattle.fm_outer.specs.Failures.{Rose}
+use Rattle.fm_outer.specs.Moments.{OnlyRead}
 use Rattle.fm_outer.specs.declared.disk.Disk.{Ghosts}
 use Rattle.fm_saved.specs.declared.conf.Conf.{Conf}
 use Rattle.fm_store.specs.Opened.{NoneFailed, RoseOnAny}
-use Rattle.fm_store.specs.StoreLeft.{store_disk, AreDisksOf, StoreIsLeft}
+use Rattle.fm_store.specs.StoreLeft.{store_disk, AreDisksOf, EachLeft, StoreIsLeft}
 use Rattle.fm_store.specs.StoreOf.{StoreOf, StoreStandsFor}
+use Rattle.fm_store.proofs.StoreReads.{left_active, says_left}
 use Rattle.fm_summary.specs.DrainedSummary.{diagnosers}
 use Rattle.fm_top.specs.Accepting.{DisksAccount}
 use Rattle.fm_top.specs.Accounts.{Accounts}
 use Rattle.fm_top.specs.Admin.{AdminDone, AdminOnBook, AdminRefused, TextAsked, ToldOf}
+use Rattle.fm_top.specs.Dump.{IsErrorLogOf, ReadsDrained, error_log}
 use Rattle.fm_top.specs.Fmd.{ConcludingStops}
 use Rattle.fm_top.specs.Headline.{HoldsOfBook, LikeBook}
 use Rattle.fm_top.specs.Kept.{BookAt}
@@ -39,7 +43,7 @@ use Rattle.fm_top.specs.declared.words.AdminCommand.{AdminCommand}
 use Rattle.fm_top.specs.declared.words.AdminCommand.TheVariants.{Faulty}
 use Rattle.fm_top.proofs.Accepts.{opening_account, opening_stops}
 use Rattle.fm_top.proofs.BookHeld.{same_book}
-use Rattle.fm_top.proofs.Fmds.{OpenAt}
+use Rattle.fm_top.proofs.Fmds.{OpenAt, reads_floored}
 use Rattle.fm_top.proofs.SixDisks.{told_all, images_all, all_only_read, rose_any, none_counts}
 
 -- an object that nothing was done to accounts for any other fault
@@ -88,7 +92,7 @@ unopened_asked g disks disks_now asked fault refused read = record {
 -- ---- an open store
 
 -- a drain that is done leaves the counts of all disks
-same_counts : {D : Type 0} (g : Ghosts D) (old new : StoreOf D DiagnoserOf)
+pub same_counts : {D : Type 0} (g : Ghosts D) (old new : StoreOf D DiagnoserOf)
     → WasDrained g old new → NoDiskFailed g old new
 same_counts {D = D} g old new was ConfDisk =
     ap (λ (s : StoreOf D DiagnoserOf). g.failures (store_disk ConfDisk s)) was.only
@@ -102,21 +106,35 @@ same_counts {D = D} g old new was SlotB =
     ap (λ (s : StoreOf D DiagnoserOf). g.failures (store_disk SlotB s)) was.only
 same_counts g old new was Flt = was.no_failure
 
--- there is one such command
-pub only_faulty : (asked : AdminCommand) → Faulty ≡ asked
-only_faulty Faulty = refl
+-- what is said of a command is said of the one that it is
+pub done_as : {D : Type 0} (g : Ghosts D) (asked other : AdminCommand)
+    (old new : StoreOf D DiagnoserOf) (hands : List (HandOf DiagnoserOf)) (conf : Conf)
+    (answer : Result (Vec ℕ) StoreFault) → asked ≡ other
+    → AdminDone g other old new hands conf answer → AdminDone g asked old new hands conf answer
+done_as g asked other old new hands conf answer same done =
+    subst (λ one. AdminDone g one old new hands conf answer) (sym same) done
+
+-- each image of a drained store reads as a drained book
+pub left_drained : {D X : Type 0} (g : Ghosts D) (new : StoreOf D DiagnoserOf)
+    (fresh : List ModuleState) (k : StoreBook) (Told : StoreBook → X → Type 0) (x : X)
+    → StandsTold g fresh new k Told x → EachLeft g new (ReadsDrained fresh k)
+left_drained g new fresh k Told x at c left = record {
+  now = at.now;
+  drained_is = at.drained_is;
+  reads = reads_floored g fresh new at.now at.stands c left;
+}
 
 -- what is faulty was told
 module _ {D : Type 0} (g : Ghosts D) (old new : StoreOf D DiagnoserOf)
     (hands : List (HandOf DiagnoserOf)) (conf : Conf) (open_before : old.logs.closed ≡ None) where
-  faulty_refused : (fault : StoreFault) → TellRefused g diagnosers Flt old new hands fault
-      → AdminRefused g old new fault
-  faulty_refused store.Disk why = (Flt, elim why.1 [ inl rose ↦ rose | inr rose ↦ rose ])
-  faulty_refused (store.Closed name failures) why = why.1
-  faulty_refused (store.Full kind) why = tt
-  faulty_refused (store.Damaged name place) why = tt
-  faulty_refused store.NoMemory why = tt
-  faulty_refused store.Exists why = absurd why
+  pub told_refused : (log : DiskName) (fault : StoreFault)
+      → TellRefused g diagnosers log old new hands fault → AdminRefused g old new fault
+  told_refused log store.Disk why = elim why.1 [ inl rose ↦ (Flt, rose) | inr rose ↦ (log, rose) ]
+  told_refused log (store.Closed name failures) why = why.1
+  told_refused log (store.Full kind) why = tt
+  told_refused log (store.Damaged name place) why = tt
+  told_refused log store.NoMemory why = tt
+  told_refused log store.Exists why = absurd why
 
   pub faulty_done : (answer : Result (Vec ℕ) StoreFault) → OnOk answer (WasDrained g old new)
       → IfErr answer (TellRefused g diagnosers Flt old new hands)
@@ -130,7 +148,8 @@ module _ {D : Type 0} (g : Ghosts D) (old new : StoreOf D DiagnoserOf)
     refused = tt;
     book = λ fresh k stands follow. let told = book fresh k stands follow in record {
       text_is = told.done.told;
-      after = told.left;
+      after = left_drained g new fresh k
+          (λ now text. IsFaultyOf conf.namespace (drained k.book) text.items) text told.done;
       undamaged = tt;
       left = told.left;
     };
@@ -138,7 +157,7 @@ module _ {D : Type 0} (g : Ghosts D) (old new : StoreOf D DiagnoserOf)
   faulty_done (Err fault) drains refused book = record {
     was_open = open_before;
     quiet = tt;
-    refused = faulty_refused fault refused;
+    refused = told_refused Flt fault refused;
     book = λ fresh k stands follow. let told = book fresh k stands follow in record {
       text_is = tt;
       after = tt;
@@ -166,8 +185,9 @@ module _ {D : Type 0} (g : Ghosts D) (disks disks_now : Disks D)
 
   module _ (answer : Result (Vec ℕ) StoreFault)
       (did : AdminDone g asked first new hands conf answer) where
-    on_book : (told : Contents) (stood : BookAt told) → OpenFor g first hands conf stood
-        → AdminOnBook g asked stood.fresh new stood.book conf answer
+    on_book : (told : Contents) (stood : BookAt told) (at : OpenFor g first hands conf stood)
+        → AdminOnBook g asked stood.fresh new stood.book conf (error_log first at.stands.older)
+        answer
     on_book told stood at = did.book stood.fresh stood.book at.stands at.follow
 
     like_book : (told : Contents) → Tells (disks_at g disks) told
@@ -181,22 +201,48 @@ module _ {D : Type 0} (g : Ghosts D) (disks disks_now : Disks D)
       };
     }
 
-  text_told : (text : Vec ℕ) → AdminDone g asked first new hands conf (Ok text)
-      → (told : Contents) → Tells (disks_at g disks) told
-      → HoldsOfBook told (ToldOf asked told (disks_at g disks_now) text.items)
-  text_told text did told tells = let one = at_told told tells in record {
-    stood = one.stood;
-    each = λ book.
-        let at : OpenFor g first hands conf book = open_for g first hands conf told one book in
-        let found = on_book (Ok text) did told book at in record {
-          left = λ image leaves. found.after image (left_of image leaves);
-          text_is = record {
-            conf = conf;
-            in_force = at.in_force;
-            text_is = found.text_is;
+  module _
+      (seen_is_image : (disk : D) (c : List ℕ) → g.seen disk ≡ Some c → g.images disk c)
+      (read : (name : DiskName) → OnlyRead g (disk_named name disks) (store_disk name first)) where
+    -- what the disks tell is left of the opened store
+    seen_left : (told : Contents) → Tells (disks_at g disks) told → StoreIsLeft g first told
+    seen_left told tells name =
+        seen_is_image (store_disk name first) (content_named name told)
+        ((read name).same ∙ told_all g disks told tells name)
+
+    log_of : (told : Contents) → Tells (disks_at g disks) told → (book : BookAt told)
+        (at : OpenFor g first hands conf book)
+        → IsErrorLogOf book.fresh told book.book (error_log first at.stands.older)
+    log_of told tells book at = let left = seen_left told tells in record {
+      second = first.logs.second;
+      says = says_left g book.fresh first book.book told at.stands (left ConfDisk) (left SlotA)
+          (left SlotB);
+      active = record {
+        payloads = at.stands.keep.entry_payloads;
+        journal = at.stands.keep.entries_keep.left (active_of_two first.logs.second told)
+            (left_active g first told (left ErrA) (left ErrB));
+        spelled = at.stands.keep.entries_spelled;
+      };
+    }
+
+    text_told : (text : Vec ℕ) → AdminDone g asked first new hands conf (Ok text)
+        → (told : Contents) → Tells (disks_at g disks) told
+        → HoldsOfBook told (ToldOf asked told (disks_at g disks_now) text.items)
+    text_told text did told tells = let one = at_told told tells in record {
+      stood = one.stood;
+      each = λ book.
+          let at : OpenFor g first hands conf book = open_for g first hands conf told one book in
+          let found = on_book (Ok text) did told book at in record {
+            left = λ image leaves. found.after image (left_of image leaves);
+            text_is = record {
+              conf = conf;
+              in_force = at.in_force;
+              log = error_log first at.stands.older;
+              log_is = log_of told tells book at;
+              text_is = found.text_is;
+            };
           };
-        };
-  }
+    }
 
   -- why it was not told
   untold : (fault : StoreFault) → AdminDone g asked first new hands conf (Err fault)
@@ -237,10 +283,13 @@ module _ {D : Type 0} (g : Ghosts D) (disks disks_now : Disks D)
 
   -- ---- the whole
 
-  pub asked_told : (text : Vec ℕ) → AdminDone g asked first new hands conf (Ok text)
+  pub asked_told :
+      (seen_is_image : (disk : D) (c : List ℕ) → g.seen disk ≡ Some c → g.images disk c)
+      (read : (name : DiskName) → OnlyRead g (disk_named name disks) (store_disk name first))
+      (text : Vec ℕ) → AdminDone g asked first new hands conf (Ok text)
       → TextAsked asked (disks_at g disks) (disks_at g disks_now) (Ok text.items)
-  asked_told text did = record {
-    went = text_told text did;
+  asked_told seen_is_image read text did = record {
+    went = text_told seen_is_image read text did;
     counts = none_counts g disks disks_now (none_failed did.quiet);
   }
 

@@ -1,5 +1,5 @@
 -- What an operator's command does that puts one text: the store is drained, and the text is a
--- function of its drained book. No entry is accepted.
+-- function of its drained book, or of its log of entries. No entry is accepted.
 use Rattle.std.specs.Prelude.{◌≡◌, ◌⊎◌, ℕ, List, slice_get, None, Some, Result, Ok, Err}
 use Rattle.std.specs.Prelude.{MatchResult, OnOk, IfOk, IfErr}
 use Rattle.std.specs.Global.{Vec}
@@ -22,6 +22,7 @@ use Rattle.fm_store.specs.StoreOf.{StoreOf, StoreStandsFor}
 use Rattle.fm_store.specs.StoreReading.{IsNoDamage}
 use Rattle.fm_summary.specs.DrainedSummary.{diagnosers}
 use Rattle.fm_top.specs.Accepting.{DisksAccount, OpeningStops}
+use Rattle.fm_top.specs.Dump.{ErrorLog, IsDump, IsErrorLogOf, ReadsDrained, error_log}
 use Rattle.fm_top.specs.Esc.{TextEnds}
 use Rattle.fm_top.specs.Fmd.{ConcludingStops}
 use Rattle.fm_top.specs.Headline.{HoldsOfBook, LikeBook}
@@ -30,15 +31,18 @@ use Rattle.fm_top.specs.Kept.{BookAt}
 use Rattle.fm_top.specs.Outside.{SinkAt, DisksAt, Tells, Leaves}
 use Rattle.fm_top.specs.declared.stops.Stop.{Stop}
 use Rattle.fm_top.specs.declared.words.AdminCommand.{AdminCommand}
-use Rattle.fm_top.specs.declared.words.AdminCommand.TheVariants.{Faulty}
+use Rattle.fm_top.specs.declared.words.AdminCommand.TheVariants.{Faulty, Dump}
 
--- WHICH TEXT EACH COMMAND PUTS, one line a command: of a book with this configuration in force
-abbrev pub IsTextOf : AdminCommand → Conf → StoreBook → List ℕ → Type 0
-IsTextOf Faulty conf k text = IsFaultyOf conf.namespace (drained k.book) text
+-- WHICH TEXT EACH COMMAND PUTS, one line a command: of a book with this configuration in force, and
+-- of the entries of the active error journal
+abbrev pub IsTextOf : AdminCommand → Conf → ErrorLog → StoreBook → List ℕ → Type 0
+IsTextOf Faulty conf log k text = IsFaultyOf conf.namespace (drained k.book) text
+IsTextOf (Dump options) conf log k text = IsDump options.errors options conf.namespace log k text
 
 -- WHAT EACH COMMAND LEAVES once it is done, one line a command: how an image reads
 abbrev pub ReadsAfter : AdminCommand → List ModuleState → StoreBook → Contents → Type 0
-ReadsAfter Faulty fresh k image = ReadsLike fresh k image
+ReadsAfter Faulty fresh k image = ReadsDrained fresh k image
+ReadsAfter (Dump options) fresh k image = ReadsDrained fresh k image
 
 -- ---- an open store
 
@@ -55,9 +59,9 @@ AdminRefused _ _ _ _ = ⊥
 -- What becomes of a book that the hands follow: each crash leaves contents that read like it,
 -- whatever is answered; after Ok they read as the command leaves them, and this is its text.
 pub record AdminOnBook {D M : Type 0} (g : Ghosts D) (asked : AdminCommand)
-    (fresh : List ModuleState) (new : StoreOf D M) (k : StoreBook) (conf : Conf)
+    (fresh : List ModuleState) (new : StoreOf D M) (k : StoreBook) (conf : Conf) (log : ErrorLog)
     (answer : Result (Vec ℕ) StoreFault) : Type 0 where
-  pub text_is : IfOk answer (λ text. IsTextOf asked conf k text.items)
+  pub text_is : IfOk answer (λ text. IsTextOf asked conf log k text.items)
   pub after : OnOk answer (EachLeft g new (ReadsAfter asked fresh k))
   pub undamaged : IfErr answer IsNoDamage
   pub left : EachLeft g new (ReadsLike fresh k)
@@ -69,8 +73,9 @@ pub record AdminDone {D : Type 0} (g : Ghosts D) (asked : AdminCommand)
   pub was_open : old.logs.closed ≡ None
   pub quiet : OnOk answer (NoDiskFailed g old new)
   pub refused : IfErr answer (AdminRefused g old new)
-  pub book : (fresh : List ModuleState) (k : StoreBook) → StoreStandsFor g fresh old k
-      → AllFollow diagnosers k.book hands → AdminOnBook g asked fresh new k conf answer
+  pub book : (fresh : List ModuleState) (k : StoreBook) (stands : StoreStandsFor g fresh old k)
+      → AllFollow diagnosers k.book hands
+      → AdminOnBook g asked fresh new k conf (error_log old stands.older) answer
 
 -- ---- six disks
 
@@ -79,7 +84,9 @@ pub record IsTextAt (asked : AdminCommand) {told : Contents} (stood : BookAt tol
     : Type 0 where
   pub conf : Conf
   pub in_force : slice_get stood.book.confs (force_now stood.book) ≡ Some conf
-  pub text_is : IsTextOf asked conf stood.book text
+  pub log : ErrorLog
+  pub log_is : IsErrorLogOf stood.fresh told stood.book log
+  pub text_is : IsTextOf asked conf log stood.book text
 
 -- A book that the contents read as was drained: each image that a crash now may leave reads as the
 -- command leaves it, and this is its text.

@@ -4,6 +4,7 @@ pub mod Admin
 pub mod Answers
 pub mod Calls
 pub mod Draining
+pub mod Dump
 pub mod Ended
 pub mod Ending
 pub mod Esc

@@ -3,11 +3,12 @@ use Rattle.std.specs.Prelude.{ℕ, List, [], ◌∷◌, Option, Some, None, code
 use Rattle.std.specs.Option.{option_map}
 use Rattle.std.specs.Str.{bytes_eq}
 use Rattle.uuid.specs.Text.{parsed}
+use Rattle.fm_dump.specs.Options.{dump_options}
 use Rattle.fm_top.specs.declared.words.Command.{Command}
 use Rattle.fm_esc.specs.declared.graphs.GraphForm.TheVariants.{Listed, Compiled}
 use Rattle.fm_top.specs.declared.words.Command.TheVariants.{Accept, Fmd, Replay, Init, Esc}
 use Rattle.fm_top.specs.declared.words.Command.TheVariants.{EscInput, Admin}
-use Rattle.fm_top.specs.declared.words.AdminCommand.TheVariants.{Faulty}
+use Rattle.fm_top.specs.declared.words.AdminCommand.TheVariants.{Faulty, Dump}
 
 -- the command of one word
 abbrev pub command_in : List ℕ → Option Command
@@ -39,9 +40,25 @@ command_with word second =
     else (if bytes_eq word (codes "fmd") then fmd_with second
     else (if bytes_eq word (codes "fmadm") then fmadm_with second else None)))
 
--- the command of the words: there are one or two, and they name a command
+-- the command of one word or two
+abbrev pub short_command : List (List ℕ) → Option Command
+short_command [] = None
+short_command (word ∷ []) = command_in word
+short_command (word ∷ second ∷ []) = command_with word second
+short_command (word ∷ second ∷ third ∷ more) = None
+
+-- the command `fmdump` and the words behind it, where these are options
+abbrev pub dump_with : List (List ℕ) → Option Command
+dump_with words = option_map (λ options. Admin (Dump options)) (dump_options words)
+
+-- the command of the words, if they name one
 abbrev pub command_of : List (List ℕ) → Option Command
 command_of [] = None
-command_of (word ∷ []) = command_in word
-command_of (word ∷ second ∷ []) = command_with word second
-command_of (word ∷ second ∷ third ∷ more) = None
+command_of (word ∷ more) =
+    if bytes_eq word (codes "fmdump") then dump_with more else short_command (word ∷ more)
+
+-- words that are this command, or none, may take memory to be read
+abbrev pub TakesMemory : Option Command → Type 0
+TakesMemory None = Unit {0}
+TakesMemory (Some (Admin asked)) = Unit {0}
+TakesMemory (Some _) = ⊥

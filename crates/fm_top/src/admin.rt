@@ -9,6 +9,7 @@ ghost use Rattle.fm_top.specs.Outside.{SinkAt, SourceAt, sink_at, disks_at};
 ghost use Rattle.fm_top.specs.Tasks.{TaskDoes};
 
 use crate::answering::put_bytes;
+use crate::dumping::dump_text;
 use crate::no_input::NoInput;
 use crate::opened::work_store;
 use crate::stops::Stop;
@@ -26,7 +27,7 @@ use std::alloc::Global;
 /// Does a command with an open store that has this configuration in force, and tells its text.
 fn text_of<D: Disk>(
     alloc: Global,
-    asked: AdminCommand,
+    asked: &AdminCommand,
     store: &mut Store<D, Diagnoser>,
     hands: Vec<Hand<Diagnoser>>,
     conf: &Conf,
@@ -34,18 +35,19 @@ fn text_of<D: Disk>(
     requires ready { store.old.logs.closed ≡ None }
     requires few { length hands.items ≤ 8 }
     requires at_cursors { AreAtCursors diagnosers store.old.logs hands.items }
-    ensures did { AdminDone D.Disk asked store.old store.new hands.items conf.now result }
+    ensures did { AdminDone D.Disk asked.now store.old store.new hands.items conf.now result }
     ensures same_disks { AreSameStore D.Disk store.old store.new }
 {
     match asked {
         AdminCommand::Faulty => tell_faulty(store, alloc, hands, &conf.namespace),
+        AdminCommand::Dump(options) => dump_text(alloc, options, store, hands, conf),
     }
 }
 
 /// Does it, and tells what is left to do.
 pub(crate) fn tell_text<D: Disk>(
     alloc: Global,
-    asked: AdminCommand,
+    asked: &AdminCommand,
     store: &mut Store<D, Diagnoser>,
     hands: Vec<Hand<Diagnoser>>,
     conf: &Conf,
@@ -54,7 +56,7 @@ pub(crate) fn tell_text<D: Disk>(
     requires few { length hands.items ≤ 8 }
     requires at_cursors { AreAtCursors diagnosers store.old.logs hands.items }
     ensures does { (input : SourceAt) (out : SinkAt)
-        → TaskDoes D.Disk (StoreTask.Admin asked) store.old store.new hands.items conf.now
+        → TaskDoes D.Disk (StoreTask.Admin asked.now) store.old store.new hands.items conf.now
         input input out out result }
     ensures no_read { result ≡ Err Stop.Read → ⊥ }
     ensures no_write { result ≡ Err Stop.Write → ⊥ }

@@ -33,7 +33,9 @@ use std::alloc::Global;
 /// rule file comes to over the topology: a line of its sizes, or with `-b` its compiled file.
 /// `esc -l` reads compiled files from the input, and puts the line of each, up to the first bad
 /// one. `fmadm faulty` opens the store with the modules of what it keeps, drains it, and puts
-/// what is faulty in the drained book. Of a command that stops, the last line says why. Nothing else is touched.
+/// what is faulty in the drained book. `fmdump` does so too, and puts the words about cases that
+/// its options keep, or with `-e` the entries since the last rotation. Of a command that stops, the
+/// last line says why. Nothing else is touched.
 /// `now` is the moment of the call, in nanoseconds since 1970; no command asks for it yet.
 pub fn tool<S: Source, K: Sink, D: Disk>(
     alloc: Global,
@@ -71,7 +73,10 @@ pub fn tool<S: Source, K: Sink, D: Disk>(
     ensures same_disks { names_of D.name disks.new ≡ names_of D.name disks.old }
 {
     let _ = now;
-    match command_of(words) {
+    let Ok(command) = command_of(alloc, words) else {
+        return end(alloc, Err(Stop::Memory), out);
+    };
+    match command {
         Some(Command::Accept) => end(alloc, accept(alloc, input, out, disks), out),
         Some(Command::Fmd) => {
             let ran = fmd(alloc, input, rules, topo, out, disks, acts);

@@ -19,7 +19,8 @@
 //! What is done with a store is a `tasks::StoreTask`. One chain of calls (`opened`) opens the store
 //! on six lent disks, does the task with it and gives the disks back, and says what came of it by
 //! the task (`specs/Tasks`). `fmadm` has fm_admin drain the store and tell a text of it, which is put
-//! when the disks are back (`admin`, `specs/Admin`).
+//! when the disks are back (`admin`, `specs/Admin`); so does `fmdump`, of one of the logs (`dumping`,
+//! `specs/Dump`).
 //!
 //! The model of a call is two records of what stands outside, before and after it
 //! (`specs/Outside`). `specs/Calls` says by the command what lies between them; `specs/Order` in
@@ -60,6 +61,7 @@ mod answering;
 mod as_read;
 mod call;
 mod counts;
+mod dumping;
 mod esc;
 mod fmd;
 mod init;

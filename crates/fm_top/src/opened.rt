@@ -48,7 +48,7 @@ fn do_task<S: Source, K: Sink, D: Disk>(
     match streams.task {
         StoreTask::Accept => accept_lines(streams, store),
         StoreTask::Fmd(got) => diagnose_lines(streams, got, store, hands, conf),
-        StoreTask::Admin(asked) => tell_text(streams.alloc, *asked, store, hands, conf),
+        StoreTask::Admin(asked) => tell_text(streams.alloc, asked, store, hands, conf),
     }
 }
 

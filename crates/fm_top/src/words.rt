@@ -1,23 +1,29 @@
 // The words of a command.
-ghost use Rattle.std.specs.Prelude.{◌≡◌};
+ghost use Rattle.std.specs.Prelude.{◌≡◌, IfOk, IfErr};
 ghost use Rattle.std.specs.Str.{bytes_eq};
 ghost use Rattle.uuid.specs.Text.{parsed};
-ghost use Rattle.fm_top.specs.Words.{command_in, command_with, command_of, esc_with};
-ghost use Rattle.fm_top.specs.Words.{fmadm_with, fmd_with};
+ghost use Rattle.fm_top.specs.Words.{TakesMemory, command_in, command_with, command_of, dump_with};
+ghost use Rattle.fm_top.specs.Words.{esc_with, fmadm_with, fmd_with, short_command};
 
+use fm_bytes::NoMemory;
+use fm_dump::{DumpFault, DumpOptions, read_options};
 use fm_esc::GraphForm;
 use fm_text::ArgText;
+use std::alloc::Global;
 use uuid::Uuid;
 
 /// A command of an operator that puts one text.
-#[derive(Clone, Copy, Debug, PartialEq, Eq)]
+#[derive(Drop)]
 pub enum AdminCommand {
     /// The cases that are solved and not yet repaired, with their suspects.
     Faulty,
+    /// Of the words about cases, or of the entries since the last rotation, those that the options
+    /// keep.
+    Dump(DumpOptions),
 }
 
 /// What is to be done.
-#[derive(Clone, Copy, Debug, PartialEq, Eq)]
+#[derive(Drop)]
 pub enum Command {
     /// The input's entries are appended to the journal of reports.
     Accept,
@@ -124,13 +130,39 @@ fn command_with(word: &ArgText, second: &ArgText) -> Option<Command>
     }
 }
 
-/// The command of the words, if they are one. Words are compared as they stand.
-pub(crate) fn command_of(words: &[ArgText]) -> Option<Command>
-    ensures { result ≡ command_of words.now }
+/// The command of one word or two.
+fn short_command(words: &[ArgText]) -> Option<Command>
+    ensures { result ≡ short_command words.now }
 {
     match words {
         [word] => command_in(word),
         [word, second] => command_with(word, second),
         _ => None,
     }
+}
+
+/// The command `fmdump` with the words behind it.
+fn dump_with(alloc: Global, words: &[ArgText]) -> Result<Option<Command>, NoMemory>
+    ensures { IfOk result (λ command. command ≡ dump_with words.now) }
+{
+    match read_options(alloc, words) {
+        Ok(options) => Ok(Some(Command::Admin(AdminCommand::Dump(options)))),
+        Err(DumpFault::Usage) => Ok(None),
+        Err(DumpFault::NoMemory) => Err(NoMemory),
+    }
+}
+
+/// The command of the words, if they are one. Words are compared as they stand, but for the options
+/// of `fmdump`, which take memory to be read.
+pub(crate) fn command_of(alloc: Global, words: &[ArgText]) -> Result<Option<Command>, NoMemory>
+    ensures command { IfOk result (λ command. command ≡ command_of words.now) }
+    ensures wanted { IfErr result (λ _. TakesMemory (command_of words.now)) }
+{
+    let Some((word, options)) = words.split_first() else {
+        return Ok(None);
+    };
+    if is_word(word, "fmdump") {
+        return dump_with(alloc, options);
+    }
+    Ok(short_command(words))
 }

@@ -11,7 +11,7 @@ pub returns-in-Ok-clause-drained : goal.returns-in-Ok-clause-drained
 returns-in-Ok-clause-drained g c =
     faults_drained g.D.Disk g.M.Module c.args.store.now c.drain-hands.new.store
     c.read_faults.new.store c.args.hands.items c.drain-hands.result.0.items c.in-Ok.field-0
-    c.args.order.now.options c.args.order.now.namespace (λ text. text.items) c.read_faults.result
+    c.args.options.now c.args.namespace.now (λ text. text.items) c.read_faults.result
     (subst (λ r. DrainDoes g.D.Disk g.M.Module c.args.store.now c.drain-hands.new.store
     c.args.hands.items c.drain-hands.result.0.items r) c.in-Ok.is c.drain-hands.ensures.does)
     c.read_faults.ensures.reads c.read_faults.ensures.base_same c.read_faults.ensures.text
@@ -32,7 +32,7 @@ returns-in-Ok-clause-book g c = λ fresh k stands follow.
     c.drain-hands.ensures.does in
     read_book g.D.Disk g.M.Module fresh Flt c.args.store.now c.drain-hands.new.store
     c.read_faults.new.store k c.drain-hands.result.0.items c.in-Ok.field-0 c.read_faults.result
-    (λ now text. IsFaultsText c.args.order.now.options c.args.order.now.namespace
+    (λ now text. IsFaultsText c.args.options.now c.args.namespace.now
     now.book.records text.items) stands
     (subst (λ r. DrainsOnBook g.D.Disk g.M.Module fresh c.args.store.now c.drain-hands.new.store
     k c.drain-hands.result.0.items r) c.in-Ok.is
@@ -52,7 +52,7 @@ pub returns-clause-book : goal.returns-clause-book
 returns-clause-book g c = λ fresh k stands follow.
     stopped_book g.D.Disk g.M.Module g.met.D.Disk.only_now fresh Flt c.args.store.now
     c.drain-hands.new.store k c.args.hands.items c.drain-hands.result.0.items c.in-Err.fault
-    (λ now text. IsFaultsText c.args.order.now.options c.args.order.now.namespace
+    (λ now text. IsFaultsText c.args.options.now c.args.namespace.now
     now.book.records text.items)
     (subst (λ r. DrainDoes g.D.Disk g.M.Module c.args.store.now c.drain-hands.new.store
     c.args.hands.items c.drain-hands.result.0.items r) c.in-Err.is c.drain-hands.ensures.does)

@@ -13,6 +13,6 @@ returns-clause-told g c = λ fresh k stands. record {
   found = c.in_ok-records.records.items;
   ordered = c.in_ok-records.ensures.records fresh k stands;
   text_is = subst (λ records. c.in_ok-faults_of.field-0.items
-      ≡ faults_text c.args.order.now.options c.args.order.now.namespace records)
+      ≡ faults_text c.args.options.now c.args.namespace.now records)
       c.deref.ensures.value c.in_ok-faults_of.ensures;
 }

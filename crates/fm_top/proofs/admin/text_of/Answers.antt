@@ -1,17 +1,22 @@
 use denote.Param.Send.{sendable}
-use Rattle.std.proofs.Common.{subst}
 use Rattle.dx_engine.proofs.Crossing.{diagnoser_send}
-use Rattle.fm_top.specs.Admin.{AdminDone}
-use Rattle.fm_top.proofs.Texts.{faulty_done, only_faulty}
+use Rattle.fm_top.specs.declared.words.AdminCommand.TheVariants.{Faulty, Dump}
+use Rattle.fm_top.proofs.Texts.{done_as, faulty_done}
 use Rattle.fm_top.proofs.admin.text_of.Goals as goal
 
 pub tell_faulty-requires-send-M : goal.tell_faulty-requires-send-M
 tell_faulty-requires-send-M g c κs = search (diagnoser_send, sendable)
 
-pub returns-clause-did : goal.returns-clause-did
-returns-clause-did g c =
-    subst (λ asked. AdminDone g.D.Disk asked c.args.store.now c.tell_faulty.new.store
-    c.args.hands.items c.args.conf.now c.tell_faulty.result) (only_faulty c.args.asked)
+pub returns-in-Faulty-clause-did : goal.returns-in-Faulty-clause-did
+returns-in-Faulty-clause-did g c =
+    done_as g.D.Disk c.args.asked.now Faulty c.args.store.now c.tell_faulty.new.store
+    c.args.hands.items c.args.conf.now c.tell_faulty.result c.in-Faulty.is
     (faulty_done g.D.Disk c.args.store.now c.tell_faulty.new.store c.args.hands.items
     c.args.conf.now c.requires.ready c.tell_faulty.result c.tell_faulty.ensures.drained
     c.tell_faulty.ensures.refused c.tell_faulty.ensures.book)
+
+pub returns-in-Dump-clause-did : goal.returns-in-Dump-clause-did
+returns-in-Dump-clause-did g c =
+    done_as g.D.Disk c.args.asked.now (Dump c.in-Dump.options) c.args.store.now
+    c.dump_text.new.store c.args.hands.items c.args.conf.now c.dump_text.result c.in-Dump.is
+    c.dump_text.ensures.did

@@ -1,6 +1,6 @@
 use Rattle.std.proofs.Common.{arith}
 use Rattle.fm_top.proofs.Namespaces.{two_words}
-use Rattle.fm_top.proofs.words.command_of.Goals as goal
+use Rattle.fm_top.proofs.words.short_command.Goals as goal
 
 pub returns-in-len2 : goal.returns-in-len2
 returns-in-len2 c =
