@@ -22,7 +22,7 @@ use Rattle.fm_top.specs.declared.stops.Stop.{Stop}
 use Rattle.fm_top.specs.declared.stops.Stop.TheVariants.{Read, Write, Disk, Damaged, Memory, Full}
 use Rattle.fm_top.specs.declared.stops.Stop.TheVariants.{Act}
 use Rattle.fm_top.specs.declared.words.AdminCommand.{AdminCommand}
-use Rattle.fm_top.specs.declared.words.AdminCommand.TheVariants.{Faulty, Dump}
+use Rattle.fm_top.specs.declared.words.AdminCommand.TheVariants.{Config, Dump, Faulty}
 use Rattle.fm_top.specs.declared.words.Command.TheVariants.{Admin}
 use Rattle.fm_top.proofs.Doing.{Rests, quiet_counts}
 use Rattle.fm_top.proofs.Escs.{ok_no_err}
@@ -41,6 +41,7 @@ like_drained fresh k image reads = record {
 like_after : (asked : AdminCommand) (fresh : List ModuleState) (k : StoreBook) (image : Contents)
     → ReadsAfter asked fresh k image → ReadsLike fresh k image
 like_after Faulty fresh k image reads = like_drained fresh k image reads
+like_after Config fresh k image reads = like_drained fresh k image reads
 like_after (Dump options) fresh k image reads = like_drained fresh k image reads
 
 module _ (asked : AdminCommand) (before after : Outside) where

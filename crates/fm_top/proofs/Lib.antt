@@ -2,6 +2,7 @@ pub mod Accepts
 pub mod AdminDoing
 pub mod AnswerLists
 pub mod BookHeld
+pub mod Configs
 pub mod Confs
 pub mod CountLines
 pub mod Cuts

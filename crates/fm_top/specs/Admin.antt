@@ -6,6 +6,7 @@ use Rattle.std.specs.Global.{Vec}
 use Rattle.dx_engine.specs.Diagnosers.{DiagnoserOf}
 use Rattle.fm_admin.specs.Telling.{IsFaultyOf}
 use Rattle.fm_conclude.specs.Concluding.{NoDiskFailed, SomeDiskFailed}
+use Rattle.fm_config.specs.Sizes.{IsConfText}
 use Rattle.fm_core.specs.Book.{ModuleState}
 use Rattle.fm_core.specs.Drained.{drained}
 use Rattle.fm_core.specs.Hands.{HandOf}
@@ -31,17 +32,19 @@ use Rattle.fm_top.specs.Kept.{BookAt}
 use Rattle.fm_top.specs.Outside.{SinkAt, DisksAt, Tells, Leaves}
 use Rattle.fm_top.specs.declared.stops.Stop.{Stop}
 use Rattle.fm_top.specs.declared.words.AdminCommand.{AdminCommand}
-use Rattle.fm_top.specs.declared.words.AdminCommand.TheVariants.{Faulty, Dump}
+use Rattle.fm_top.specs.declared.words.AdminCommand.TheVariants.{Config, Dump, Faulty}
 
 -- WHICH TEXT EACH COMMAND PUTS, one line a command: of a book with this configuration in force, and
 -- of the entries of the active error journal
 abbrev pub IsTextOf : AdminCommand → Conf → ErrorLog → StoreBook → List ℕ → Type 0
 IsTextOf Faulty conf log k text = IsFaultyOf conf.namespace (drained k.book) text
+IsTextOf Config conf log k text = IsConfText conf text
 IsTextOf (Dump options) conf log k text = IsDump options.errors options conf.namespace log k text
 
 -- WHAT EACH COMMAND LEAVES once it is done, one line a command: how an image reads
 abbrev pub ReadsAfter : AdminCommand → List ModuleState → StoreBook → Contents → Type 0
 ReadsAfter Faulty fresh k image = ReadsDrained fresh k image
+ReadsAfter Config fresh k image = ReadsDrained fresh k image
 ReadsAfter (Dump options) fresh k image = ReadsDrained fresh k image
 
 -- ---- an open store

@@ -9,6 +9,7 @@ ghost use Rattle.fm_top.specs.Outside.{SinkAt, SourceAt, sink_at, disks_at};
 ghost use Rattle.fm_top.specs.Tasks.{TaskDoes};
 
 use crate::answering::put_bytes;
+use crate::configuring::drained_conf;
 use crate::dumping::dump_text;
 use crate::no_input::NoInput;
 use crate::opened::work_store;
@@ -40,6 +41,7 @@ fn text_of<D: Disk>(
 {
     match asked {
         AdminCommand::Faulty => tell_faulty(store, alloc, hands, &conf.namespace),
+        AdminCommand::Config => drained_conf(alloc, store, hands, conf),
         AdminCommand::Dump(options) => dump_text(alloc, options, store, hands, conf),
     }
 }

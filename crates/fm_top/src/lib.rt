@@ -60,6 +60,7 @@ mod admin;
 mod answering;
 mod as_read;
 mod call;
+mod configuring;
 mod counts;
 mod dumping;
 mod esc;

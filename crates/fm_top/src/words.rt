@@ -20,6 +20,8 @@ pub enum AdminCommand {
     /// Of the words about cases, or of the entries since the last rotation, those that the options
     /// keep.
     Dump(DumpOptions),
+    /// The configuration in force: its namespace, and how large what its rule files come to is.
+    Config,
 }
 
 /// What is to be done.
@@ -104,6 +106,8 @@ fn fmadm_with(second: &ArgText) -> Option<Command>
 {
     if is_word(second, "faulty") {
         Some(Command::Admin(AdminCommand::Faulty))
+    } else if is_word(second, "config") {
+        Some(Command::Admin(AdminCommand::Config))
     } else {
         None
     }

@@ -1,6 +1,6 @@
 use denote.Param.Send.{sendable}
 use Rattle.dx_engine.proofs.Crossing.{diagnoser_send}
-use Rattle.fm_top.specs.declared.words.AdminCommand.TheVariants.{Faulty, Dump}
+use Rattle.fm_top.specs.declared.words.AdminCommand.TheVariants.{Config, Dump, Faulty}
 use Rattle.fm_top.proofs.Texts.{done_as, faulty_done}
 use Rattle.fm_top.proofs.admin.text_of.Goals as goal
 
@@ -14,6 +14,12 @@ returns-in-Faulty-clause-did g c =
     (faulty_done g.D.Disk c.args.store.now c.tell_faulty.new.store c.args.hands.items
     c.args.conf.now c.requires.ready c.tell_faulty.result c.tell_faulty.ensures.drained
     c.tell_faulty.ensures.refused c.tell_faulty.ensures.book)
+
+pub returns-in-Config-clause-did : goal.returns-in-Config-clause-did
+returns-in-Config-clause-did g c =
+    done_as g.D.Disk c.args.asked.now Config c.args.store.now c.drained_conf.new.store
+    c.args.hands.items c.args.conf.now c.drained_conf.result c.in-Config.is
+    c.drained_conf.ensures.did
 
 pub returns-in-Dump-clause-did : goal.returns-in-Dump-clause-did
 returns-in-Dump-clause-did g c =

@@ -1,0 +1,48 @@
+-- The texts of a configuration, one after another.
+use Rattle.std.proofs.Common.{◌≡◌, ℕ, ◌+◌, ◌<◌, List, [], ◌∷◌, ◌++◌, length, map, take, get_or}
+use Rattle.std.proofs.Common.{refl, sym, ap, subst, inr}
+use Rattle.std.proofs.lemmas.Option.{slice_get_read}
+use Rattle.fm_modules.specs.KeptTexts.{AreRefusedTexts, EachHas, IsRefusedConf, IsRefusedText}
+use Rattle.fm_modules.specs.KeptTexts.{IsTopologyText}
+use Rattle.fm_modules.proofs.KeptRows.{each_more}
+use Rattle.fm_saved.specs.declared.conf.Conf.{Conf}
+use Rattle.fm_topo.specs.Fault.{IsClean}
+use Rattle.fm_topo.specs.Topology.{Topology, topology_of}
+use Rattle.fm_config.specs.Sizes.{ConfCause}
+use Rattle.fm_config.specs.declared.fault.ConfFault.{ConfFault}
+use Rattle.fm_config.specs.declared.fault.ConfFault.TheVariants.{Refused, NoMemory}
+
+map_same : {X : Type 0} (xs : List X) → map (λ x. x) xs ≡ xs
+map_same [] = refl
+map_same (x ∷ xs) = ap (λ ys. x ∷ ys) (map_same xs)
+
+-- one more, as a loop makes it
+pub each_next : {A B : Type 0} (has : A → B → Type 0) (xs : List A) (i : ℕ) (x : A)
+    (ys new : List B) (y : B) → i < length xs → x ≡ get_or xs i x → EachHas has (take i xs) ys
+    → has x y → new ≡ ys ++ y ∷ [] → EachHas has (take (i + 1) xs) new
+each_next has xs i x ys new y low is each one new_is =
+    subst (EachHas has (take (i + 1) xs)) (map_same new)
+    (each_more has (λ y. y) xs i x ys new y low is
+    (subst (EachHas has (take i xs)) (sym (map_same ys)) each) one new_is)
+
+-- one of all texts
+pub one_refused : (topo : Topology) (texts : List (List ℕ)) (i : ℕ) (text : List ℕ)
+    (fault : ConfFault) → i < length texts → text ≡ get_or texts i text
+    → ConfCause (IsRefusedText topo text) fault → ConfCause (AreRefusedTexts topo texts) fault
+one_refused topo texts i text Refused low is cause =
+    (i, text, slice_get_read texts (length texts) i text refl low is, cause)
+one_refused topo texts i text NoMemory low is cause = tt
+
+-- the texts of a configuration, over its topology
+pub conf_refused : (conf : Conf) (topo : Topology) (texts : List (List ℕ)) (topo_text : List ℕ)
+    (fault : ConfFault) → texts ≡ conf.rules → topo_text ≡ conf.topo → IsClean topo_text
+    → topo ≡ topology_of topo_text → ConfCause (AreRefusedTexts topo texts) fault
+    → ConfCause (IsRefusedConf conf) fault
+conf_refused conf topo texts topo_text Refused same same_topo clean is cause =
+    inr (
+      topo,
+      subst (λ text. IsTopologyText text topo) same_topo
+          (record { clean = clean; topology_is = is }),
+      subst (AreRefusedTexts topo) same cause,
+    )
+conf_refused conf topo texts topo_text NoMemory same same_topo clean is cause = tt

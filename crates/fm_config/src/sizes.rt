@@ -1,0 +1,84 @@
+//! How large what the rule files of a configuration come to is.
+
+ghost use Rattle.std.specs.Prelude.{◌≡◌, IfOk, IfErr};
+ghost use Rattle.fm_adm.specs.Config.{config_text};
+ghost use Rattle.fm_modules.specs.KeptTexts.{AreRefusedTexts, EachHas, IsRefusedConf, IsRefusedText};
+ghost use Rattle.fm_config.specs.Sizes.{ConfCause, HaveSizes, IsConfText, TextHasSizes};
+
+use crate::fault::ConfFault;
+use ev_check::Checked;
+use ev_inst::{InstFault, instantiate};
+use ev_listing::sizes_of;
+use fm_adm::{ModuleSizes, write_config};
+use fm_bytes::NoMemory;
+use fm_saved::{Conf, ConfText};
+use fm_sources::{RulesFault, read_rules};
+use fm_topo::{Topo, TopoFault, read_topo};
+use std::alloc::Global;
+
+/// How large what the text of a rule file comes to over a topology is.
+fn text_sizes(alloc: Global, text: &[u8], topo: &Topo) -> Result<ModuleSizes, ConfFault>
+    ensures sizes { IfOk result (TextHasSizes topo.now text.now) }
+    ensures refused { IfErr result (ConfCause (IsRefusedText topo.now text.now)) }
+{
+    let checked: Checked = match read_rules(alloc, text) {
+        Ok(checked) => checked,
+        Err(RulesFault::At { place: _, kind: _ }) => return Err(ConfFault::Refused),
+        Err(RulesFault::NoMemory) => return Err(ConfFault::NoMemory),
+    };
+    match instantiate(alloc, &checked, topo) {
+        Ok(made) => Ok(sizes_of(&made)),
+        Err(InstFault::Nodes) => Err(ConfFault::Refused),
+        Err(InstFault::Links) => Err(ConfFault::Refused),
+        Err(InstFault::NoMemory) => Err(ConfFault::NoMemory),
+    }
+}
+
+/// How large what each of some texts comes to is, up to the first that is refused.
+fn all_sizes(alloc: Global, texts: &[ConfText], topo: &Topo) -> Result<Vec<ModuleSizes>, ConfFault>
+    ensures sizes { IfOk result
+        (λ sizes. EachHas (TextHasSizes topo.now) texts.now sizes.items) }
+    ensures refused { IfErr result (ConfCause (AreRefusedTexts topo.now texts.now)) }
+{
+    let mut sizes = Vec::new(alloc);
+    'texts: for text in texts {
+        sizes.push(text_sizes(alloc, text.get(), topo)?)?;
+    }
+    Ok(sizes)
+}
+
+/// How large what the rule files of a configuration come to over its topology is.
+fn conf_sizes(alloc: Global, conf: &Conf) -> Result<Vec<ModuleSizes>, ConfFault>
+    ensures sizes { IfOk result (λ sizes. HaveSizes conf.now sizes.items) }
+    ensures refused { IfErr result (ConfCause (IsRefusedConf conf.now)) }
+{
+    let topo = match read_topo(alloc, conf.topo.get()) {
+        Ok(topo) => topo,
+        Err(TopoFault::At { line: _, kind: _ }) => return Err(ConfFault::Refused),
+        Err(TopoFault::NoMemory) => return Err(ConfFault::NoMemory),
+    };
+    all_sizes(alloc, conf.rules.as_slice(), &topo)
+}
+
+/// The text of a namespace and of what rule files come to.
+fn text_with(
+    alloc: Global,
+    namespace: &[u8; 16],
+    sizes: &[ModuleSizes],
+) -> Result<Vec<u8>, NoMemory>
+    ensures { IfOk result (λ text. text.items ≡ config_text namespace.now sizes.now) }
+{
+    let mut text = Vec::new(alloc);
+    write_config(alloc, namespace, sizes, &mut text)?;
+    Ok(text)
+}
+
+/// The text of a configuration: a line `namespace UUID`, and a line for each rule file.
+pub fn tell_conf(alloc: Global, conf: &Conf) -> Result<Vec<u8>, ConfFault>
+    ensures told { IfOk result (λ text. IsConfText conf.now text.items) }
+    ensures refused { IfErr result (ConfCause (IsRefusedConf conf.now)) }
+{
+    let sizes = conf_sizes(alloc, conf)?;
+    let text = text_with(alloc, &conf.namespace, &sizes)?;
+    Ok(text)
+}
