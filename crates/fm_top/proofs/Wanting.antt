@@ -25,17 +25,16 @@ usage_wanted out out_now result (inr (cut, is, put)) = inr (by_cut cut is put)
   where
     by_cut : (cut : Stop) → result ≡ status_of cut → PutCut out out_now [] cut
         → (cut : Stop) × (result ≡ status_of cut) × PutCut out out_now (last_text Usage) cut
-    by_cut Write is (rose, (m, (small, put))) = (
+    by_cut Write is (rose, (m, small, put)) = (
       Write,
       is,
       (
         rose,
         (
           0,
-          (
-            omega arith,
-            subst (λ n. Appends out.bytes out_now.bytes (take n [])) (none_of m small) put,
-          ),
+          omega arith,
+          subst (λ n. Appends out.bytes out_now.bytes (take n []))
+              (none_of m small) put,
         ),
       ),
     )
