@@ -88,7 +88,7 @@ unopened_asked g disks disks_now asked fault refused read = record {
 -- ---- an open store
 
 -- a drain that is done leaves the counts of all disks
-same_counts : {D : Type 0} (g : Ghosts D) (old new : StoreOf D DiagnoserOf)
+pub same_counts : {D : Type 0} (g : Ghosts D) (old new : StoreOf D DiagnoserOf)
     → WasDrained g old new → NoDiskFailed g old new
 same_counts {D = D} g old new was ConfDisk =
     ap (λ (s : StoreOf D DiagnoserOf). g.failures (store_disk ConfDisk s)) was.only
@@ -102,14 +102,18 @@ same_counts {D = D} g old new was SlotB =
     ap (λ (s : StoreOf D DiagnoserOf). g.failures (store_disk SlotB s)) was.only
 same_counts g old new was Flt = was.no_failure
 
--- there is one such command
-pub only_faulty : (asked : AdminCommand) → Faulty ≡ asked
-only_faulty Faulty = refl
+-- what is said of a command is said of the one that it is
+pub done_as : {D : Type 0} (g : Ghosts D) (asked other : AdminCommand)
+    (old new : StoreOf D DiagnoserOf) (hands : List (HandOf DiagnoserOf)) (conf : Conf)
+    (answer : Result (Vec ℕ) StoreFault) → asked ≡ other
+    → AdminDone g other old new hands conf answer → AdminDone g asked old new hands conf answer
+done_as g asked other old new hands conf answer same done =
+    subst (λ one. AdminDone g one old new hands conf answer) (sym same) done
 
 -- what is faulty was told
 module _ {D : Type 0} (g : Ghosts D) (old new : StoreOf D DiagnoserOf)
     (hands : List (HandOf DiagnoserOf)) (conf : Conf) (open_before : old.logs.closed ≡ None) where
-  faulty_refused : (fault : StoreFault) → TellRefused g diagnosers Flt old new hands fault
+  pub faulty_refused : (fault : StoreFault) → TellRefused g diagnosers Flt old new hands fault
       → AdminRefused g old new fault
   faulty_refused store.Disk why = (Flt, elim why.1 [ inl rose ↦ rose | inr rose ↦ rose ])
   faulty_refused (store.Closed name failures) why = why.1

@@ -20,6 +20,8 @@ pub mod Outside
 pub mod Recording
 pub mod RecordingLaws
 pub mod Refusing
+pub mod Repair
+pub mod RepairEntry
 pub mod Replaying
 pub mod Running
 pub mod Status

@@ -3,11 +3,14 @@ use Rattle.std.specs.Prelude.{ℕ, List, [], ◌∷◌, Option, Some, None, code
 use Rattle.std.specs.Option.{option_map}
 use Rattle.std.specs.Str.{bytes_eq}
 use Rattle.uuid.specs.Text.{parsed}
+use Rattle.fm_admin.specs.declared.marking.Repair.{Repair as Said}
+use Rattle.fm_admin.specs.declared.marking.Repair.TheVariants.{Repaired, Replaced, Acquit}
+use Rattle.fm_name.specs.Path.{is_path}
 use Rattle.fm_top.specs.declared.words.Command.{Command}
 use Rattle.fm_esc.specs.declared.graphs.GraphForm.TheVariants.{Listed, Compiled}
 use Rattle.fm_top.specs.declared.words.Command.TheVariants.{Accept, Fmd, Replay, Init, Esc}
-use Rattle.fm_top.specs.declared.words.Command.TheVariants.{EscInput, Admin}
-use Rattle.fm_top.specs.declared.words.AdminCommand.TheVariants.{Faulty}
+use Rattle.fm_top.specs.declared.words.Command.TheVariants.{EscInput, Admin, Repair}
+use Rattle.fm_top.specs.declared.words.AdminCommand.TheVariants.{Faulty, Rotate}
 
 -- the command of one word
 abbrev pub command_in : List ℕ → Option Command
@@ -28,7 +31,9 @@ fmd_with option = if bytes_eq option (codes "-1") then Some Fmd else None
 
 -- the command `fmadm` and a word
 abbrev pub fmadm_with : List ℕ → Option Command
-fmadm_with second = if bytes_eq second (codes "faulty") then Some (Admin Faulty) else None
+fmadm_with second =
+    if bytes_eq second (codes "faulty") then Some (Admin Faulty)
+    else (if bytes_eq second (codes "rotate") then Some (Admin Rotate) else None)
 
 -- the command of two words: `init` and a namespace, `esc` or `fmd` and an option, or `fmadm` and
 -- what is asked for
@@ -39,9 +44,38 @@ command_with word second =
     else (if bytes_eq word (codes "fmd") then fmd_with second
     else (if bytes_eq word (codes "fmadm") then fmadm_with second else None)))
 
--- the command of the words: there are one or two, and they name a command
-abbrev pub command_of : List (List ℕ) → Option Command
-command_of [] = None
-command_of (word ∷ []) = command_in word
-command_of (word ∷ second ∷ []) = command_with word second
-command_of (word ∷ second ∷ third ∷ more) = None
+-- the path that a word is
+abbrev pub path_of : List ℕ → Option (List ℕ)
+path_of word = if is_path word then Some word else None
+
+-- what an operator says of repairs: that the resource at a path was repaired, or replaced, or that
+-- the suspects of the case with a UUID are acquitted
+unfoldable pub repair_with : List ℕ → List ℕ → Option Said
+repair_with word third =
+    if bytes_eq word (codes "repaired") then option_map Repaired (path_of third)
+    else (if bytes_eq word (codes "replaced") then option_map Replaced (path_of third)
+    else (if bytes_eq word (codes "acquit") then option_map Acquit (parsed third) else None))
+
+-- the command that says it at a moment
+abbrev pub repair_at : ℕ → Option Said → Option Command
+repair_at now said =
+    option_map (λ repair. Repair (record { moment = now; repair = repair })) said
+
+-- the command of three words: `fmadm`, what is said of repairs, and of what
+unfoldable pub command_about : List ℕ → List ℕ → List ℕ → ℕ → Option Command
+command_about word second third now =
+    if bytes_eq word (codes "fmadm") then repair_at now (repair_with second third) else None
+
+-- the command of the words at a moment: there are one, two or three, and they name a command
+abbrev pub command_of : List (List ℕ) → ℕ → Option Command
+command_of [] now = None
+command_of (word ∷ []) now = command_in word
+command_of (word ∷ second ∷ []) now = command_with word second
+command_of (word ∷ second ∷ third ∷ []) now = command_about word second third now
+command_of (word ∷ second ∷ third ∷ fourth ∷ more) now = None
+
+-- words that are this command, or none, may take memory to be read
+abbrev pub TakesMemory : Option Command → Type 0
+TakesMemory None = Unit {0}
+TakesMemory (Some (Repair asked)) = Unit {0}
+TakesMemory (Some _) = ⊥

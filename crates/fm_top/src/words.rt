@@ -1,12 +1,18 @@
 // The words of a command.
-ghost use Rattle.std.specs.Prelude.{◌≡◌};
+ghost use Rattle.std.specs.Prelude.{◌≡◌, ◌<◌, ◌^◌, IfOk, IfErr};
 ghost use Rattle.std.specs.Str.{bytes_eq};
 ghost use Rattle.uuid.specs.Text.{parsed};
-ghost use Rattle.fm_top.specs.Words.{command_in, command_with, command_of, esc_with};
-ghost use Rattle.fm_top.specs.Words.{fmadm_with, fmd_with};
+ghost use Rattle.fm_top.specs.Words.{TakesMemory, command_about, command_in, command_of};
+ghost use Rattle.fm_top.specs.Words.{command_with, esc_with, fmadm_with, fmd_with, path_of};
+ghost use Rattle.fm_top.specs.Words.{repair_with};
 
+use crate::request::RepairRequest;
+use fm_admin::Repair;
+use fm_bytes::NoMemory;
 use fm_esc::GraphForm;
+use fm_name::{Fmri, read_fmri};
 use fm_text::ArgText;
+use std::alloc::Global;
 use uuid::Uuid;
 
 /// A command of an operator that puts one text.
@@ -14,10 +20,12 @@ use uuid::Uuid;
 pub enum AdminCommand {
     /// The cases that are solved and not yet repaired, with their suspects.
     Faulty,
+    /// Entries to come go into the other error journal, and the base is moved to the end.
+    Rotate,
 }
 
 /// What is to be done.
-#[derive(Clone, Copy, Debug, PartialEq, Eq)]
+#[derive(Drop)]
 pub enum Command {
     /// The input's entries are appended to the journal of reports.
     Accept,
@@ -34,6 +42,9 @@ pub enum Command {
     EscInput,
     /// The store is drained, and what this command tells of it is put.
     Admin(AdminCommand),
+    /// The store is drained, and takes what an operator says of repairs, where that marks a
+    /// suspect.
+    Repair(RepairRequest),
 }
 
 /// Whether the word is this text.
@@ -98,6 +109,8 @@ fn fmadm_with(second: &ArgText) -> Option<Command>
 {
     if is_word(second, "faulty") {
         Some(Command::Admin(AdminCommand::Faulty))
+    } else if is_word(second, "rotate") {
+        Some(Command::Admin(AdminCommand::Rotate))
     } else {
         None
     }
@@ -124,13 +137,75 @@ fn command_with(word: &ArgText, second: &ArgText) -> Option<Command>
     }
 }
 
-/// The command of the words, if they are one. Words are compared as they stand.
-pub(crate) fn command_of(words: &[ArgText]) -> Option<Command>
-    ensures { result ≡ command_of words.now }
+/// The path that a word is.
+fn read_path(alloc: Global, word: &ArgText) -> Result<Option<Fmri>, NoMemory>
+    ensures { IfOk result (λ path. path ≡ path_of word.now) }
+{
+    read_fmri(alloc, word.get())
+}
+
+/// What an operator says of repairs, by a word and what it is said of.
+fn repair_with(alloc: Global, word: &ArgText, third: &ArgText) -> Result<Option<Repair>, NoMemory>
+    ensures { IfOk result (λ repair. repair ≡ repair_with word.now third.now) }
+{
+    if is_word(word, "repaired") {
+        match read_path(alloc, third)? {
+            Some(path) => Ok(Some(Repair::Repaired(path))),
+            None => Ok(None),
+        }
+    } else if is_word(word, "replaced") {
+        match read_path(alloc, third)? {
+            Some(path) => Ok(Some(Repair::Replaced(path))),
+            None => Ok(None),
+        }
+    } else if is_word(word, "acquit") {
+        match parse_uuid(third) {
+            Some(bytes) => Ok(Some(Repair::Acquit(Uuid::from_bytes(bytes)))),
+            None => Ok(None),
+        }
+    } else {
+        Ok(None)
+    }
+}
+
+/// The command of three words at a moment.
+fn command_about(
+    alloc: Global,
+    word: &ArgText,
+    second: &ArgText,
+    third: &ArgText,
+    now: u64,
+) -> Result<Option<Command>, NoMemory>
+    requires { now < 2 ^ 62 }
+    ensures command { IfOk result
+        (λ command. command ≡ command_about word.now second.now third.now now) }
+    ensures wanted { IfErr result
+        (λ _. TakesMemory (command_about word.now second.now third.now now)) }
+{
+    if !is_word(word, "fmadm") {
+        return Ok(None);
+    }
+    match repair_with(alloc, second, third)? {
+        Some(repair) => Ok(Some(Command::Repair(RepairRequest::new(now, repair)))),
+        None => Ok(None),
+    }
+}
+
+/// The command of the words at a moment, if they are one. Words are compared as they stand; a path
+/// takes memory to be read.
+pub(crate) fn command_of(
+    alloc: Global,
+    words: &[ArgText],
+    now: u64,
+) -> Result<Option<Command>, NoMemory>
+    requires { now < 2 ^ 62 }
+    ensures command { IfOk result (λ command. command ≡ command_of words.now now) }
+    ensures wanted { IfErr result (λ _. TakesMemory (command_of words.now now)) }
 {
     match words {
-        [word] => command_in(word),
-        [word, second] => command_with(word, second),
-        _ => None,
+        [word] => Ok(command_in(word)),
+        [word, second] => Ok(command_with(word, second)),
+        [word, second, third] => command_about(alloc, word, second, third, now),
+        _ => Ok(None),
     }
 }
