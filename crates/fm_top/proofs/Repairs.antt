@@ -182,7 +182,7 @@ module _ {D : Type 0} (g : Ghosts D) (asked : RepairAsked) (old new : StoreOf D 
         inl (subst (λ (s : StoreOf D DiagnoserOf). EachLeft g s (ReadsLike fresh k)) (sym same) looks.left),
       )
 
-  abbrev OnBook : Result (Option Repaired) StoreFault → Type 0
+  abbrev pub OnBook : Result (Option Repaired) StoreFault → Type 0
   OnBook answer = (fresh : List ModuleState) (k : StoreBook) → StoreStandsFor g fresh old k
       → AllFollow diagnosers k.book hands
       → RepairsBook g fresh old new k (order_by conf asked) answer

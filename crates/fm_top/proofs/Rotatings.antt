@@ -95,7 +95,7 @@ module _ {D : Type 0} (g : Ghosts D) (old new : StoreOf D DiagnoserOf)
   refused_why (store.Damaged name place) why = absurd why
   refused_why store.Exists why = absurd why
 
-  abbrev OnBook : Result ℕ StoreFault → Type 0
+  abbrev pub OnBook : Result ℕ StoreFault → Type 0
   OnBook result = (fresh : List ModuleState) (k : StoreBook) → StoreStandsFor g fresh old k
       → AllFollow diagnosers k.book hands → RotatesDrained g fresh old new k result
 
