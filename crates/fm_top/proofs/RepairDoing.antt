@@ -8,7 +8,7 @@ use Rattle.fm_logs.specs.StoreBook.{store_accepted}
 use Rattle.fm_store.specs.StoreLeft.{ReadsLike}
 use Rattle.fm_top.specs.Accepting.{OpeningStops}
 use Rattle.fm_top.specs.Answers.{ok_text}
-use Rattle.fm_top.specs.Calls.{IsCaused, Does}
+use Rattle.fm_top.specs.Calls.{IsCaused, Does, Handed, WorksOn}
 use Rattle.fm_top.specs.Ending.{EndsAs}
 use Rattle.fm_top.specs.Fmd.{ConcludingStops, SettlingEnds}
 use Rattle.fm_top.specs.Headline.{HasRepaired, HeldRepair, HoldsOfBook, Headline}
@@ -296,3 +296,10 @@ does_want (Some (Repair asked)) before after result takes ends rests unread unto
       unmoved = rests.acts;
     })) ends rests.rules rests.topo unread
 does_want (Some _) before after result takes ends rests unread untouched = absurd takes
+
+-- nothing was worked on
+pub works_want : {S D A : Type 0} (o : Option Command) (old : Handed S D A) → TakesMemory o
+    → WorksOn o old old
+works_want None old takes = refl
+works_want (Some (Repair asked)) old takes = refl
+works_want (Some _) old takes = absurd takes

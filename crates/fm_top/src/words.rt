@@ -145,6 +145,7 @@ fn read_path(alloc: Global, word: &ArgText) -> Result<Option<Fmri>, NoMemory>
 }
 
 /// What an operator says of repairs, by a word and what it is said of.
+#[tactic(auto, unfolding(crate::specs::Words::repair_with))]
 fn repair_with(alloc: Global, word: &ArgText, third: &ArgText) -> Result<Option<Repair>, NoMemory>
     ensures { IfOk result (λ repair. repair ≡ repair_with word.now third.now) }
 {
@@ -169,6 +170,7 @@ fn repair_with(alloc: Global, word: &ArgText, third: &ArgText) -> Result<Option<
 }
 
 /// The command of three words at a moment.
+#[tactic(auto, using(crate::proofs::Namespaces::repair_takes), unfolding(crate::specs::Words::command_about))]
 fn command_about(
     alloc: Global,
     word: &ArgText,

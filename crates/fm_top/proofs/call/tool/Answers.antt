@@ -7,7 +7,7 @@ use Rattle.fm_top.proofs.Doing.{does_as, does_accept, does_replay}
 use Rattle.fm_top.proofs.Escs.{does_esc, does_input, esc_standing, input_standing}
 use Rattle.fm_top.proofs.FmdDoing.{does_fmd}
 use Rattle.fm_top.proofs.Inits.{does_init, ends_standing}
-use Rattle.fm_top.proofs.RepairDoing.{does_repair, does_want}
+use Rattle.fm_top.proofs.RepairDoing.{does_repair, does_want, works_want}
 use Rattle.fm_top.proofs.call.tool.Goals as goal
 
 pub returns-in-Some-Accept-clause-does : goal.returns-in-Some-Accept-clause-does
@@ -70,3 +70,6 @@ returns-else-clause-does g c =
     does_want _ _ _ c.end-else.result c.else.ensures.wanted c.end-else.ensures
     (record { rules = refl; topo = refl; acts = refl }) refl
     (λ name. record { seen = refl; images = λ image is. is })
+
+pub returns-else-clause-works_on : goal.returns-else-clause-works_on
+returns-else-clause-works_on g c = works_want _ _ c.else.ensures.wanted
