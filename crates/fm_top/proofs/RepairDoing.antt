@@ -2,6 +2,7 @@
 use Rattle.std.proofs.Common.{◌≡◌, ◌⊎◌, inl, inr, ℕ, zero, suc, List, [], ◌∷◌, map, take, refl}
 use Rattle.std.proofs.Common.{sym, subst, arith, Option, None, Some, OnOk, IfErr, Result, Ok, Err}
 use Rattle.std.specs.Io.KnownBytes.{Appends}
+use Rattle.fm_act.specs.Reconciled.{ActuatorState}
 use Rattle.fm_admin.specs.declared.repairing.Repaired.{Repaired}
 use Rattle.fm_logs.specs.Contents.{Contents}
 use Rattle.fm_logs.specs.StoreBook.{store_accepted}
@@ -303,3 +304,11 @@ pub works_want : {S D A : Type 0} (o : Option Command) (old : Handed S D A) → 
 works_want None old takes = refl
 works_want (Some (Repair asked)) old takes = refl
 works_want (Some _) old takes = absurd takes
+
+-- what was put after a sink that is as it was
+pub settled_from : (paths : List (List ℕ)) (text : List ℕ) (acts acts_now : List ActuatorState)
+    (out middle out_now : SinkAt) (ran : Result (Unit {0}) Stop) → middle ≡ out
+    → SettlingEnds paths text acts acts_now middle out_now ran
+    → SettlingEnds paths text acts acts_now out out_now ran
+settled_from paths text acts acts_now out middle out_now ran same ends =
+    subst (λ (s : SinkAt). SettlingEnds paths text acts acts_now s out_now ran) same ends
