@@ -70,7 +70,7 @@ module _ {D M : Type 0} (g : Ghosts D) (m : ModuleGhosts M) where
       → RotateDoes g mid new (saves_of m now) result
       → OnOk result ((name : DiskName)
       → g.failures (store_disk name new) ≡ g.failures (store_disk name old))
-  rotation_counts old mid new hands now done (Ok number) drain does name =
+  rotation_counts old mid new hands now done (Ok number) drain does = λ name.
       rotate_counts g mid new (saves_of m now) number does name
       ∙ drain_counts g old mid drain.only drain.answer.open_still name
   rotation_counts old mid new hands now done (Err fault) drain does = tt

@@ -263,7 +263,10 @@ does_repair asked before after middle ran result did ends rules topo unread =
 
 -- ---- words that took more memory than there was
 
-take_none : {X : Type 0} (m : ℕ) → take {X} m [] ≡ []
+abbrev no_text : List ℕ
+no_text = []
+
+take_none : (m : ℕ) → take m no_text ≡ no_text
 take_none zero = refl
 take_none (suc m) = refl
 

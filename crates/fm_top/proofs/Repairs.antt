@@ -212,13 +212,13 @@ module _ {D : Type 0} (g : Ghosts D) (asked : RepairAsked) (old new : StoreOf D 
 
 -- memory was wanted before anything was done
 pub repair_wanted : {D : Type 0} (g : Ghosts D) (asked : RepairAsked)
-    (store : StoreOf D DiagnoserOf) (hands : List (HandOf DiagnoserOf)) (conf : Conf)
-    → store.logs.closed ≡ None → RepairDone g asked store store hands conf (Err store.NoMemory)
-repair_wanted g asked store hands conf is_open = record {
+    (old : StoreOf D DiagnoserOf) (hands : List (HandOf DiagnoserOf)) (conf : Conf)
+    → old.logs.closed ≡ None → RepairDone g asked old old hands conf (Err store.NoMemory)
+repair_wanted g asked old hands conf is_open = record {
   was_open = is_open;
   quiet = tt;
   refused = tt;
-  book = λ fresh k stands follow. (tt, inl (store_reads g fresh store k stands));
+  book = λ fresh k stands follow. (tt, inl (store_reads g fresh old k stands));
 }
 
 -- ---- a store that was not opened
