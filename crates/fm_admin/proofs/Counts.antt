@@ -1,6 +1,6 @@
 -- A drain and a rotation that were done leave each disk's count of failures.
-use Rattle.std.proofs.Common.{◌≡◌, ◌∙◌, ℕ, Bool, true, false, not, List, Option, Result, Ok, Err}
-use Rattle.std.proofs.Common.{OnOk, refl, ap, subst, sym}
+use Rattle.std.proofs.Common.{◌≡◌, ◌∙◌, ℕ, Bool, true, false, not, List, Result, Ok, Err}
+use Rattle.std.proofs.Common.{OnOk, ap}
 use Rattle.fm_outer.specs.declared.disk.Disk.{Ghosts}
 use Rattle.fm_core.specs.Hands.{HandOf}
 use Rattle.fm_core.specs.declared.module.Module.{Ghosts as ModuleGhosts}
