@@ -20,7 +20,7 @@ use Rattle.fm_top.specs.declared.stops.Stop.{Stop}
 use Rattle.fm_top.specs.declared.stops.Stop.TheVariants.{Read, Write, Disk, Damaged, Memory, Full}
 use Rattle.fm_top.specs.declared.stops.Stop.TheVariants.{Act}
 use Rattle.fm_top.specs.declared.words.AdminCommand.{AdminCommand}
-use Rattle.fm_top.specs.declared.words.AdminCommand.TheVariants.{Faulty}
+use Rattle.fm_top.specs.declared.words.AdminCommand.TheVariants.{Faulty, Rotate}
 use Rattle.fm_top.specs.declared.words.Command.TheVariants.{Admin}
 use Rattle.fm_top.proofs.Doing.{Rests, quiet_counts}
 use Rattle.fm_top.proofs.Escs.{ok_no_err}
@@ -29,6 +29,12 @@ use Rattle.fm_top.proofs.Escs.{ok_no_err}
 like_after : (asked : AdminCommand) (fresh : List ModuleState) (k : StoreBook) (image : Contents)
     → ReadsAfter asked fresh k image → ReadsLike fresh k image
 like_after Faulty fresh k image reads = reads
+like_after Rotate fresh k image reads = record {
+  read = reads.read;
+  reads = reads.reads;
+  confs_same = reads.based_is.confs_same;
+  alike = reads.based_is.alike;
+}
 
 module _ (asked : AdminCommand) (before after : Outside) where
   abbrev RanSo : Result (Unit {0}) Stop → Type 0

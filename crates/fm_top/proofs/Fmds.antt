@@ -115,7 +115,7 @@ hands_on g old new hands es went at = record {
 
 -- ---- what the disks of a drained store hold
 
-floored_based : (k based : StoreBook) → IsBasedOf k based → IsBasedOf k (store_floored based)
+pub floored_based : (k based : StoreBook) → IsBasedOf k based → IsBasedOf k (store_floored based)
 floored_based k based is = record {
   alike = λ es. drained_floored based.book es ∙ is.alike es;
   confs_same = is.confs_same;
@@ -130,7 +130,7 @@ logs_same c false = refl
 
 module _ {D M : Type 0} (g : Ghosts D) where
   -- each image reads as the book, with each module at its floor
-  reads_floored : (fresh : List ModuleState) (store : StoreOf D M) (k : StoreBook)
+  pub reads_floored : (fresh : List ModuleState) (store : StoreOf D M) (k : StoreBook)
       → StoreStandsFor g fresh store k
       → EachLeft g store (λ c. ReadsAsBook fresh c (store_floored k))
   reads_floored fresh store k st c left =

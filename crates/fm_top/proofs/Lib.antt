@@ -21,6 +21,7 @@ pub mod Namespaces
 pub mod OnPieces
 pub mod Recordings
 pub mod Replays
+pub mod Rotatings
 pub mod Sinks
 pub mod SixDisks
 pub mod Standing

@@ -102,9 +102,13 @@ same_counts {D = D} g old new was SlotB =
     ap (λ (s : StoreOf D DiagnoserOf). g.failures (store_disk SlotB s)) was.only
 same_counts g old new was Flt = was.no_failure
 
--- there is one such command
-pub only_faulty : (asked : AdminCommand) → Faulty ≡ asked
-only_faulty Faulty = refl
+-- what is said of a command is said of the one that it is
+pub done_as : {D : Type 0} (g : Ghosts D) (asked other : AdminCommand)
+    (old new : StoreOf D DiagnoserOf) (hands : List (HandOf DiagnoserOf)) (conf : Conf)
+    (answer : Result (Vec ℕ) StoreFault) → asked ≡ other
+    → AdminDone g other old new hands conf answer → AdminDone g asked old new hands conf answer
+done_as g asked other old new hands conf answer same done =
+    subst (λ one. AdminDone g one old new hands conf answer) (sym same) done
 
 -- what is faulty was told
 module _ {D : Type 0} (g : Ghosts D) (old new : StoreOf D DiagnoserOf)

@@ -7,7 +7,7 @@ use Rattle.fm_top.specs.declared.words.Command.{Command}
 use Rattle.fm_esc.specs.declared.graphs.GraphForm.TheVariants.{Listed, Compiled}
 use Rattle.fm_top.specs.declared.words.Command.TheVariants.{Accept, Fmd, Replay, Init, Esc}
 use Rattle.fm_top.specs.declared.words.Command.TheVariants.{EscInput, Admin}
-use Rattle.fm_top.specs.declared.words.AdminCommand.TheVariants.{Faulty}
+use Rattle.fm_top.specs.declared.words.AdminCommand.TheVariants.{Faulty, Rotate}
 
 -- the command of one word
 abbrev pub command_in : List ℕ → Option Command
@@ -28,7 +28,9 @@ fmd_with option = if bytes_eq option (codes "-1") then Some Fmd else None
 
 -- the command `fmadm` and a word
 abbrev pub fmadm_with : List ℕ → Option Command
-fmadm_with second = if bytes_eq second (codes "faulty") then Some (Admin Faulty) else None
+fmadm_with second =
+    if bytes_eq second (codes "faulty") then Some (Admin Faulty)
+    else (if bytes_eq second (codes "rotate") then Some (Admin Rotate) else None)
 
 -- the command of two words: `init` and a namespace, `esc` or `fmd` and an option, or `fmadm` and
 -- what is asked for

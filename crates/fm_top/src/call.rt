@@ -33,8 +33,10 @@ use std::alloc::Global;
 /// rule file comes to over the topology: a line of its sizes, or with `-b` its compiled file.
 /// `esc -l` reads compiled files from the input, and puts the line of each, up to the first bad
 /// one. `fmadm faulty` opens the store with the modules of what it keeps, drains it, and puts
-/// what is faulty in the drained book. Of a command that stops, the last line says why. Nothing else is touched.
-/// `now` is the moment of the call, in nanoseconds since 1970; no command asks for it yet.
+/// what is faulty in the drained book; `fmadm rotate` goes on with the other error journal, moves
+/// the base to the end, and puts it. Of a command that stops, the last line says why. Nothing else
+/// is touched. `now` is the moment of the call, in nanoseconds since 1970; no command asks for it
+/// yet.
 pub fn tool<S: Source, K: Sink, D: Disk>(
     alloc: Global,
     words: &[ArgText],

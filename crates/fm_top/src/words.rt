@@ -14,6 +14,8 @@ use uuid::Uuid;
 pub enum AdminCommand {
     /// The cases that are solved and not yet repaired, with their suspects.
     Faulty,
+    /// Entries to come go into the other error journal, and the base is moved to the end.
+    Rotate,
 }
 
 /// What is to be done.
@@ -98,6 +100,8 @@ fn fmadm_with(second: &ArgText) -> Option<Command>
 {
     if is_word(second, "faulty") {
         Some(Command::Admin(AdminCommand::Faulty))
+    } else if is_word(second, "rotate") {
+        Some(Command::Admin(AdminCommand::Rotate))
     } else {
         None
     }

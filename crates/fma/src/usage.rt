@@ -10,7 +10,7 @@ struct CommandHelp {
 }
 
 /// The commands that are built.
-const COMMANDS: [CommandHelp; 8] = [
+const COMMANDS: [CommandHelp; 9] = [
     CommandHelp {
         words: "init NAMESPACE",
         does: "makes a store of dx0.esc and on, and of topology.txt; NAMESPACE is a UUID",
@@ -26,6 +26,10 @@ const COMMANDS: [CommandHelp; 8] = [
     CommandHelp {
         words: "fmadm faulty",
         does: "tells which cases are solved and not yet repaired, with their suspects",
+    },
+    CommandHelp {
+        words: "fmadm rotate",
+        does: "goes on in a new error journal of the store, and tells the number of its entries",
     },
     CommandHelp {
         words: "replay",
