@@ -85,8 +85,8 @@ pub record CaseParts : Type 0 where
   pub reports : List ℕ
   pub waiting : Bool
 
-abbrev pub parts_of : Case → CaseParts
-parts_of c = record {
+abbrev pub case_parts : Case → CaseParts
+case_parts c = record {
   number = c.number;
   opened = c.opened;
   time = c.time;
@@ -122,7 +122,7 @@ pub record IsCase (g : GraphValue) (p : CaseParts) : Type 0 where
 
 -- the case was made in this graph
 abbrev pub IsCaseOf : GraphValue → Case → Type 0
-IsCaseOf g c = IsCase g (parts_of c)
+IsCaseOf g c = IsCase g (case_parts c)
 
 -- the case as it is opened: it has some reports of the graph, and broken links, both in order, and
 -- no moment has come since

@@ -2,7 +2,7 @@
 
 ghost use Rattle.std.specs.Prelude.{◌≡◌, map, IfOk, IsTrue};
 ghost use Rattle.dx_meaning.specs.Fresh.{first_of, fresh_of};
-ghost use Rattle.dx_rules.specs.Rulebooks.{rules_of};
+ghost use Rattle.dx_rules.specs.Rulebooks.{rules_in};
 ghost use Rattle.dx_standing.specs.Rows.{row_of};
 ghost use Rattle.dx_standing.specs.Standing.{state_of};
 ghost use Rattle.dx_state.specs.Configured.{found_at};
@@ -29,7 +29,7 @@ pub struct Diagnoser {
 }
 
 impl Model for Diagnoser {
-    ghost use Rattle.dx_rules.specs.Rulebooks.{rules_of};
+    ghost use Rattle.dx_rules.specs.Rulebooks.{rules_in};
     ghost use Rattle.dx_standing.specs.Standing.{IsStanding};
     ghost use Rattle.dx_engine.specs.Diagnosers.{DiagnoserOf};
     ghost use Rattle.dx_rules.specs.contracts.rulebook.Rulebook as rulebook;
@@ -41,18 +41,18 @@ impl Model for Diagnoser {
 
     ghost view = { λ d. record { rules = d.rules; standing = d.standing } };
 
-    ghost invariant = { λ d. IsStanding (rules_of d.rules) d.standing };
+    ghost invariant = { λ d. IsStanding (rules_in d.rules) d.standing };
 }
 
 impl Diagnoser {
     /// The module with these rules, as `dx_standing::can_begin` asks, to which nothing has
     /// happened.
     pub fn with_rules(alloc: Global, rules: Rulebook) -> Result<Diagnoser, NoMemory>
-        requires rules { IsTrue (are_rules (rules_of rules)) }
-        requires there { IsTrue (is_there (found_at (rules_of rules).configurations
-            (first_of (rules_of rules).configurations))) }
+        requires rules { IsTrue (are_rules (rules_in rules)) }
+        requires there { IsTrue (is_there (found_at (rules_in rules).configurations
+            (first_of (rules_in rules).configurations))) }
         ensures rules { IfOk result (λ d. d.rules ≡ rules) }
-        ensures state { IfOk result (λ d. state_of d.standing ≡ fresh_of (rules_of rules)) }
+        ensures state { IfOk result (λ d. state_of d.standing ≡ fresh_of (rules_in rules)) }
     {
         let standing = StandingState::fresh(alloc, &rules)?;
         Ok(Diagnoser { rules, standing })
@@ -62,7 +62,7 @@ impl Diagnoser {
     /// nothing has happened.
     pub fn new(alloc: Global, own: u32, conf: u32, graph: Graph) -> Result<Diagnoser, NoMemory>
         requires { IsTrue (are_rules (single_rules own conf graph)) }
-        ensures rules { IfOk result (λ d. rules_of d.rules ≡ single_rules own conf graph) }
+        ensures rules { IfOk result (λ d. rules_in d.rules ≡ single_rules own conf graph) }
         ensures state { IfOk result
             (λ d. state_of d.standing ≡ fresh_of (single_rules own conf graph)) }
     {
@@ -86,7 +86,7 @@ impl Diagnoser {
         guards: Guards,
     ) -> Result<Diagnoser, NoMemory>
         requires { IsTrue (are_rules (guarded_rules own conf graph guards)) }
-        ensures rules { IfOk result (λ d. rules_of d.rules ≡ guarded_rules own conf graph guards) }
+        ensures rules { IfOk result (λ d. rules_in d.rules ≡ guarded_rules own conf graph guards) }
         ensures state { IfOk result
             (λ d. state_of d.standing ≡ fresh_of (guarded_rules own conf graph guards)) }
     {
@@ -120,10 +120,10 @@ impl Diagnoser {
 impl Module for Diagnoser {
     ghost use Rattle.fm_core.specs.Meaning.{Diagnosing};
     ghost use Rattle.dx_meaning.specs.DiagnoserMeaning.{diagnoser_meaning};
-    ghost use Rattle.dx_rules.specs.Rulebooks.{rules_of};
+    ghost use Rattle.dx_rules.specs.Rulebooks.{rules_in};
     ghost use Rattle.dx_standing.specs.Standing.{state_of};
 
-    ghost meaning = { λ d. diagnoser_meaning (rules_of d.rules) };
+    ghost meaning = { λ d. diagnoser_meaning (rules_in d.rules) };
 
     ghost state = { λ d. Diagnosing (state_of d.standing) };
 

@@ -3,11 +3,11 @@
 ghost use Rattle.std.specs.Prelude.{◌≡◌, map, IfOk, IsTrue};
 ghost use Rattle.dx_restore.specs.Loading.{SpellsNone};
 ghost use Rattle.dx_restore.specs.Parts.{loaded_state};
-ghost use Rattle.dx_rules.specs.Rulebooks.{rules_of};
+ghost use Rattle.dx_rules.specs.Rulebooks.{rules_in};
 ghost use Rattle.dx_state.specs.StateBytes.{diagnosis_bytes};
 ghost use Rattle.dx_step.specs.Lawful.{are_rules};
 ghost use Rattle.dx_turn.specs.Standing.{still_of};
-ghost use Rattle.dx_standing.specs.Standing.{parts_of, state_of, IsStanding};
+ghost use Rattle.dx_standing.specs.Standing.{kept_parts, state_of, IsStanding};
 ghost use Rattle.dx_engine.specs.Diagnosers.{standing_parts};
 
 use dx_case::Case;
@@ -32,7 +32,7 @@ fn tracked(alloc: Global, cases: Vec<Case>) -> Result<Vec<Tracked>, NoMemory>
 
 /// The parts of a state, as they stand.
 fn standing_of(alloc: Global, loaded: Loaded) -> Result<StandingState, NoMemory>
-    ensures { IfOk result (λ s. parts_of s ≡ standing_parts loaded) }
+    ensures { IfOk result (λ s. kept_parts s ≡ standing_parts loaded) }
 {
     let Loaded {
         conf,
@@ -52,10 +52,10 @@ pub(crate) fn load_standing(
     rules: &Rulebook,
     bytes: &[u8],
 ) -> Result<StandingState, LoadFault>
-    requires { IsTrue (are_rules (rules_of rules.now)) }
+    requires { IsTrue (are_rules (rules_in rules.now)) }
     ensures ok { IfOk result (λ s. diagnosis_bytes (state_of s) ≡ bytes.now) }
-    ensures standing { IfOk result (λ s. IsStanding (rules_of rules.now) s) }
-    ensures bad { result ≡ Err LoadFault.Bad → SpellsNone (rules_of rules.now) bytes.now }
+    ensures standing { IfOk result (λ s. IsStanding (rules_in rules.now) s) }
+    ensures bad { result ≡ Err LoadFault.Bad → SpellsNone (rules_in rules.now) bytes.now }
 {
     let loaded = load(alloc, rules, bytes)?;
     let standing = standing_of(alloc, loaded)?;

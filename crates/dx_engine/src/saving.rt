@@ -4,7 +4,7 @@ ghost use Rattle.std.specs.Prelude.{◌≡◌, ◌++◌, [], map, IfOk, OnOk, On
 ghost use Rattle.std.specs.List.{All, cons_option};
 ghost use Rattle.dx_case.specs.Cases.{open_of};
 ghost use Rattle.dx_restore.specs.Saving.{IsShortCase};
-ghost use Rattle.dx_rules.specs.Rulebooks.{rules_of};
+ghost use Rattle.dx_rules.specs.Rulebooks.{rules_in};
 ghost use Rattle.dx_state.specs.StateBytes.{diagnosis_bytes};
 ghost use Rattle.dx_turn.specs.Tracking.{kept_of};
 ghost use Rattle.dx_standing.specs.Standing.{state_of, IsStanding};
@@ -50,7 +50,7 @@ pub(crate) fn save_standing(
     standing: &StandingState,
     out: &mut Vec<u8>,
 ) -> Result<(), NoMemory>
-    requires { IsStanding (rules_of rules.now) standing.now }
+    requires { IsStanding (rules_in rules.now) standing.now }
     ensures ok { OnOk result
         (out.new.items ≡ out.old.items ++ diagnosis_bytes (state_of standing.now)) }
     ensures err { OnErr result (out.new.items ≡ out.old.items) }

@@ -5,7 +5,7 @@ ghost use Rattle.fm_bytes.specs.Numbers.{AllBytes};
 ghost use Rattle.dx_state.specs.Configured.{found_at};
 ghost use Rattle.dx_kept.specs.Kept.{diagnosis_of};
 ghost use Rattle.dx_step.specs.Lawful.{are_rules, is_there};
-ghost use Rattle.dx_rules.specs.Rulebooks.{rules_of};
+ghost use Rattle.dx_rules.specs.Rulebooks.{rules_in};
 ghost use Rattle.dx_restore.specs.Restoring.{IsRestorable};
 ghost use Rattle.dx_restore.specs.Loading.{IsLoaded, SpellsNone, IsReadAs, IsKeptAs, IsRestoredAs};
 
@@ -22,7 +22,7 @@ use std::alloc::Global;
 
 /// Whether there is a configuration of this number.
 fn has_configuration(rules: &Rulebook, conf: u32) -> bool
-    ensures { result ≡ is_there (found_at (rules_of rules.now).configurations conf) }
+    ensures { result ≡ is_there (found_at (rules_in rules.now).configurations conf) }
 {
     match &rules.configs {
         Configs::Single { number, .. } => conf == *number,
@@ -41,8 +41,8 @@ fn count(bytes: &[u8]) -> usize
 /// The state that the bytes spell, where it is lawful in all but that each open case waits for a
 /// report; else none.
 fn read_state(alloc: Global, rules: &Rulebook, bytes: &[u8]) -> Result<Option<KeptState>, NoMemory>
-    requires { IsTrue (are_rules (rules_of rules.now)) }
-    ensures { IfOk result (IsKeptAs (rules_of rules.now) bytes.now) }
+    requires { IsTrue (are_rules (rules_in rules.now)) }
+    ensures { IfOk result (IsKeptAs (rules_in rules.now) bytes.now) }
 {
     let _count = count(bytes);
     let kept = match take_state(alloc, rules.own, bytes) {
@@ -88,8 +88,8 @@ fn restore(alloc: Global, graph: &Graph, kept: KeptState) -> Result<Option<Loade
 
 /// The parts of the lawful state that the bytes spell, or none where they spell none.
 fn read_parts(alloc: Global, rules: &Rulebook, bytes: &[u8]) -> Result<Option<Loaded>, NoMemory>
-    requires { IsTrue (are_rules (rules_of rules.now)) }
-    ensures { IfOk result (IsReadAs (rules_of rules.now) bytes.now) }
+    requires { IsTrue (are_rules (rules_in rules.now)) }
+    ensures { IfOk result (IsReadAs (rules_in rules.now) bytes.now) }
 {
     let Some(kept) = read_state(alloc, rules, bytes)? else {
         return Ok(None);
@@ -101,9 +101,9 @@ fn read_parts(alloc: Global, rules: &Rulebook, bytes: &[u8]) -> Result<Option<Lo
 
 /// The parts of the lawful state that the bytes spell. `Bad` says that they spell none.
 pub fn load(alloc: Global, rules: &Rulebook, bytes: &[u8]) -> Result<Loaded, LoadFault>
-    requires { IsTrue (are_rules (rules_of rules.now)) }
-    ensures ok { IfOk result (IsLoaded (rules_of rules.now) bytes.now) }
-    ensures bad { result ≡ Err LoadFault.Bad → SpellsNone (rules_of rules.now) bytes.now }
+    requires { IsTrue (are_rules (rules_in rules.now)) }
+    ensures ok { IfOk result (IsLoaded (rules_in rules.now) bytes.now) }
+    ensures bad { result ≡ Err LoadFault.Bad → SpellsNone (rules_in rules.now) bytes.now }
 {
     match read_parts(alloc, rules, bytes) {
         Ok(Some(loaded)) => Ok(loaded),

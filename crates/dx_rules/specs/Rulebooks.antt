@@ -24,5 +24,5 @@ configurations_of (SingleOf number ruled) = Single number (ruled_of ruled)
 configurations_of (ListedOf list) = Listed (map ruled_of list.items)
 
 -- the module's own number and its configurations
-abbrev pub rules_of : Rulebook → Rules
-rules_of b = record { own = b.own; configurations = configurations_of b.configs }
+abbrev pub rules_in : Rulebook → Rules
+rules_in b = record { own = b.own; configurations = configurations_of b.configs }

@@ -1,6 +1,6 @@
 //! What a diagnosis module is made with: its own number, and its configurations.
 //!
-//! **Model.** Contracts see a [`Rulebook`] by `rules_of` (`specs/Rulebooks`), which makes it the
+//! **Model.** Contracts see a [`Rulebook`] by `rules_in` (`specs/Rulebooks`), which makes it the
 //! `Rules` of dx_state: a single configuration of some number, which is of no list, or a list in
 //! which configurations are numbered from 0. A [`Ruled`] is one configuration (`ruled_of`).
 //!

@@ -5,7 +5,7 @@ ghost use Rattle.fm_nv.specs.Data.{no_pairs};
 ghost use Rattle.dx_state.specs.Configured.{found_at, known_of, configuration_at};
 ghost use Rattle.dx_step.specs.Lawful.{is_there};
 ghost use Rattle.dx_step.specs.Reports.{links_broken};
-ghost use Rattle.dx_rules.specs.Rulebooks.{guarding_if_any, ruled_of, rules_of};
+ghost use Rattle.dx_rules.specs.Rulebooks.{guarding_if_any, ruled_of, rules_in};
 
 use dx_guards::broken_links;
 use ev_graph::{CutTest, Graph, Link, NoMemory};
@@ -89,8 +89,8 @@ impl Ruled {
 impl Rulebook {
     /// The configuration of this number, if there is one.
     fn found(&self, conf: u32) -> Option<&Ruled>
-        ensures { MatchOption result (found_at (rules_of self.now).configurations conf ≡ None)
-            (λ ruled. found_at (rules_of self.now).configurations conf ≡ Some (ruled_of ruled.now)) }
+        ensures { MatchOption result (found_at (rules_in self.now).configurations conf ≡ None)
+            (λ ruled. found_at (rules_in self.now).configurations conf ≡ Some (ruled_of ruled.now)) }
     {
         match &self.configs {
             Configs::Single { number, ruled } => {
@@ -108,8 +108,8 @@ impl Rulebook {
 
     /// The configuration of this number.
     pub fn ruled(&self, conf: u32) -> &Ruled
-        requires { IsTrue (is_there (found_at (rules_of self.now).configurations conf)) }
-        ensures { ruled_of result.now ≡ configuration_at (rules_of self.now) conf }
+        requires { IsTrue (is_there (found_at (rules_in self.now).configurations conf)) }
+        ensures { ruled_of result.now ≡ configuration_at (rules_in self.now) conf }
     {
         match &self.configs {
             Configs::Single { ruled, .. } => ruled,
@@ -119,8 +119,8 @@ impl Rulebook {
 
     /// The graph of the configuration of this number.
     pub fn graph(&self, conf: u32) -> &Graph
-        requires { IsTrue (is_there (found_at (rules_of self.now).configurations conf)) }
-        ensures { result.now ≡ (configuration_at (rules_of self.now) conf).graph }
+        requires { IsTrue (is_there (found_at (rules_in self.now).configurations conf)) }
+        ensures { result.now ≡ (configuration_at (rules_in self.now) conf).graph }
     {
         match &self.configs {
             Configs::Single { ruled, .. } => &ruled.graph,
@@ -130,7 +130,7 @@ impl Rulebook {
 
     /// How many configurations it knows of a list.
     pub fn known(&self) -> usize
-        ensures { result ≡ known_of (rules_of self.now).configurations }
+        ensures { result ≡ known_of (rules_in self.now).configurations }
     {
         match &self.configs {
             Configs::Single { .. } => 0,
@@ -147,7 +147,7 @@ impl Rulebook {
         payload: &Nv,
     ) -> Result<Vec<Link>, NoMemory>
         ensures { IfOk result (λ links. links.items
-            ≡ links_broken (configuration_at (rules_of self.now) conf) node payload.now) }
+            ≡ links_broken (configuration_at (rules_in self.now) conf) node payload.now) }
     {
         match self.found(conf) {
             Some(ruled) => ruled.broken_by(alloc, node, payload),
@@ -159,7 +159,7 @@ impl Rulebook {
     /// nothing.
     pub fn broken_by_none(&self, alloc: Global, conf: u32, node: u32) -> Result<Vec<Link>, NoMemory>
         ensures { IfOk result (λ links. links.items
-            ≡ links_broken (configuration_at (rules_of self.now) conf) node no_pairs) }
+            ≡ links_broken (configuration_at (rules_in self.now) conf) node no_pairs) }
     {
         let none = Nv::new(alloc);
         self.broken_by(alloc, conf, node, &none)

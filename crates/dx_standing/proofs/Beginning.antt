@@ -27,7 +27,7 @@ use Rattle.dx_step.proofs.Settling.{settled_each}
 use Rattle.dx_step.proofs.Stepping.{IsLawfulState, lawful_is}
 use Rattle.dx_turn.specs.Grounds.{AreRates}
 use Rattle.dx_turn.specs.Tracking.{opens_in, kept_of, IsCurrent}
-use Rattle.dx_turn.specs.Settling.{IsWaiting, IsReady}
+use Rattle.dx_turn.specs.Settling.{IsWaiting, IsBeforeTurn}
 use Rattle.dx_turn.specs.Standing.{still_of}
 
 -- later, what engines keep is still not past
@@ -127,7 +127,7 @@ before_later old new None low b = b
 before_later old new (Some time) low b = omega arith
 
 ready_one : (g : GraphValue) (old new : ℕ) (c : Case) → old ≤ new → IsCurrent g old c
-    → IsTrue (waits g old (open_of c)) → IsReady g new (still_of c)
+    → IsTrue (waits g old (open_of c)) → IsBeforeTurn g new (still_of c)
 ready_one g old new c low h w = record {
   unchanged = refl;
   undecided = refl;
@@ -142,7 +142,7 @@ ready_one g old new c low h w = record {
 
 pub ready_all : (g : GraphValue) (old new : ℕ) (cs : List Case) → old ≤ new
     → AllByRecursion (IsCurrent g old) cs → IsTrue (list_all (waits g old) (map open_of cs))
-    → All (IsReady g new) (map still_of cs)
+    → All (IsBeforeTurn g new) (map still_of cs)
 ready_all g old new [] low h w k d l = absurd (omega arith)
 ready_all g old new (c ∷ cs) low h w zero d l =
     ready_one g old new c low h.0

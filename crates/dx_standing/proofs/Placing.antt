@@ -29,7 +29,7 @@ use Rattle.dx_turn.specs.declared.work.Work.{Work}
 use Rattle.dx_turn.specs.Grounds.{IsGround, AreRates, rules_on}
 use Rattle.dx_turn.specs.Turning.{made_or, turn_at, solved_by, IsTold}
 use Rattle.dx_turn.specs.Tracking.{now_of, cases_of, kept_of, opens_in, IsCurrent, IsTrackedAt}
-use Rattle.dx_turn.specs.Settling.{IsReady}
+use Rattle.dx_turn.specs.Settling.{IsBeforeTurn}
 use Rattle.dx_turn.specs.Joining.{turn_of}
 use Rattle.dx_turn.specs.Reloading.{with_reload, fresh_rates, turned_by, IsLeft, HasEnded}
 use Rattle.dx_turn.specs.Standing.{still_of}
@@ -37,7 +37,7 @@ use Rattle.dx_turn.proofs.Tracking.{now_cases}
 use Rattle.dx_turn.proofs.Reloads.{opens_cases}
 use Rattle.dx_standing.specs.Standing.{StandingParts, stands_for, AreStanding, put_parts}
 use Rattle.dx_rules.specs.declared.rulebook.Rulebook.{Rulebook}
-use Rattle.dx_rules.specs.Rulebooks.{rules_of}
+use Rattle.dx_rules.specs.Rulebooks.{rules_in}
 use Rattle.dx_standing.specs.Standing.{IsGroundOf, conf_by, engines_by, undone_parts}
 use Rattle.dx_standing.proofs.Ascending.{without_words}
 use Rattle.dx_standing.proofs.Beginning.{rates_later, settled_ascend, kept_still, opens_still}
@@ -98,14 +98,14 @@ begun_told d p e w h =
     })
 
 pub begun_ready : (d : Ground) (p : StandingParts) (e : Entry) (w : Work) → Begins d p e w
-    → All (IsReady d.graph.now d.time) w.cases.items
+    → All (IsBeforeTurn d.graph.now d.time) w.cases.items
 begun_ready d p e w h =
     let low : p.time ≤ d.time = let time = h.time in omega arith in
     let g : (configuration_at (rules_on d) p.conf).graph ≡ d.graph.now =
     ap (λ (n : ℕ). (configuration_at (rules_on d) n).graph) (sym h.conf) ∙ h.ground.graph in
     let lawful = lawful_is (rules_on d) (stands_for p) h.standing.lawful in
-    subst (All (IsReady d.graph.now d.time)) (sym (h.cases ∙ h.standing.still))
-    (subst (λ (x : GraphValue). All (IsReady x d.time) (map still_of (kept_of p.cases))) g
+    subst (All (IsBeforeTurn d.graph.now d.time)) (sym (h.cases ∙ h.standing.still))
+    (subst (λ (x : GraphValue). All (IsBeforeTurn x d.time) (map still_of (kept_of p.cases))) g
     (ready_all (configuration_at (rules_on d) p.conf).graph p.time d.time (kept_of p.cases) low
     h.standing.current lawful.waiting))
 
@@ -274,11 +274,11 @@ on_either (Ok v) a b f g = f a
 on_either (Err e) a b f g = g b
 
 pub begins : (b : Rulebook) (d : Ground) (p : StandingParts) (cs : List Tracked) (e : Entry)
-    (w : Work) (at : ℕ) → AreStanding (rules_of b) p → IsSpelled e
+    (w : Work) (at : ℕ) → AreStanding (rules_in b) p → IsSpelled e
     → IsGroundOf b (record p { cases = cs }) at d → at ≡ max p.time (moment_of e)
     → w.cases.items ≡ p.cases → w.next ≡ p.next → w.told ≡ none_told → Begins d p e w
 begins b d p cs e w at standing spelled g time cases next told = record {
-  standing = subst (λ (x : Rulebook). AreStanding (rules_of x) p) (sym g.rules) standing;
+  standing = subst (λ (x : Rulebook). AreStanding (rules_in x) p) (sym g.rules) standing;
   spelled = spelled;
   ground = g.ground;
   time = g.time ∙ time;
@@ -294,9 +294,9 @@ begins b d p cs e w at standing spelled g time cases next told = record {
 pub turned : (b : Rulebook) (d : Ground) (p : StandingParts) (cs : List Tracked) (n : ℕ)
     (e : Entry) (x : Option Reloaded) (old new : Work) (at : ℕ) → n < 2 ^ 46 → Begins d p e old
     → IsGroundOf b (record p { cases = cs }) at d → HasEnded d (turned_by d n e) x old new
-    → IsPut (rules_of b) (stands_for p) n e (put_parts p at new x) new.told.words
+    → IsPut (rules_in b) (stands_for p) n e (put_parts p at new x) new.told.words
 turned b d p cs n e x old new at few h g k =
-    subst (λ (t : ℕ). IsPut (rules_of b) (stands_for p) n e (put_parts p t new x) new.told.words)
+    subst (λ (t : ℕ). IsPut (rules_in b) (stands_for p) n e (put_parts p t new x) new.told.words)
     g.time
-    (subst (λ (y : Rulebook). IsPut (rules_of y) (stands_for p) n e (put_parts p d.time new x)
+    (subst (λ (y : Rulebook). IsPut (rules_in y) (stands_for p) n e (put_parts p d.time new x)
     new.told.words) g.rules (turn_put d p n e x old new few h k))

@@ -29,8 +29,8 @@ pub record StandingParts : Type 0 where
   pub solved : List ListEvent
   pub engines : List RateOf
 
-abbrev pub parts_of : StandingState → StandingParts
-parts_of s = record {
+abbrev pub kept_parts : StandingState → StandingParts
+kept_parts s = record {
   conf = s.conf;
   time = s.time;
   next = s.next;
@@ -51,7 +51,7 @@ stands_for p = record {
 }
 
 abbrev pub state_of : StandingState → Diagnosis
-state_of s = stands_for (parts_of s)
+state_of s = stands_for (kept_parts s)
 
 -- the parts stand for a lawful state of a module with these rules; no turn is in the midst of them;
 -- each open case answers at the time as it does at the moment that it has come to; and the engines
@@ -64,7 +64,7 @@ pub record AreStanding (r : Rules) (p : StandingParts) : Type 0 where
   pub rates : AreRates p.time (configuration_at r p.conf).graph.engines p.engines
 
 abbrev pub IsStanding : Rules → StandingState → Type 0
-IsStanding r s = AreStanding r (parts_of s)
+IsStanding r s = AreStanding r (kept_parts s)
 
 -- the configuration and the engines after a turn
 abbrev pub conf_by : ℕ → Option Reloaded → ℕ

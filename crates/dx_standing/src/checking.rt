@@ -4,7 +4,7 @@ ghost use Rattle.std.specs.Prelude.{◌≡◌, ◌&&◌, ◌^◌, nat_lt, length
 ghost use Rattle.std.specs.List.{list_all};
 ghost use Rattle.fm_entry.specs.Words.{event_fits};
 ghost use Rattle.dx_meaning.specs.Fresh.{first_of};
-ghost use Rattle.dx_rules.specs.Rulebooks.{guarding_if_any, ruled_of, configurations_of, rules_of};
+ghost use Rattle.dx_rules.specs.Rulebooks.{guarding_if_any, ruled_of, configurations_of, rules_in};
 ghost use Rattle.dx_state.specs.Configured.{found_at};
 ghost use Rattle.dx_state.specs.LawfulState.{is_formed, is_formed_configuration};
 ghost use Rattle.dx_step.specs.Lawful.{are_configurations, are_rules, is_there};
@@ -94,9 +94,9 @@ fn has_first(configs: &Configs) -> bool
 /// Whether a module can begin with these rules: its number is below 8, its configurations are
 /// lawful and at most 2^32, and there is one.
 pub fn can_begin(rules: &Rulebook) -> bool
-    ensures { result ≡ (are_rules (rules_of rules.now) && is_there
-        (found_at (rules_of rules.now).configurations
-        (first_of (rules_of rules.now).configurations))) }
+    ensures { result ≡ (are_rules (rules_in rules.now) && is_there
+        (found_at (rules_in rules.now).configurations
+        (first_of (rules_in rules.now).configurations))) }
 {
     rules.own < 8 && are_configurations(&rules.configs) && has_first(&rules.configs)
 }

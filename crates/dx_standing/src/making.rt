@@ -4,11 +4,11 @@ ghost use Rattle.std.specs.Prelude.{◌≡◌, ◌++◌, map, IfOk, IsTrue};
 ghost use Rattle.std.specs.List.{AllByRecursion};
 ghost use Rattle.dx_case.specs.Cases.{open_of};
 ghost use Rattle.dx_meaning.specs.Fresh.{first_of, fresh_of};
-ghost use Rattle.dx_rules.specs.Rulebooks.{rules_of};
+ghost use Rattle.dx_rules.specs.Rulebooks.{rules_in};
 ghost use Rattle.dx_state.specs.Configured.{found_at};
 ghost use Rattle.dx_step.specs.Lawful.{are_rules, is_there};
 ghost use Rattle.dx_turn.specs.Standing.{still_of};
-ghost use Rattle.dx_standing.specs.Standing.{parts_of, state_of, IsStanding};
+ghost use Rattle.dx_standing.specs.Standing.{kept_parts, state_of, IsStanding};
 
 use crate::standing::StandingState;
 use dx_case::Case;
@@ -19,7 +19,7 @@ use std::alloc::Global;
 
 /// The number of the configuration that a module begins in.
 fn first_of(rules: &Rulebook) -> u32
-    ensures { result ≡ first_of (rules_of rules.now).configurations }
+    ensures { result ≡ first_of (rules_in rules.now).configurations }
 {
     match &rules.configs {
         Configs::Single { number, .. } => *number,
@@ -30,11 +30,11 @@ fn first_of(rules: &Rulebook) -> u32
 impl StandingState {
     /// The state that a module begins in: nothing has happened yet.
     pub fn fresh(alloc: Global, rules: &Rulebook) -> Result<StandingState, NoMemory>
-        requires rules { IsTrue (are_rules (rules_of rules.now)) }
-        requires there { IsTrue (is_there (found_at (rules_of rules.now).configurations
-            (first_of (rules_of rules.now).configurations))) }
-        ensures state { IfOk result (λ s. state_of s ≡ fresh_of (rules_of rules.now)) }
-        ensures standing { IfOk result (λ s. IsStanding (rules_of rules.now) s) }
+        requires rules { IsTrue (are_rules (rules_in rules.now)) }
+        requires there { IsTrue (is_there (found_at (rules_in rules.now).configurations
+            (first_of (rules_in rules.now).configurations))) }
+        ensures state { IfOk result (λ s. state_of s ≡ fresh_of (rules_in rules.now)) }
+        ensures standing { IfOk result (λ s. IsStanding (rules_in rules.now) s) }
     {
         let conf = first_of(rules);
         let engines = fresh_engines(alloc, rules.graph(conf))?;

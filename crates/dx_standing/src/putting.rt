@@ -5,7 +5,7 @@ ghost use Rattle.ev_graph.specs.Sets.{ascends};
 ghost use Rattle.dx_said.specs.Making.{with_words};
 ghost use Rattle.dx_state.specs.LawfulState.{solved_numbers};
 ghost use Rattle.dx_turn.specs.Turning.{made_or};
-ghost use Rattle.dx_standing.specs.Standing.{parts_of, put_parts, undone_parts, with_engines};
+ghost use Rattle.dx_standing.specs.Standing.{kept_parts, put_parts, undone_parts, with_engines};
 
 use crate::standing::StandingState;
 use dx_said::put_words;
@@ -41,7 +41,7 @@ fn put_solved(
 impl StandingState {
     /// Undoes a turn: the open cases are again those from before it.
     pub(crate) fn put_back(&mut self, cases: Vec<Tracked>)
-        ensures { parts_of self.new ≡ undone_parts (parts_of self.old) cases.items }
+        ensures { kept_parts self.new ≡ undone_parts (kept_parts self.old) cases.items }
     {
         let mut cases = cases;
         undo_turn(&mut cases);
@@ -50,7 +50,7 @@ impl StandingState {
 
     /// Puts the engines in place that noted something, or those of another configuration.
     fn put_engines(&mut self, engines: Option<Items<Engine>>, reloaded: Option<Reloaded>)
-        ensures { parts_of self.new ≡ with_engines (parts_of self.old) engines reloaded }
+        ensures { kept_parts self.new ≡ with_engines (kept_parts self.old) engines reloaded }
     {
         match reloaded {
             Some(reloaded) => {
@@ -77,10 +77,10 @@ impl StandingState {
         requires { IsTrue
             (ascends (solved_numbers (made_or work.told.marked self.old.solved.items))) }
         ensures parts { OnOk result
-            (parts_of self.new ≡ put_parts (parts_of self.old) time work reloaded) }
+            (kept_parts self.new ≡ put_parts (kept_parts self.old) time work reloaded) }
         ensures words { IfOk result (λ words. words.items ≡ work.told.words) }
         ensures err { OnErr result
-            (parts_of self.new ≡ undone_parts (parts_of self.old) work.cases.items) }
+            (kept_parts self.new ≡ undone_parts (kept_parts self.old) work.cases.items) }
     {
         let Work { cases, next, told } = work;
         let Told {

@@ -2,11 +2,11 @@
 
 ghost use Rattle.std.specs.Prelude.{◌≡◌, ◌<◌, ◌^◌, IfOk, OnOk, OnErr, IsTrue};
 ghost use Rattle.fm_entry.specs.Entries.{IsSpelled};
-ghost use Rattle.dx_rules.specs.Rulebooks.{rules_of};
+ghost use Rattle.dx_rules.specs.Rulebooks.{rules_in};
 ghost use Rattle.dx_state.specs.Configured.{found_at};
 ghost use Rattle.dx_step.specs.Lawful.{is_there};
 ghost use Rattle.dx_step.specs.Step.{state_after, words_at};
-ghost use Rattle.dx_standing.specs.Standing.{parts_of, state_of, IsStanding, IsGroundOf};
+ghost use Rattle.dx_standing.specs.Standing.{kept_parts, state_of, IsStanding, IsGroundOf};
 
 use dx_rules::Rulebook;
 use dx_serd::Engine;
@@ -30,8 +30,8 @@ pub struct StandingState {
 impl StandingState {
     /// What a turn at a time stands on.
     fn ground<'a>(&'a self, alloc: Global, rules: &'a Rulebook, time: u64) -> Ground<'a>
-        requires { IsTrue (is_there (found_at (rules_of rules.now).configurations self.now.conf)) }
-        ensures { IsGroundOf rules.now (parts_of self.now) time result }
+        requires { IsTrue (is_there (found_at (rules_in rules.now).configurations self.now.conf)) }
+        ensures { IsGroundOf rules.now (kept_parts self.now) time result }
     {
         Ground {
             alloc,
@@ -53,15 +53,15 @@ impl StandingState {
         number: u64,
         entry: &Entry,
     ) -> Result<Vec<ListEvent>, NoMemory>
-        requires standing { IsStanding (rules_of rules.now) self.old }
+        requires standing { IsStanding (rules_in rules.now) self.old }
         requires number { number < 2 ^ 46 }
         requires spelled { IsSpelled entry.now }
         ensures says { IfOk result (λ words. words.items
-            ≡ words_at (rules_of rules.now) (state_of self.old) number entry.now) }
+            ≡ words_at (rules_in rules.now) (state_of self.old) number entry.now) }
         ensures after { OnOk result (state_of self.new
-            ≡ state_after (rules_of rules.now) (state_of self.old) number entry.now) }
-        ensures standing { IsStanding (rules_of rules.now) self.new }
-        ensures err { OnErr result (parts_of self.new ≡ parts_of self.old) }
+            ≡ state_after (rules_in rules.now) (state_of self.old) number entry.now) }
+        ensures standing { IsStanding (rules_in rules.now) self.new }
+        ensures err { OnErr result (kept_parts self.new ≡ kept_parts self.old) }
     {
         let time = self.time.max(entry.moment());
         let cases = mem::replace(&mut self.cases, Vec::new(alloc));
@@ -89,7 +89,7 @@ impl StandingState {
         solved: Vec<ListEvent>,
         engines: Vec<Engine>,
     ) -> StandingState
-        ensures { parts_of result ≡ record {
+        ensures { kept_parts result ≡ record {
           conf = conf;
           time = time;
           next = next;
@@ -110,14 +110,14 @@ impl StandingState {
 
     /// The open cases, in order of number.
     pub fn cases(&self) -> &[Tracked]
-        ensures { result.now ≡ (parts_of self.now).cases }
+        ensures { result.now ≡ (kept_parts self.now).cases }
     {
         self.cases.as_slice()
     }
 
     /// The engines, in event order.
     pub fn engines(&self) -> &[Engine]
-        ensures { result.now ≡ (parts_of self.now).engines }
+        ensures { result.now ≡ (kept_parts self.now).engines }
     {
         self.engines.as_slice()
     }

@@ -14,7 +14,7 @@ use Rattle.dx_turn.specs.declared.told.Told.{Told}
 use Rattle.dx_turn.specs.Grounds.{IsGround}
 use Rattle.dx_turn.specs.Turning.{IsTold, left_of}
 use Rattle.dx_turn.specs.Tracking.{first_of, now_of, opens_of, IsCurrent, IsTrackedAt}
-use Rattle.dx_turn.specs.Settling.{IsWaiting, IsReady, IsMoved, HasSettled}
+use Rattle.dx_turn.specs.Settling.{IsWaiting, IsBeforeTurn, IsMoved, HasSettled}
 use Rattle.dx_turn.proofs.Tracking.{opens_one, opens_none}
 use Rattle.dx_turn.proofs.Settles.{settled_none, settled_left}
 
@@ -72,14 +72,14 @@ decided_current g time old = record {
 }
 
 -- a case that is ready, as it is now
-pub ready_now : (g : GraphValue) (time : ℕ) (t : Tracked) (c : Case) → IsReady g time t
+pub ready_now : (g : GraphValue) (time : ℕ) (t : Tracked) (c : Case) → IsBeforeTurn g time t
     → t.kept ≡ Some c → now_of t ≡ c ∷ []
 ready_now g time t c h is =
     ap (λ (b : Bool). if b then [] else first_of t.changed t.kept) h.undecided
     ∙ ap (λ (o : Option Case). first_of o t.kept) h.unchanged
     ∙ ap (λ (o : Option Case). first_of None o) is
 
-pub ready_none : (g : GraphValue) (time : ℕ) (t : Tracked) → IsReady g time t
+pub ready_none : (g : GraphValue) (time : ℕ) (t : Tracked) → IsBeforeTurn g time t
     → t.kept ≡ None → now_of t ≡ []
 ready_none g time t h is =
     ap (λ (b : Bool). if b then [] else first_of t.changed t.kept) h.undecided
@@ -106,7 +106,7 @@ kept_by None = inl refl
 kept_by (Some c) = inr (c, refl)
 
 pub unmoved_settled : (d : Ground) (t : Tracked) (told : Told) → IsGround d → IsTold d told
-    → IsReady d.graph.now d.time t → IsMoved d.graph.now d.time t None
+    → IsBeforeTurn d.graph.now d.time t → IsMoved d.graph.now d.time t None
     → HasSettled d (opens_of t) (opens_of t) told told
 unmoved_settled d t told ground h ready moved =
     elim (kept_by t.kept) [
@@ -120,7 +120,7 @@ unmoved_settled d t told ground h ready moved =
           (settled_left d (open_of one.0) told ground h (moved one.0 one.1).1)
     ]
 
-pub unmoved_current : (g : GraphValue) (time : ℕ) (t : Tracked) → IsReady g time t
+pub unmoved_current : (g : GraphValue) (time : ℕ) (t : Tracked) → IsBeforeTurn g time t
     → IsMoved g time t None → IsTrackedAt g time t
 unmoved_current g time t ready moved =
     elim (kept_by t.kept) [

@@ -4,12 +4,12 @@ use Rattle.fm_core.specs.Meaning.{Diagnosis}
 use Rattle.ev_graph.specs.declared.nodes.EngineSpec.{EngineSpec}
 use Rattle.dx_serd.specs.Rates.{RateOf, none_past}
 use Rattle.dx_state.specs.Configured.{Rules, configuration_at}
-use Rattle.dx_rules.specs.Rulebooks.{rules_of}
+use Rattle.dx_rules.specs.Rulebooks.{rules_in}
 use Rattle.dx_turn.specs.declared.ground.Ground.{Ground}
 
 -- the rules of the module, and its own number
 abbrev pub rules_on : Ground → Rules
-rules_on d = rules_of d.rules.now
+rules_on d = rules_in d.rules.now
 
 abbrev pub own_of : Ground → ℕ
 own_of d = d.rules.now.own

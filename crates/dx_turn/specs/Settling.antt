@@ -20,7 +20,7 @@ pub record IsWaiting (g : GraphValue) (time : ℕ) (c : Case) : Type 0 where
   pub waits : waits_at g (time_of c) (open_of c) ≡ true
 
 -- before a turn at a time: an open case that waits, unchanged
-pub record IsReady (g : GraphValue) (time : ℕ) (t : Tracked) : Type 0 where
+pub record IsBeforeTurn (g : GraphValue) (time : ℕ) (t : Tracked) : Type 0 where
   pub unchanged : t.changed ≡ None
   pub undecided : t.decided ≡ false
   pub waiting : (c : Case) → t.kept ≡ Some c → IsWaiting g time c

@@ -6,7 +6,7 @@ ghost use Rattle.dx_case.specs.Cases.{open_of, time_of, IsCaseOf};
 ghost use Rattle.dx_turn.specs.Grounds.{IsGround};
 ghost use Rattle.dx_turn.specs.Turning.{IsTold, HasTurned, decided_or_left, left_of};
 ghost use Rattle.dx_turn.specs.Tracking.{opens_of, opens_in, kept_of, IsTrackedAt};
-ghost use Rattle.dx_turn.specs.Settling.{IsReady, IsMoved, HasSettled};
+ghost use Rattle.dx_turn.specs.Settling.{IsBeforeTurn, IsMoved, HasSettled};
 
 use crate::deciding::decide;
 use crate::ground::Ground;
@@ -44,7 +44,7 @@ pub(crate) fn settle(
 
 /// The case at the turn's time, where a window of it may have ended since; none where none has.
 fn expired(ground: &Ground<'_>, tracked: &Tracked) -> Result<Option<Case>, NoMemory>
-    requires { IsReady ground.now.graph.now ground.now.time tracked.now }
+    requires { IsBeforeTurn ground.now.graph.now ground.now.time tracked.now }
     ensures { IfOk result (IsMoved ground.now.graph.now ground.now.time tracked.now) }
 {
     match &tracked.kept {
@@ -68,7 +68,7 @@ fn settle_tracked(
 ) -> Result<(), NoMemory>
     requires ground { IsGround ground.now }
     requires told { IsTold ground.now told.old }
-    requires ready { IsReady ground.now.graph.now ground.now.time tracked.old }
+    requires ready { IsBeforeTurn ground.now.graph.now ground.now.time tracked.old }
     ensures kept { tracked.new.kept ≡ tracked.old.kept }
     ensures ok { OnOk result (HasSettled ground.now (opens_of tracked.old) (opens_of tracked.new)
         told.old told.new) }
@@ -89,7 +89,7 @@ pub fn settle_all(
 ) -> Result<(), NoMemory>
     requires ground { IsGround ground.now }
     requires told { IsTold ground.now told.old }
-    requires ready { All (IsReady ground.now.graph.now ground.now.time) cases.old.items }
+    requires ready { All (IsBeforeTurn ground.now.graph.now ground.now.time) cases.old.items }
     ensures kept { kept_of cases.new.items ≡ kept_of cases.old.items }
     ensures ok { OnOk result (HasSettled ground.now (opens_in cases.old.items)
         (opens_in cases.new.items) told.old told.new) }

@@ -8,7 +8,7 @@ ghost use Rattle.dx_step.specs.Turns.{settle_all};
 ghost use Rattle.dx_turn.specs.Grounds.{IsGround, rules_on};
 ghost use Rattle.dx_turn.specs.Turning.{IsTold};
 ghost use Rattle.dx_turn.specs.Tracking.{kept_of};
-ghost use Rattle.dx_turn.specs.Settling.{IsReady};
+ghost use Rattle.dx_turn.specs.Settling.{IsBeforeTurn};
 ghost use Rattle.dx_turn.specs.Joining.{turn_of, IsWork, HasGone};
 ghost use Rattle.dx_turn.specs.Reloading.{turned_by, HasEnded};
 
@@ -25,7 +25,7 @@ use fm_entry::Entry;
 fn settle_work(ground: &Ground<'_>, work: &mut Work) -> Result<(), NoMemory>
     requires ground { IsGround ground.now }
     requires told { IsTold ground.now work.old.told }
-    requires ready { All (IsReady ground.now.graph.now ground.now.time) work.old.cases.items }
+    requires ready { All (IsBeforeTurn ground.now.graph.now ground.now.time) work.old.cases.items }
     ensures kept { kept_of work.new.cases.items ≡ kept_of work.old.cases.items }
     ensures ok { OnOk result
         (HasGone ground.now (settle_all (rules_on ground.now)) work.old work.new) }
@@ -44,7 +44,7 @@ pub fn turn(
 ) -> Result<Option<Reloaded>, NoMemory>
     requires ground { IsGround ground.now }
     requires told { IsTold ground.now work.old.told }
-    requires ready { All (IsReady ground.now.graph.now ground.now.time) work.old.cases.items }
+    requires ready { All (IsBeforeTurn ground.now.graph.now ground.now.time) work.old.cases.items }
     requires ascend { IsTrue (ascends (solved_numbers
         (settle_all (rules_on ground.now) (turn_of ground.now work.old)).state.solved)) }
     ensures kept { kept_of work.new.cases.items ≡ kept_of work.old.cases.items }

@@ -40,7 +40,7 @@ map_push : {X Y : Type 0} (f : X → Y) (xs : List X) (x : X)
 map_push f [] x = refl
 map_push f (y ∷ xs) x = ap (λ (zs : List _). f y ∷ zs) (map_push f xs x)
 
-map_there : {X Y : Type 0} (f : X → Y) (xs : List X) (j : ℕ) (x : X) → slice_get xs j ≡ Some x
+pub map_there : {X Y : Type 0} (f : X → Y) (xs : List X) (j : ℕ) (x : X) → slice_get xs j ≡ Some x
     → slice_get (map f xs) j ≡ Some (f x)
 map_there f [] j x at = none_is_not x at
 map_there f (y ∷ xs) zero x at = ap (λ z. Some (f z)) (some_is y x at)
@@ -95,7 +95,7 @@ module _ (topology : Topology) (vs : List (List ℕ)) where
       (t, refl, subst (λ (r : Pattern). IsTableOf topology vs r.parts t) (some_is p q at) h.0)
   table_at (p ∷ qs) (t ∷ ts) (suc j) q h at = table_at qs ts j q h.1 at
 
-  pattern_at : (qs : List Pattern) (ts : List TableValue) (j : ℕ) (t : TableValue)
+  pub pattern_at : (qs : List Pattern) (ts : List TableValue) (j : ℕ) (t : TableValue)
       → AreTablesOf topology vs qs ts → slice_get ts j ≡ Some t
       → (q : Pattern) × (slice_get qs j ≡ Some q) × IsTableOf topology vs q.parts t
   pattern_at [] [] j t h at = none_is_not t at
@@ -118,7 +118,7 @@ module _ (topology : Topology) (vs : List (List ℕ)) where
       ∙ (λ i. one i + more i)
       ∙ sym (sum_by-cons (λ (r : Pattern). length (fitting topology vs b r.parts)) q qs)
 
-  row_there : (t : TableValue) (b : List ℕ) → 0 < length (rows_at t b)
+  pub row_there : (t : TableValue) (b : List ℕ) → 0 < length (rows_at t b)
       → HasRow t.rows (bound_values t.columns b)
   row_there t b h =
       let k = bound_values t.columns b in
@@ -126,7 +126,7 @@ module _ (topology : Topology) (vs : List (List ℕ)) where
       let found = begun r.1.values k r.3 in
       record { place = r.0; row = r.1; stands = r.2; rest = found.rest; begins = found.is }
 
-rows_there : (t : TableValue) (b : List ℕ) → HasRow t.rows (bound_values t.columns b)
+pub rows_there : (t : TableValue) (b : List ℕ) → HasRow t.rows (bound_values t.columns b)
     → 0 < length (rows_at t b)
 rows_there t b row =
     let some = some_link (t ∷ []) b (omega arith) (record { each = only }) in
@@ -137,6 +137,13 @@ rows_there t b row =
       only zero u at =
           subst (λ (v : TableValue). HasRow v.rows (bound_values v.columns b)) (some_is t u at) row
       only (suc j) u at = none_is_not u at
+
+pub sums_same : (f g : List ℕ → ℕ) (bs : List (List ℕ))
+    → ((i : ℕ) (b : List ℕ) → slice_get bs i ≡ Some b → f b ≡ g b) → sum_by f bs ≡ sum_by g bs
+sums_same f g [] h = refl
+sums_same f g (b ∷ bs) h =
+    sum_by-cons f b bs ∙ (λ i. h 0 b refl i + sums_same f g bs (λ j c at. h (suc j) c at) i)
+    ∙ sym (sum_by-cons g b bs)
 
 module _ (topology : Topology) (l : Linking) (ts : List TableValue)
     (tables : AreTablesOf topology (iterators l) (patterns_of l) ts) where
@@ -176,13 +183,6 @@ module _ (topology : Topology) (l : Linking) (ts : List TableValue)
     all = λ b k. h.all b (candidate_from b k);
   }
 
-  sums_same : (f g : List ℕ → ℕ) (bs : List (List ℕ))
-      → ((i : ℕ) (b : List ℕ) → slice_get bs i ≡ Some b → f b ≡ g b) → sum_by f bs ≡ sum_by g bs
-  sums_same f g [] h = refl
-  sums_same f g (b ∷ bs) h =
-      sum_by-cons f b bs ∙ (λ i. h 0 b refl i + sums_same f g bs (λ j c at. h (suc j) c at) i)
-      ∙ sym (sum_by-cons g b bs)
-
   pub sum_from : (bs : List (List ℕ)) → AreCandidates ts (length (iterators l)) bs
       → sum_by (links_at ts) bs ≡ sum_by (candidate_links topology l) bs
   sum_from bs h =
@@ -203,6 +203,13 @@ pub no_tables : (topology : Topology) (vs : List (List ℕ)) (qs : List Pattern)
     → AreTablesOf topology vs qs [] → qs ≡ []
 no_tables topology vs [] h = refl
 no_tables topology vs (q ∷ qs) h = absurd h
+
+pub tables_many : (topology : Topology) (vs : List (List ℕ)) (qs : List Pattern)
+    (ts : List TableValue) → AreTablesOf topology vs qs ts → length ts ≡ length qs
+tables_many topology vs [] [] h = refl
+tables_many topology vs [] (t ∷ ts) h = absurd h
+tables_many topology vs (q ∷ qs) [] h = absurd h
+tables_many topology vs (q ∷ qs) (t ∷ ts) h = ap suc (tables_many topology vs qs ts h.1)
 
 empty_is : (b : List ℕ) → length b ≡ 0 → b ≡ []
 empty_is [] h = refl

@@ -9,19 +9,19 @@ use Rattle.ev_tree.specs.declared.tree.Part.{Part}
 use Rattle.ev_check.specs.CheckedFile.{Linking}
 use Rattle.ev_words.specs.Iterators.{same_name}
 use Rattle.ev_fit.specs.Names.{iterator_of, with_name, with_any, with_parts, with_patterns}
-use Rattle.ev_fit.specs.Names.{iterators, Knows}
+use Rattle.ev_fit.specs.Names.{iterators, Knows, KnowSides}
 use Rattle.ev_fit.proofs.Places.{some_is, none_is_not}
 use Rattle.ev_fit.proofs.Agreeing.{same_from}
 
-or_false : (a : Bool) → (a || false) ≡ a
+pub or_false : (a : Bool) → (a || false) ≡ a
 or_false true = refl
 or_false false = refl
 
-or_first : (a b : Bool) → a ≡ true → (a || b) ≡ true
+pub or_first : (a b : Bool) → a ≡ true → (a || b) ≡ true
 or_first true b h = refl
 or_first false b h = absurd (false≢true h)
 
-or_second : (a b : Bool) → b ≡ true → (a || b) ≡ true
+pub or_second : (a b : Bool) → b ≡ true → (a || b) ≡ true
 or_second true b h = refl
 or_second false b h = h
 
@@ -88,7 +88,7 @@ module _ (v : List ℕ) where
   has_patterns (r ∷ qs) names (suc j) q at i p s e =
       has_patterns qs (with_parts names r.parts) j q at i p s e
 
-pub knows_left : (l : Linking) (j : ℕ) (q : Pattern) → slice_get l.left j ≡ Some q
+knows_left : (l : Linking) (j : ℕ) (q : Pattern) → slice_get l.left j ≡ Some q
     → Knows (iterators l) q.parts
 knows_left l j q at = record {
   each = λ i p v s e.
@@ -96,8 +96,22 @@ knows_left l j q at = record {
       (has_patterns v l.left [] j q at i p s e);
 }
 
-pub knows_right : (l : Linking) (j : ℕ) (q : Pattern) → slice_get l.right j ≡ Some q
+knows_right : (l : Linking) (j : ℕ) (q : Pattern) → slice_get l.right j ≡ Some q
     → Knows (iterators l) q.parts
 knows_right l j q at = record {
   each = λ i p v s e. has_patterns v l.right (with_patterns [] l.left) j q at i p s e;
 }
+
+-- those of a propagation, and any with the same names, are names of all its vertical iterators
+pub know_sides : (l : Linking) → KnowSides (iterators l) l
+know_sides l = record { left = knows_left l; right = knows_right l }
+
+pub know_alike : (l : Linking) (vs ws : List (List ℕ))
+    → ((v : List ℕ) → list_any (same_name v) ws ≡ list_any (same_name v) vs) → KnowSides vs l
+    → KnowSides ws l
+know_alike l vs ws same h = record {
+  left = λ j q at. each q.parts (h.left j q at);
+  right = λ j q at. each q.parts (h.right j q at);
+} where
+  each : (parts : List Part) → Knows vs parts → Knows ws parts
+  each parts k = record { each = λ i p v s e. same v ∙ k.each i p v s e }

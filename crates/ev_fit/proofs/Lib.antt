@@ -4,3 +4,4 @@ pub mod Agreeing
 pub mod Grouped
 pub mod Known
 pub mod Joining
+pub mod Turning

@@ -80,7 +80,7 @@ pairs_from f (x ∷ xs) (y ∷ ys) h =
     and_true (f (x, y)) _ (h 0 x y refl refl) (pairs_from f xs ys (λ i a b s t. h (suc i) a b s t))
 
 -- ---- the first place that passes a test
-first_is : {X : Type 0} (test : X → Bool) (x : X) (xs : List X) (b : Bool) → test x ≡ b
+pub first_is : {X : Type 0} (test : X → Bool) (x : X) (xs : List X) (b : Bool) → test x ≡ b
     → position_or_len test (x ∷ xs) ≡ cond (not b) (1 + position_or_len test xs) 0
 first_is test x xs b e = ap (λ (t : Bool). cond (not t) (1 + position_or_len test xs) 0) e
 

@@ -3,3 +3,4 @@ pub mod Fits
 pub mod Bindings
 pub mod Slots
 pub mod Sheets
+pub mod Turned

@@ -42,3 +42,8 @@ iterators l = with_patterns (with_patterns [] l.left) l.right
 pub record Knows (names : List (List ℕ)) (parts : List Part) : Type 0 where
   pub each : (i : ℕ) (p : Part) (v : List ℕ) → slice_get parts i ≡ Some p → iterator_of p ≡ Some v
       → list_any (same_name v) names ≡ true
+
+-- these are names of all vertical iterators of a propagation
+pub record KnowSides (names : List (List ℕ)) (l : Linking) : Type 0 where
+  pub left : (j : ℕ) (q : Pattern) → slice_get l.left j ≡ Some q → Knows names q.parts
+  pub right : (j : ℕ) (q : Pattern) → slice_get l.right j ≡ Some q → Knows names q.parts

@@ -7,14 +7,15 @@ ghost use Rattle.ev_check.specs.CheckedFile.{view_prop};
 ghost use Rattle.fm_topo.specs.Groups.{IsGrouped};
 ghost use Rattle.ev_join.specs.Candidates.{AreAllCandidates, AreCandidates, links_at};
 ghost use Rattle.ev_join.specs.declared.join_fault.JoinFault.TheVariants.{Links};
-ghost use Rattle.ev_fit.specs.Names.{iterators, Knows};
+ghost use Rattle.ev_fit.specs.Names.{iterators, Knows, KnowSides};
 ghost use Rattle.ev_fit.specs.Bindings.{AreAllBindings, AreBindings, candidate_links, patterns_of};
 ghost use Rattle.ev_fit.specs.Sheets.{AreTablesOf};
 
-use crate::names::{Iterators, iterators_of};
+use crate::names::{Iterators, iterators_of, turned_names};
 use crate::sheets::table_of;
+use crate::turned::{places_among, turned_back};
 use ev_check::PropSpec;
-use ev_join::{JoinFault, Joined, Table, join};
+use ev_join::{JoinFault, Joined, Table, in_order, join, search_order};
 use ev_tree::SidePattern;
 use fm_bytes::{Items, NoMemory};
 use fm_topo::{Groups, Topo};
@@ -62,7 +63,7 @@ fn tables_of(
     prop: &PropSpec,
 ) -> Result<Vec<Table>, NoMemory>
     requires groups { IsGrouped topo.now groups.now }
-    requires names { names.now ≡ iterators (view_prop prop.now) }
+    requires names { KnowSides names.now (view_prop prop.now) }
     ensures { IfOk result (λ tables.
         AreTablesOf topo.now names.now (patterns_of (view_prop prop.now)) tables.items) }
 {
@@ -110,6 +111,40 @@ fn joined_of(alloc: Global, tables: &[Table], count: usize, limit: u64) -> Resul
     join(alloc, tables, count, limit)
 }
 
+/// All candidates of a propagation that has a pattern, where the search takes its iterators in the
+/// order of these numbers.
+fn turned_join(
+    alloc: Global,
+    topo: &Topo,
+    groups: &Groups,
+    prop: &PropSpec,
+    numbers: &[usize],
+    limit: u64,
+) -> Result<Joined, JoinFault>
+    requires groups { IsGrouped topo.now groups.now }
+    requires some { 0 < length (patterns_of (view_prop prop.now)) }
+    ensures all { IfOk result
+        (λ joined. AreAllBindings topo.now (view_prop prop.now) joined.bindings) }
+    ensures left { IfOk result (λ joined. joined.left
+        + sum_by (candidate_links topo.now (view_prop prop.now)) joined.bindings ≡ limit) }
+    ensures many { IfErr result (λ fault. fault ≡ Links → (bs : List (List ℕ))
+        × (AreBindings topo.now (view_prop prop.now) bs
+        × (limit < sum_by (candidate_links topo.now (view_prop prop.now)) bs))) }
+{
+    let names = iterators_of(alloc, prop)?;
+    let turned = turned_names(alloc, &names, numbers)?;
+    let tables = tables_of(alloc, topo, groups, &turned, prop)?;
+    let places = places_among(alloc, &turned, &names)?;
+    match join(alloc, &tables, turned.len(), limit) {
+        Ok(Joined { bindings, left }) => {
+            let found = turned_back(alloc, &places, bindings.as_slice())?;
+            let bindings = in_order(found)?;
+            Ok(Joined { bindings, left })
+        }
+        Err(fault) => Err(fault),
+    }
+}
+
 /// All candidates of a propagation over a topology, whose paths are grouped by their names. `Links`
 /// exactly where the candidates have more links than the limit.
 pub fn candidates_of(
@@ -133,6 +168,16 @@ pub fn candidates_of(
 {
     let names = iterators_of(alloc, prop)?;
     let tables = tables_of(alloc, topo, groups, &names, prop)?;
+    let numbers = search_order(alloc, &tables, names.len())?;
+    if !tables.is_empty() && !numbers.is_sorted() {
+        let Joined { bindings, left } = turned_join(alloc, topo, groups, prop, &numbers, limit)?;
+        return Ok(Candidates {
+            names,
+            tables,
+            bindings,
+            left,
+        });
+    }
     match joined_of(alloc, &tables, names.len(), limit) {
         Ok(Joined { bindings, left }) => Ok(Candidates {
             names,

@@ -12,6 +12,7 @@ ghost use Rattle.ev_words.specs.Iterators.{same_name};
 ghost use Rattle.ev_fit.specs.Names.{iterator_of, with_name, with_any, with_parts};
 ghost use Rattle.ev_fit.specs.Names.{with_patterns, iterators};
 ghost use Rattle.ev_fit.specs.Slots.{first_place};
+ghost use Rattle.ev_fit.specs.Turned.{turned_names, with_names, with_numbered};
 
 use ev_check::PropSpec;
 use ev_tree::{At, Part, SidePattern};
@@ -116,10 +117,24 @@ impl Iterators {
         ensures { IfOk result (λ number. number ≡ first_place (same_name name.now) self.now) }
     {
         let known = KnownName::new(alloc, name)?;
-        match self.names.get_index_of(&known) {
-            Some(number) => Ok(number),
-            None => Ok(0),
+        Ok(self.number_of(&known))
+    }
+
+    /// The number of a name that is known; 0 where it is none of them.
+    pub(crate) fn number_of(&self, known: &KnownName) -> usize
+        ensures { result ≡ first_place (same_name known.now) self.now }
+    {
+        match self.names.get_index_of(known) {
+            Some(number) => number,
+            None => 0,
         }
+    }
+
+    /// The names, in order.
+    pub(crate) fn known(&self) -> &[KnownName]
+        ensures { result.now ≡ self.now }
+    {
+        self.names.as_slice()
     }
 
     /// Puts a name behind the others, where it is none of them.
@@ -130,6 +145,55 @@ impl Iterators {
         self.names.insert(known)?;
         Ok(())
     }
+}
+
+/// Adds a name, where there is one.
+fn add_any(alloc: Global, name: Option<&Text>, names: &mut Iterators) -> Result<(), NoMemory>
+    ensures { OnOk result (names.new ≡ with_any names.old (option_copied name.entry)) }
+{
+    match name {
+        Some(name) => names.add(alloc, name),
+        None => Ok(()),
+    }
+}
+
+/// Adds the names that have these numbers among others.
+fn add_numbered(
+    alloc: Global,
+    others: &Iterators,
+    numbers: &[usize],
+    names: &mut Iterators,
+) -> Result<(), NoMemory>
+    ensures { OnOk result (names.new ≡ with_numbered names.old others.now numbers.now) }
+{
+    for number in numbers {
+        add_any(alloc, others.name(*number), names)?;
+    }
+    Ok(())
+}
+
+/// Adds names.
+fn add_names(alloc: Global, others: &[KnownName], names: &mut Iterators) -> Result<(), NoMemory>
+    ensures { OnOk result (names.new ≡ with_names names.old others.now) }
+{
+    for known in others {
+        names.add(alloc, &known.name)?;
+    }
+    Ok(())
+}
+
+/// The same names, those of these numbers first.
+pub(crate) fn turned_names(
+    alloc: Global,
+    names: &Iterators,
+    numbers: &[usize],
+) -> Result<Iterators, NoMemory>
+    ensures { IfOk result (λ turned. turned ≡ turned_names names.now numbers.now) }
+{
+    let mut turned = Iterators::new(alloc);
+    add_numbered(alloc, names, numbers, &mut turned)?;
+    add_names(alloc, names.known(), &mut turned)?;
+    Ok(turned)
 }
 
 /// The vertical iterator of a part, where it has one.
@@ -147,10 +211,7 @@ pub(crate) fn iterator_of(part: &Part) -> Option<&Text>
 fn add_part(alloc: Global, part: &Part, names: &mut Iterators) -> Result<(), NoMemory>
     ensures { OnOk result (names.new ≡ with_any names.old (iterator_of part.now)) }
 {
-    match iterator_of(part) {
-        Some(name) => names.add(alloc, name),
-        None => Ok(()),
-    }
+    add_any(alloc, iterator_of(part), names)
 }
 
 /// Adds the vertical iterators of parts.

@@ -7,4 +7,5 @@ pub mod Rounds
 pub mod Turns
 pub mod Steps
 pub mod Sorted
+pub mod Ordered
 pub mod Collecting

@@ -1,5 +1,6 @@
 -- The candidates of some tables: the bindings with which each table has a row.
 use Rattle.std.specs.Prelude.{◌≡◌, ℕ, ◌<◌, List, length, slice_get, Some, sum_by}
+use Rattle.std.specs.Prelude.{IsPermutation}
 use Rattle.ev_join.specs.Order.{IsNotBefore, AreSmall}
 use Rattle.ev_join.specs.Tables.{TableValue, HasRow, bound_values, rows_at}
 
@@ -30,6 +31,12 @@ pub record IsAmong (b : List ℕ) (bs : List (List ℕ)) : Type 0 where
 pub record AreAllCandidates (tables : List TableValue) (n : ℕ) (bs : List (List ℕ)) : Type 0 where
   pub candidates : AreCandidates tables n bs
   pub all : (c : List ℕ) → IsCandidate tables n c → IsAmong c bs
+
+-- the same bindings in order
+pub record AreInOrder (bs cs : List (List ℕ)) : Type 0 where
+  pub same : IsPermutation bs cs
+  pub order : (i j : ℕ) (a b : List ℕ) → i < j → slice_get cs i ≡ Some a → slice_get cs j ≡ Some b
+      → IsNotBefore b a
 
 -- the candidate links of a binding: the rows that agree with it, of all tables
 abbrev pub links_at : List TableValue → List ℕ → ℕ

@@ -9,15 +9,19 @@
 //! **Search.** [`join`] goes from one candidate to the next: it keeps a beginning of a binding for
 //! which each table has a row, and a number from which to go on, and seeks the least number with
 //! which each table still has one (`specs/Search.antt`). So a later table cuts early what an
-//! earlier one leaves open, and nothing is kept but the beginning.
+//! earlier one leaves open, and nothing is kept but the beginning. Where a later iterator alone ties
+//! two earlier ones their product is tried: [`search_order`] says in which order to number the
+//! iterators so that this happens only where nothing ties them.
 //!
 //! **Promises.** [`join`] answers all candidates, each once, in order, and the number of their
 //! links, where these are no more than its limit, and else refuses. It does no more work than the
-//! links up to the limit ask for. Want of memory is the one other answer.
+//! links up to the limit ask for. [`in_order`] puts bindings in order. Want of memory is the one
+//! other answer.
 #![tactic(auto)]
 
 mod join_fault;
 mod joined;
+mod order;
 mod rows;
 mod search;
 mod table;
@@ -27,4 +31,5 @@ mod tests;
 pub use fm_bytes::NoMemory;
 pub use join_fault::JoinFault;
 pub use joined::{Joined, join};
+pub use order::{in_order, search_order};
 pub use table::{Row, Table};

@@ -47,6 +47,13 @@ impl Table {
         Ok(table)
     }
 
+    /// The numbers of its iterators, ascending.
+    pub(crate) fn columns(&self) -> &[u32]
+        ensures { result.now ≡ self.now.columns }
+    {
+        self.columns.as_slice()
+    }
+
     /// Whether there is a row.
     pub fn has_row(&self) -> bool
         ensures { result ≡ nat_lt 0 (length self.now.rows) }

@@ -1,4 +1,5 @@
 pub mod Left
+pub mod Counts
 pub mod Tellings
 pub mod Rotations
 pub mod Rows

@@ -1,11 +1,12 @@
 //! A store that is drained and rotated.
 
-ghost use Rattle.std.specs.Prelude.{◌≤◌, List, length, IfOk, IfErr};
+ghost use Rattle.std.specs.Prelude.{◌≡◌, ◌≤◌, List, length, IfOk, IfErr, OnOk};
 ghost use Rattle.fm_admin.specs.Rotation.{IsRotated, RotatesDrained, RotationRefused};
 ghost use Rattle.fm_core.specs.Book.{ModuleState};
 ghost use Rattle.fm_drain.specs.DrainCalls.{AllFollow, AreAtCursors};
 ghost use Rattle.fm_logs.specs.StoreBook.{StoreBook};
-ghost use Rattle.fm_store.specs.StoreLeft.{AreSameStore};
+ghost use Rattle.fm_logs.specs.declared.disks.DiskName.{DiskName};
+ghost use Rattle.fm_store.specs.StoreLeft.{AreSameStore, store_disk};
 ghost use Rattle.fm_store.specs.StoreOf.{StoreStandsFor};
 
 use fm_core::{Hand, Module};
@@ -24,6 +25,8 @@ pub fn rotate_drained<D: Disk, M: Module>(
     requires few { length hands.items ≤ 8 }
     requires at_cursors { AreAtCursors M.Module store.old.logs hands.items }
     ensures rotated { IfOk result (IsRotated store.old store.new) }
+    ensures quiet { OnOk result ((name : DiskName)
+        → D.failures (store_disk name store.new) ≡ D.failures (store_disk name store.old)) }
     ensures refused { IfErr result
         (RotationRefused D.Disk M.Module store.old store.new hands.items) }
     ensures book { (fresh : List ModuleState) (k : StoreBook)

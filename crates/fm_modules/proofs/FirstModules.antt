@@ -21,7 +21,7 @@ use Rattle.fm_store.specs.StoreOf.{made_modules}
 use Rattle.dx_engine.specs.Diagnosers.{DiagnoserOf}
 use Rattle.dx_meaning.specs.DiagnoserMeaning.{diagnoser_meaning}
 use Rattle.dx_meaning.specs.Fresh.{fresh_of}
-use Rattle.dx_rules.specs.Rulebooks.{ruled_of, rules_of as rules_in}
+use Rattle.dx_rules.specs.Rulebooks.{ruled_of, rules_in}
 use Rattle.dx_rules.specs.declared.rulebook.Rulebook.{Rulebook}
 use Rattle.dx_rules.specs.declared.rulebook.Ruled.{Ruled}
 use Rattle.dx_standing.specs.Standing.{state_of}

@@ -8,7 +8,7 @@ use Rattle.fm_saved.specs.declared.conf.Conf.{Conf}
 use Rattle.dx_engine.specs.Diagnosers.{DiagnoserOf}
 use Rattle.dx_meaning.specs.DiagnoserMeaning.{diagnoser_meaning}
 use Rattle.dx_meaning.specs.Fresh.{fresh_of}
-use Rattle.dx_rules.specs.Rulebooks.{rules_of as rules_in}
+use Rattle.dx_rules.specs.Rulebooks.{rules_in}
 use Rattle.dx_standing.specs.Standing.{state_of}
 use Rattle.dx_state.specs.Configured.{Configuration, or_none}
 use Rattle.dx_step.specs.Longer.{rules_of}

@@ -2,20 +2,19 @@
 use Rattle.std.proofs.Common.{◌≡◌, ℕ, true, refl, sym, ap, ◌∙◌}
 use Rattle.std.specs.declared.cmp.Ordering.{Ordering}
 use Rattle.std.specs.declared.cmp.Ordering.TheVariants.{Less, Equal, Greater}
-use Rattle.std.specs.Ordering.{nat_cmp, ordering_then, ordering_reverse, is_eq}
+use Rattle.std.specs.Ordering.{nat_cmp, ordering_reverse, is_eq}
 use Rattle.std.specs.Cmp.{IsTotalOrder, then_total, on_total, nat_cmp_total, tied_itself}
 use Rattle.std.proofs.lemmas.Cmp.{ranked}
 use Rattle.fm_name.specs.OrderLaws.{then_equal}
 use Rattle.fm_entry.specs.declared.case_name.CaseName.{CaseName}
-use Rattle.fm_status.specs.Rows.{case_cmp}
-
--- the order of keys: by the first number, then by the second
-abbrev pub key_cmp : ℕ × ℕ → ℕ × ℕ → Ordering
-key_cmp x y = ordering_then (nat_cmp x.0 y.0) (nat_cmp x.1 y.1)
+use Rattle.fm_status.specs.Rows.{case_cmp, key_cmp}
 
 pub case_total : IsTotalOrder case_cmp
 case_total = then_total (on_total (λ c. c.module) nat_cmp_total)
     (on_total (λ c. c.case) nat_cmp_total)
+
+pub key_total : IsTotalOrder key_cmp
+key_total = then_total (on_total (λ k. k.0) nat_cmp_total) (on_total (λ k. k.1) nat_cmp_total)
 
 -- cases that the order ties are one case
 pub case_tie : (x y : CaseName) → case_cmp x y ≡ Equal → x ≡ y

@@ -1,4 +1,5 @@
 pub mod CaseOrder
 pub mod RowMap
+pub mod RowPlaces
 pub mod RowLaws
 pub mod WantedPaths

@@ -3,7 +3,9 @@ use Rattle.std.specs.Prelude.{◌≡◌, ℕ, List, [], ◌∷◌, map, cond, Op
 use Rattle.std.specs.Option.{option_or}
 use Rattle.std.specs.declared.cmp.Ordering.{Ordering}
 use Rattle.std.specs.Ordering.{nat_cmp, ordering_then, match_ordering, is_eq}
+use Rattle.std.specs.List.{slice_get}
 use Rattle.std.specs.List.Sorted.{IsStrictlySortedBy}
+use Rattle.std.specs.Map.{keys_of}
 use Rattle.fm_entry.specs.declared.case_name.CaseName.{CaseName}
 use Rattle.fm_entry.specs.declared.list_event.ListEvent.{ListEvent}
 
@@ -11,14 +13,34 @@ use Rattle.fm_entry.specs.declared.list_event.ListEvent.{ListEvent}
 abbrev pub case_cmp : CaseName → CaseName → Ordering
 case_cmp x y = ordering_then (nat_cmp x.module y.module) (nat_cmp x.case y.case)
 
--- where the row of a case stands in a map
+-- the key of a case, and the order of keys: by the first number, then by the second
 abbrev pub case_key : CaseName → ℕ × ℕ
 case_key case = (case.module, case.case)
 
--- each row stands at the key of its case
-abbrev pub AreKeyed : List ((ℕ × ℕ) × ListEvent) → Type 0
-AreKeyed [] = Unit {0}
-AreKeyed (entry ∷ entries) = (entry.0 ≡ case_key entry.1.case) × AreKeyed entries
+abbrev pub key_cmp : ℕ × ℕ → ℕ × ℕ → Ordering
+key_cmp x y = ordering_then (nat_cmp x.0 y.0) (nat_cmp x.1 y.1)
+
+-- at the place of each key stands the row of its case
+abbrev pub AreRowsAt : List ListEvent → List ((ℕ × ℕ) × ℕ) → Type 0
+AreRowsAt rows [] = Unit {0}
+AreRowsAt rows (entry ∷ entries) =
+    ((row : ListEvent) × ((slice_get rows entry.1 ≡ Some row) × (entry.0 ≡ case_key row.case)))
+    × AreRowsAt rows entries
+
+-- rows in any order, with the places of their keys, which ascend
+pub record ArePlacedRows (rows : List ListEvent) (entries : List ((ℕ × ℕ) × ℕ)) : Type 0 where
+  pub ascend : IsStrictlySortedBy key_cmp (keys_of entries)
+  pub are_at : AreRowsAt rows entries
+
+-- a row where one was found, before others
+abbrev pub with_found : Option ListEvent → List ListEvent → List ListEvent
+with_found None rows = rows
+with_found (Some row) rows = row ∷ rows
+
+-- the rows at places, in the order of the places
+abbrev pub placed_rows : List ListEvent → List ℕ → List ListEvent
+placed_rows rows [] = []
+placed_rows rows (place ∷ places) = with_found (slice_get rows place) (placed_rows rows places)
 
 -- the row of a case
 abbrev pub case_row : CaseName → List ListEvent → Option ListEvent

@@ -14,7 +14,8 @@
 //! The line of a suspect, and the pieces of lines that it is made of, stand here for all texts that
 //! are printed (`specs/Lines`).
 //!
-//! Rows stand in a map by case, so n words take n log n steps whatever the order of their cases.
+//! The places of rows stand in a map by case, so n words take n log n steps whatever the order of
+//! their cases.
 #![tactic(auto)]
 
 mod lines;

@@ -1,6 +1,6 @@
 //! The rows of cases.
 
-ghost use Rattle.std.specs.Prelude.{◌≡◌, ◌++◌, ℕ, List, [], map, take, option_copied};
+ghost use Rattle.std.specs.Prelude.{◌≡◌, ◌++◌, ℕ, List, [], map, take, option_copied, slice_get};
 ghost use Rattle.std.specs.Prelude.{IfOk, OnOk, OnErr};
 ghost use Rattle.std.specs.List.Sorted.{IsStrictlySortedBy};
 ghost use Rattle.fm_entry.specs.declared.list_event.ListEvent.{ListEvent};
@@ -18,27 +18,37 @@ use std::marker::Model;
 /// cases: by module, then by number.
 #[derive(Drop)]
 pub struct Status {
-    rows: BTreeMap<(u32, u64), ListEvent>,
+    /// The rows, in the order in which their cases were first spoken of.
+    rows: Vec<ListEvent>,
+    /// Where among them the row of a case stands.
+    places: BTreeMap<(u32, u64), usize>,
 }
 
 impl Model for Status {
     ghost use Rattle.std.specs.Prelude.{List};
     ghost use Rattle.std.specs.BTreeMap.{values};
     ghost use Rattle.fm_entry.specs.declared.list_event.ListEvent.{ListEvent};
-    ghost use Rattle.fm_status.specs.Rows.{AreKeyed};
+    ghost use Rattle.fm_status.specs.Rows.{ArePlacedRows, placed_rows};
 
     ghost Value = { List ListEvent };
 
-    ghost view = { λ s. values s.rows };
+    ghost view = { λ s. placed_rows s.rows.items (values s.places) };
 
-    ghost invariant = { λ s. AreKeyed s.rows.entries };
+    ghost invariant = { λ s. ArePlacedRows s.rows.items s.places.entries };
 }
 
-/// Where the row of a case stands in the map.
+/// The key of a case in the map of places.
 fn case_key(case: &CaseName) -> (u32, u64)
     ensures { result ≡ case_key case.now }
 {
     (case.module, case.case)
+}
+
+/// The row at a place.
+fn row_at(rows: &[ListEvent], place: usize) -> Option<&ListEvent>
+    ensures { option_copied result ≡ slice_get rows.now place }
+{
+    rows.get(place)
 }
 
 impl Status {
@@ -47,7 +57,8 @@ impl Status {
         ensures { result ≡ [] }
     {
         Status {
-            rows: BTreeMap::new(alloc),
+            rows: Vec::new(alloc),
+            places: BTreeMap::new(alloc),
         }
     }
 
@@ -57,7 +68,17 @@ impl Status {
         ensures err { OnErr result (self.new ≡ self.old) }
     {
         let row = word.copy(alloc)?;
-        self.rows.insert(case_key(&word.case), row)?;
+        let key = case_key(&word.case);
+        match self.places.get(&key) {
+            Some(place) => self.rows[*place] = row,
+            None => {
+                // first room for the row, so that none is left without its place or a place
+                // without its row
+                self.rows.reserve(1)?;
+                self.places.insert(key, self.rows.len())?;
+                self.rows.push_reserved(row);
+            }
+        }
         Ok(())
     }
 
@@ -81,16 +102,24 @@ impl Status {
     pub fn row(&self, case: &CaseName) -> Option<&ListEvent>
         ensures { option_copied result ≡ case_row case.now self.now }
     {
-        self.rows.get(&case_key(case))
+        match self.places.get(&case_key(case)) {
+            Some(place) => row_at(self.rows.as_slice(), *place),
+            None => None,
+        }
     }
 
     /// The rows in the order of cases.
-    #[tactic(auto, using(crate::proofs::RowMap::rows_ascend))]
+    #[tactic(auto, using(crate::proofs::RowPlaces::placed_ascend))]
     pub fn rows(&self, alloc: Global) -> Result<Vec<&ListEvent>, NoMemory>
         ensures rows { IfOk result (λ rows. map (λ row. row.now) rows.items ≡ self.now) }
         ensures ascend { IsStrictlySortedBy case_cmp (map (λ row. row.case) self.now) }
     {
-        let rows = self.rows.values().collect(alloc)?;
+        let mut rows = Vec::with_capacity(alloc, self.places.len())?;
+        'places: for place in self.places.values() {
+            if let Some(row) = row_at(self.rows.as_slice(), *place) {
+                rows.push(row)?;
+            }
+        }
         Ok(rows)
     }
 
@@ -99,8 +128,10 @@ impl Status {
         ensures { IfOk result (IsWantedOf self.now) }
     {
         let mut paths = Vec::new(alloc);
-        'rows: for row in self.rows.values() {
-            put_paths(row, &mut paths)?;
+        'places: for place in self.places.values() {
+            if let Some(row) = row_at(self.rows.as_slice(), *place) {
+                put_paths(row, &mut paths)?;
+            }
         }
         Ok(Wanted::of(paths))
     }

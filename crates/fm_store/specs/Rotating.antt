@@ -100,7 +100,7 @@ ChangeDoes g old new frame (Err failed) =
     × (SpareFails g old new failed.0 failed.1 ⊎ SlotFails g old new frame failed.0 failed.1)
 
 -- A rotation was made: the new base is in force, and the active journal is another one, on the disk
--- that was spare, without payloads and with the next entry's number.
+-- that was spare, without payloads and with the next entry's number. No disk failed.
 pub record Rotates {D M : Type 0} (g : Ghosts D) (old new : StoreOf D M)
     (states : List (List ℕ)) (number : ℕ) : Type 0 where
   pub puts : PutsBase g old new states
@@ -109,6 +109,7 @@ pub record Rotates {D M : Type 0} (g : Ghosts D) (old new : StoreOf D M)
   pub short : length (checkpoint_bytes (checkpoint_at old (not old.logs.second) states)) ≤ 2 ^ 28
   pub journal_is : new.logs.active ≡ blank_journal new.logs.active.disk number
   pub spare_is : new.base.spare ≡ old.logs.active.disk
+  pub spare_quiet : g.failures new.logs.active.disk ≡ g.failures old.base.spare
   pub logs_are : new.logs ≡ record old.logs {
     active = new.logs.active;
     second = not old.logs.second;

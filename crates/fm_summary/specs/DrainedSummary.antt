@@ -2,7 +2,7 @@
 use Rattle.std.specs.Prelude.{ℕ, ◌+◌, List, [], ◌∷◌, ◌++◌, length, map}
 use Rattle.dx_engine.specs.Diagnosers.{DiagnoserOf}
 use Rattle.dx_meaning.specs.DiagnoserMeaning.{diagnoser_meaning}
-use Rattle.dx_rules.specs.Rulebooks.{rules_of}
+use Rattle.dx_rules.specs.Rulebooks.{rules_in}
 use Rattle.dx_standing.specs.Standing.{state_of}
 use Rattle.dx_standing.specs.declared.rows.OpenRow.{OpenRow}
 use Rattle.fm_adm.specs.Summary.{IsSummary}
@@ -18,7 +18,7 @@ use Rattle.fm_status.specs.Wanted.{IsWantedOf}
 -- what contracts see of a diagnosis module
 abbrev pub diagnosers : Ghosts DiagnoserOf
 diagnosers = record {
-  meaning = λ d. diagnoser_meaning (rules_of d.rules);
+  meaning = λ d. diagnoser_meaning (rules_in d.rules);
   state = λ d. Diagnosing (state_of d.standing);
 }
 

@@ -2,14 +2,12 @@
 use Rattle.std.proofs.Common.{◌≡◌, ◌∙◌, inl, inr, ℕ, List, refl, sym, subst, Some}
 use Rattle.std.proofs.Common.{OnOk, IfErr, Result, Ok, Err}
 use Rattle.fm_core.specs.Book.{ModuleState}
-use Rattle.fm_core.proofs.Drains.{drained_floored}
 use Rattle.fm_logs.specs.Contents.{Contents}
-use Rattle.fm_logs.specs.StoreBook.{StoreBook, store_floored}
+use Rattle.fm_logs.specs.StoreBook.{StoreBook}
 use Rattle.fm_store.specs.StoreLeft.{ReadsLike}
 use Rattle.fm_top.specs.Accepting.{OpeningStops}
 use Rattle.fm_top.specs.Admin.{AdminRan, ReadsAfter, StoreUntold, TextAsked}
 use Rattle.fm_top.specs.Calls.{IsCaused, Does}
-use Rattle.fm_top.specs.Dump.{ReadsDrained}
 use Rattle.fm_top.specs.Ending.{EndsAs}
 use Rattle.fm_top.specs.Esc.{TextEnds}
 use Rattle.fm_top.specs.Fmd.{ConcludingStops}
@@ -22,20 +20,11 @@ use Rattle.fm_top.specs.declared.stops.Stop.{Stop}
 use Rattle.fm_top.specs.declared.stops.Stop.TheVariants.{Read, Write, Disk, Damaged, Memory, Full}
 use Rattle.fm_top.specs.declared.stops.Stop.TheVariants.{Act}
 use Rattle.fm_top.specs.declared.words.AdminCommand.{AdminCommand}
-use Rattle.fm_top.specs.declared.words.AdminCommand.TheVariants.{Config, Dump, Faulty}
+use Rattle.fm_top.specs.declared.words.AdminCommand.TheVariants.{Config, Dump, Faulty, Rotate}
 use Rattle.fm_top.specs.declared.words.Command.TheVariants.{Admin}
 use Rattle.fm_top.proofs.Doing.{Rests, quiet_counts}
 use Rattle.fm_top.proofs.Escs.{ok_no_err}
-
--- what reads as a drained book reads like the book
-like_drained : (fresh : List ModuleState) (k : StoreBook) (image : Contents)
-    → ReadsDrained fresh k image → ReadsLike fresh k image
-like_drained fresh k image reads = record {
-  read = store_floored reads.now;
-  reads = reads.reads;
-  confs_same = reads.drained_is.confs_same;
-  alike = λ es. drained_floored reads.now.book es ∙ reads.drained_is.alike es;
-}
+use Rattle.fm_top.proofs.Texts.{like_drained}
 
 -- what a command leaves reads like the book from before
 like_after : (asked : AdminCommand) (fresh : List ModuleState) (k : StoreBook) (image : Contents)
@@ -43,6 +32,12 @@ like_after : (asked : AdminCommand) (fresh : List ModuleState) (k : StoreBook) (
 like_after Faulty fresh k image reads = like_drained fresh k image reads
 like_after Config fresh k image reads = like_drained fresh k image reads
 like_after (Dump options) fresh k image reads = like_drained fresh k image reads
+like_after Rotate fresh k image reads = record {
+  read = reads.read;
+  reads = reads.reads;
+  confs_same = reads.based_is.confs_same;
+  alike = reads.based_is.alike;
+}
 
 module _ (asked : AdminCommand) (before after : Outside) where
   abbrev RanSo : Result (Unit {0}) Stop → Type 0

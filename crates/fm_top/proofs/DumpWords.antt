@@ -9,24 +9,25 @@ use Rattle.fm_top.specs.declared.words.AdminCommand.TheVariants.{Dump}
 use Rattle.fm_top.specs.declared.words.Command.TheVariants.{Admin}
 use Rattle.std.specs.Option.{option_map}
 
-module _ (words : List (List ℕ)) (word : List ℕ) (more : List (List ℕ))
+module _ (now : ℕ) (words : List (List ℕ)) (word : List ℕ) (more : List (List ℕ))
     (are : words ≡ word ∷ more) where
-  pub dumped : bytes_eq word (codes "fmdump") ≡ true → dump_with more ≡ command_of words
-  dumped yes = sym (ap command_of are
-      ∙ ap (λ b. if b then dump_with more else short_command (word ∷ more)) yes)
+  pub dumped : bytes_eq word (codes "fmdump") ≡ true → dump_with more ≡ command_of words now
+  dumped yes = sym (ap (λ ws. command_of ws now) are
+      ∙ ap (λ b. if b then dump_with more else short_command (word ∷ more) now) yes)
 
-  pub others : bytes_eq word (codes "fmdump") ≡ false → short_command words ≡ command_of words
-  others no = ap short_command are
-      ∙ sym (ap command_of are
-      ∙ ap (λ b. if b then dump_with more else short_command (word ∷ more)) no)
+  pub others : bytes_eq word (codes "fmdump") ≡ false
+      → short_command words now ≡ command_of words now
+  others no = ap (λ ws. short_command ws now) are
+      ∙ sym (ap (λ ws. command_of ws now) are
+      ∙ ap (λ b. if b then dump_with more else short_command (word ∷ more) now) no)
 
 -- options may take memory to be read
 takes : (o : Option DumpOptions) → TakesMemory (option_map (λ options. Admin (Dump options)) o)
 takes None = tt
 takes (Some options) = tt
 
-pub dump_takes : (words : List (List ℕ)) (word : List ℕ) (more : List (List ℕ))
+pub dump_takes : (now : ℕ) (words : List (List ℕ)) (word : List ℕ) (more : List (List ℕ))
     → words ≡ word ∷ more → bytes_eq word (codes "fmdump") ≡ true
-    → TakesMemory (command_of words)
-dump_takes words word more are yes =
-    subst TakesMemory (dumped words word more are yes) (takes (dump_options more))
+    → TakesMemory (command_of words now)
+dump_takes now words word more are yes =
+    subst TakesMemory (dumped now words word more are yes) (takes (dump_options more))

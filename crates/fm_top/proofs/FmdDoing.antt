@@ -177,7 +177,7 @@ act_rose paths zero (old ∷ olds) (new ∷ news) (rose, tried) = (_, _, refl, r
 act_rose paths (suc at) (old ∷ olds) (new ∷ news) (held, more) = act_rose paths at olds news more
 act_rose _ _ _ _ failed = absurd failed
 
-settled_caused : (before after : Outside) (paths : List (List ℕ)) (summary : List ℕ)
+pub settled_caused : (before after : Outside) (paths : List (List ℕ)) (summary : List ℕ)
     (middle : SinkAt) (ran : Result (Unit {0}) Stop)
     → middle.failures ≡ before.out.failures
     → SettlingEnds paths summary before.acts after.acts middle after.out ran
@@ -204,7 +204,7 @@ fmd_caused before after ran (inr (inr s)) =
 
 -- ---- the counts of a command that is done
 
-acts_quiet : (paths : List (List ℕ)) (olds news : List ActuatorState)
+pub acts_quiet : (paths : List (List ℕ)) (olds news : List ActuatorState)
     → AllZip (Settled paths) olds news → act_counts news ≡ act_counts olds
 acts_quiet paths [] [] all = refl
 acts_quiet paths (old ∷ olds) (new ∷ news) (one, more) =

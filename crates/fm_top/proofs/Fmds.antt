@@ -115,7 +115,7 @@ hands_on g old new hands es went at = record {
 
 -- ---- what the disks of a drained store hold
 
-floored_based : (k based : StoreBook) → IsBasedOf k based → IsBasedOf k (store_floored based)
+pub floored_based : (k based : StoreBook) → IsBasedOf k based → IsBasedOf k (store_floored based)
 floored_based k based is = record {
   alike = λ es. drained_floored based.book es ∙ is.alike es;
   confs_same = is.confs_same;

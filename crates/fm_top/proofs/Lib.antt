@@ -22,8 +22,12 @@ pub mod Makings
 pub mod Moving
 pub mod Namespaces
 pub mod OnPieces
+pub mod OpenedDisks
 pub mod Recordings
+pub mod RepairDoing
+pub mod Repairs
 pub mod Replays
+pub mod Rotatings
 pub mod Sinks
 pub mod SixDisks
 pub mod Standing

@@ -1,7 +1,8 @@
--- A text that is no UUID, and two words.
+-- A text that is no UUID, two words, and words that may take memory to be read.
 use Rattle.std.proofs.Common.{◌≡◌, ℕ, ◌<◌, ◌≤◌, List, [], ◌∷◌, length, get_or, Option, Some}
 use Rattle.std.proofs.Common.{None, false, true, refl, sym, ◌∙◌, arith}
-use Rattle.fm_top.specs.Words.{command_with, short_command}
+use Rattle.fm_admin.specs.declared.marking.Repair.{Repair}
+use Rattle.fm_top.specs.Words.{TakesMemory, command_with, repair_at, short_command}
 use Rattle.fm_top.specs.declared.words.Command.{Command}
 
 none_from : (value : Option (List ℕ))
@@ -25,3 +26,8 @@ two_words (a ∷ []) first second found many few one two is = absurd (omega (ari
 two_words (a ∷ b ∷ []) first second found many few one two is =
     is ∙ (λ i. command_with (one i) (two i))
 two_words (a ∷ b ∷ c ∷ more) first second found many few one two is = absurd (omega (arith, few))
+
+-- what an operator says of repairs may take memory to be read, and so may no command
+pub repair_takes : (now : ℕ) (said : Option Repair) → TakesMemory (repair_at now said)
+repair_takes now None = tt
+repair_takes now (Some repair) = tt

@@ -67,7 +67,7 @@ module _ {D M : Type 0} (g : Ghosts D) where
       → IsLawfulStore (store_accepted k e) → AcceptsOnBook g fresh old new k e result
 
   -- no count of a disk rose
-  counts_taken : (old new : StoreOf D M) (e : Entry) (n : ℕ) → new.base ≡ old.base
+  pub counts_taken : (old new : StoreOf D M) (e : Entry) (n : ℕ) → new.base ≡ old.base
       → TakesEntry g old.logs new.logs e n → (name : DiskName)
       → g.failures (store_disk name new) ≡ g.failures (store_disk name old)
   counts_taken old new e n base takes Conf =

@@ -2,6 +2,7 @@
 use Rattle.std.proofs.Common.{◌≡◌, ℕ, List, Some, Result, Ok, Err, refl, subst}
 use Rattle.std.proofs.Common.{sym}
 use Rattle.dx_engine.specs.Diagnosers.{DiagnoserOf}
+use Rattle.fm_admin.specs.declared.repairing.Repaired.{Repaired as RepairedEntry}
 use Rattle.fm_conclude.specs.declared.concluding.Conclusion.{Conclusion}
 use Rattle.fm_core.specs.Hands.{HandOf}
 use Rattle.fm_logs.specs.Contents.{Contents, AreTold, WereOnlyRead, disk_named}
@@ -19,16 +20,19 @@ use Rattle.fm_top.specs.Accepting.{AcceptRan}
 use Rattle.fm_top.specs.Accounts.{Accounts}
 use Rattle.fm_top.specs.Fmd.{StoreRan}
 use Rattle.fm_top.specs.Outside.{SourceAt, SinkAt, DisksAt, disks_at}
+use Rattle.fm_top.specs.Repair.{RepairTried}
+use Rattle.fm_top.specs.RepairEntry.{RepairAsked}
 use Rattle.fm_top.specs.Stops.{of_store}
 use Rattle.fm_top.specs.Tasks.{TaskDoes, TaskRan}
 use Rattle.fm_top.specs.declared.stops.Stop.{Stop}
 use Rattle.fm_top.specs.declared.stops.Stop.TheVariants.{Read, Write}
 use Rattle.fm_top.specs.declared.tasks.StoreTask.{StoreTask}
-use Rattle.fm_top.specs.declared.tasks.StoreTask.TheVariants.{Accept, Fmd, Admin}
+use Rattle.fm_top.specs.declared.tasks.StoreTask.TheVariants.{Accept, Fmd, Admin, Repair}
 use Rattle.fm_top.specs.declared.tasks.TaskDone.{TaskDone}
-use Rattle.fm_top.specs.declared.tasks.TaskDone.TheVariants.{Nothing, Concluded, Text}
+use Rattle.fm_top.specs.declared.tasks.TaskDone.TheVariants.{Nothing, Concluded, Text, Repaired}
 use Rattle.fm_top.proofs.Accepts.{not_opened, opened_ran}
 use Rattle.fm_top.proofs.Fmds.{OpenAt, unopened_ran, worked_ran}
+use Rattle.fm_top.proofs.Repairs.{repair_halted, repair_tried, repair_unopened}
 use Rattle.fm_top.proofs.Texts.{asked_told, asked_untold, unopened_asked}
 
 -- what is said of a task is said of the one that it is
@@ -51,6 +55,8 @@ task_unopened g disks disks_now (Fmd got) input out fault refused read =
     unopened_ran g disks disks_now got input out fault refused read
 task_unopened g disks disks_now (Admin asked) input out fault refused read =
     (refl, unopened_asked g disks disks_now asked fault refused read)
+task_unopened g disks disks_now (Repair asked) input out fault refused read =
+    (refl, repair_unopened g disks disks_now asked fault refused read)
 
 module _ {D : Type 0} (g : Ghosts D)
     (seen_is_image : (disk : D) (c : List ℕ) → g.seen disk ≡ Some c → g.images disk c)
@@ -91,6 +97,10 @@ module _ {D : Type 0} (g : Ghosts D)
     asked_untold g disks disks_now first new hands conf asked kept opened are stop
         does.2.0 does.2.1 does.2.2,
   )
+  task_ran (Repair asked) (Ok (Repaired one)) does counts_input counts_out =
+      (does.1, repair_tried g disks disks_now first new hands conf asked kept opened are one does.2)
+  task_ran (Repair asked) (Err stop) does counts_input counts_out =
+      (does.1, repair_halted g disks disks_now first new hands conf asked kept opened are stop does.2)
   task_ran _ _ does counts_input counts_out = absurd does
 
 -- ---- what a command takes of it
@@ -101,6 +111,7 @@ pub accept_did : (input input_now : SourceAt) (out out_now : SinkAt) (disks disk
 accept_did input input_now out out_now disks disks_now Nothing ran = ran
 accept_did input input_now out out_now disks disks_now (Concluded conclusion) ran = absurd ran
 accept_did input input_now out out_now disks disks_now (Text text) ran = absurd ran
+accept_did input input_now out out_now disks disks_now (Repaired one) ran = absurd ran
 
 pub fmd_did : (got : Sources) (done : TaskDone) (conclusion : Conclusion)
     (input input_now : SourceAt) (out out_now : SinkAt) (disks disks_now : DisksAt)
@@ -109,5 +120,19 @@ pub fmd_did : (got : Sources) (done : TaskDone) (conclusion : Conclusion)
     → StoreRan input input_now out out_now disks disks_now got (Ok conclusion)
 fmd_did got Nothing conclusion input input_now out out_now disks disks_now is ran = absurd ran
 fmd_did got (Text text) conclusion input input_now out out_now disks disks_now is ran = absurd ran
+fmd_did got (Repaired one) conclusion input input_now out out_now disks disks_now is ran = absurd ran
 fmd_did got (Concluded found) conclusion input input_now out out_now disks disks_now is ran =
     subst (λ done. TaskRan (Fmd got) input input_now out out_now disks disks_now (Ok done)) is ran
+
+pub repair_did : (asked : RepairAsked) (done : TaskDone) (one : RepairedEntry)
+    (input input_now : SourceAt) (out out_now : SinkAt) (disks disks_now : DisksAt)
+    → done ≡ Repaired one
+    → TaskRan (Repair asked) input input_now out out_now disks disks_now (Ok done)
+    → (out_now ≡ out) × RepairTried asked disks disks_now (Ok one)
+repair_did asked Nothing one input input_now out out_now disks disks_now is ran = absurd ran
+repair_did asked (Text text) one input input_now out out_now disks disks_now is ran = absurd ran
+repair_did asked (Concluded conclusion) one input input_now out out_now disks disks_now is ran =
+    absurd ran
+repair_did asked (Repaired found) one input input_now out out_now disks disks_now is ran =
+    subst (λ done. TaskRan (Repair asked) input input_now out out_now disks disks_now (Ok done)) is
+    ran

@@ -9,10 +9,11 @@ use Rattle.fm_conclude.specs.Concluding.{NoDiskFailed, SomeDiskFailed}
 use Rattle.fm_core.specs.Book.{ModuleState}
 use Rattle.fm_core.specs.Drained.{drained}
 use Rattle.fm_core.specs.Hands.{HandOf}
+use Rattle.fm_core.proofs.Drains.{drained_floored}
 use Rattle.fm_drain.specs.DrainCalls.{AllFollow}
 use Rattle.fm_logs.specs.Contents.{Contents, AreTold, WereOnlyRead, active_of_two, content_named}
 use Rattle.fm_logs.specs.Contents.{disk_named}
-use Rattle.fm_logs.specs.StoreBook.{StoreBook, force_now}
+use Rattle.fm_logs.specs.StoreBook.{StoreBook, force_now, store_floored}
 use Rattle.fm_logs.specs.declared.disks.DiskName.{DiskName}
 use Rattle.fm_logs.specs.declared.disks.DiskName.TheVariants.{Conf as ConfDisk, ErrA, ErrB, SlotA}
 use Rattle.fm_logs.specs.declared.disks.DiskName.TheVariants.{SlotB, Flt}
@@ -25,14 +26,15 @@ use Rattle.fm_outer.specs.Moments.{OnlyRead}
 use Rattle.fm_outer.specs.declared.disk.Disk.{Ghosts}
 use Rattle.fm_saved.specs.declared.conf.Conf.{Conf}
 use Rattle.fm_store.specs.Opened.{NoneFailed, RoseOnAny}
-use Rattle.fm_store.specs.StoreLeft.{store_disk, AreDisksOf, EachLeft, StoreIsLeft}
+use Rattle.fm_store.specs.StoreLeft.{store_disk, AreDisksOf, EachLeft, ReadsLike, StoreIsLeft}
 use Rattle.fm_store.specs.StoreOf.{StoreOf, StoreStandsFor}
 use Rattle.fm_store.proofs.StoreReads.{left_active, says_left}
 use Rattle.fm_summary.specs.DrainedSummary.{diagnosers}
 use Rattle.fm_top.specs.Accepting.{DisksAccount}
 use Rattle.fm_top.specs.Accounts.{Accounts}
 use Rattle.fm_top.specs.Admin.{AdminDone, AdminOnBook, AdminRefused, TextAsked, ToldOf}
-use Rattle.fm_top.specs.Dump.{IsErrorLogOf, ReadsDrained, error_log}
+use Rattle.fm_top.specs.DrainedBook.{ReadsDrained}
+use Rattle.fm_top.specs.Dump.{IsErrorLogOf, error_log}
 use Rattle.fm_top.specs.Fmd.{ConcludingStops}
 use Rattle.fm_top.specs.Headline.{HoldsOfBook, LikeBook}
 use Rattle.fm_top.specs.Kept.{BookAt}
@@ -113,6 +115,16 @@ pub done_as : {D : Type 0} (g : Ghosts D) (asked other : AdminCommand)
     → AdminDone g other old new hands conf answer → AdminDone g asked old new hands conf answer
 done_as g asked other old new hands conf answer same done =
     subst (λ one. AdminDone g one old new hands conf answer) (sym same) done
+
+-- what reads as a drained book reads like the book
+pub like_drained : (fresh : List ModuleState) (k : StoreBook) (c : Contents)
+    → ReadsDrained fresh k c → ReadsLike fresh k c
+like_drained fresh k c d = record {
+  read = store_floored d.now;
+  reads = d.reads;
+  confs_same = d.drained_is.confs_same;
+  alike = λ es. drained_floored d.now.book es ∙ d.drained_is.alike es;
+}
 
 -- each image of a drained store reads as a drained book
 pub left_drained : {D X : Type 0} (g : Ghosts D) (new : StoreOf D DiagnoserOf)

@@ -1,87 +1,71 @@
 -- A call that ends before its words are read, for want of memory.
-use Rattle.std.proofs.Common.{◌≡◌, ◌≤◌, inl, inr, ℕ, List, [], take, refl, subst, arith}
-use Rattle.std.proofs.Common.{Option, Some, None, Result, Ok, Err}
+use Rattle.std.proofs.Common.{◌≡◌, inl, inr, ℕ, zero, suc, List, [], take, refl, subst, arith}
+use Rattle.std.proofs.Common.{Option, Some, None, Err}
 use Rattle.std.specs.Io.KnownBytes.{Appends}
 use Rattle.fm_top.specs.Calls.{Does, Handed, WorksOn}
 use Rattle.fm_top.specs.Ending.{EndsAs}
 use Rattle.fm_top.specs.Init.{AreUnwritten}
 use Rattle.fm_top.specs.Outside.{Outside, SinkAt}
-use Rattle.fm_top.specs.Refusing.{PutCut}
-use Rattle.fm_top.specs.Stops.{last_text, status_of}
 use Rattle.fm_top.specs.Words.{TakesMemory}
 use Rattle.fm_top.specs.declared.status.ToolStatus.{ToolStatus}
 use Rattle.fm_top.specs.declared.stops.Stop.{Stop}
 use Rattle.fm_top.specs.declared.stops.Stop.TheVariants.{Memory, Usage, Write}
-use Rattle.fm_top.specs.declared.words.AdminCommand.{AdminCommand}
 use Rattle.fm_top.specs.declared.words.Command.{Command}
-use Rattle.fm_top.specs.declared.words.Command.TheVariants.{Admin}
+use Rattle.fm_top.specs.declared.words.Command.TheVariants.{Admin, Repair}
+use Rattle.fm_top.proofs.AdminDoing.{does_tell}
+use Rattle.fm_top.proofs.Doing.{Rests}
+use Rattle.fm_top.proofs.RepairDoing.{does_repair}
 
--- where the last line of words that are no command was not put
-usage_wanted : (out out_now : SinkAt) (result : ToolStatus) → EndsAs out out_now (Err Memory) result
-    → EndsAs out out_now (Err Usage) result
-usage_wanted out out_now result (inl whole) =
+abbrev no_text : List ℕ
+no_text = []
+
+take_none : (m : ℕ) → take m no_text ≡ no_text
+take_none zero = refl
+take_none (suc m) = refl
+
+-- the last line of a call that wanted memory is none, whatever the line would be
+ends_without : (out out_now : SinkAt) (stop : Stop) (result : ToolStatus)
+    → EndsAs out out_now (Err Memory) result → EndsAs out out_now (Err stop) result
+ends_without out out_now stop result (inl whole) =
     inr (Memory, whole.answered, (whole.put, whole.quiet))
-usage_wanted out out_now result (inr (cut, is, put)) = inr (by_cut cut is put)
-  where
-    by_cut : (cut : Stop) → result ≡ status_of cut → PutCut out out_now [] cut
-        → (cut : Stop) × (result ≡ status_of cut) × PutCut out out_now (last_text Usage) cut
-    by_cut Write is (rose, (m, small, put)) = (
+ends_without out out_now stop result (inr (Write, is, (rose, (m, few, put)))) =
+    inr (
       Write,
       is,
-      (
-        rose,
-        (
-          0,
-          omega arith,
-          subst (λ n. Appends out.bytes out_now.bytes (take n []))
-              (none_of m small) put,
-        ),
-      ),
+      (rose, (0, omega arith, subst (Appends out.bytes out_now.bytes) (take_none m) put)),
     )
-      where
-        none_of : (m : ℕ) → m ≤ 0 → m ≡ 0
-        none_of m small = omega (arith, small)
-    by_cut Memory is put = (Memory, is, put)
-    by_cut _ is put = absurd put
+ends_without out out_now stop result (inr (Memory, is, cut)) = inr (Memory, is, cut)
+ends_without out out_now stop result (inr (_, is, cut)) = absurd cut
 
--- a command of which nothing was done
-tell_wanted : (asked : AdminCommand) (before after : Outside) (result : ToolStatus)
-    → AreUnwritten before.disks after.disks → after.input ≡ before.input
-    → EndsAs before.out after.out (Err Memory) result → Does (Some (Admin asked)) before after result
-tell_wanted asked before after result untouched unread ends = (
-  Err Memory,
-  before.out,
-  record {
-    order = inl tt;
-    cause = tt;
-    quiet = tt;
-    did = inr (record {
+pub does_want : (o : Option Command) (before after : Outside) (result : ToolStatus)
+    → TakesMemory o → EndsAs before.out after.out (Err Memory) result
+    → Rests before after → after.input ≡ before.input → AreUnwritten before.disks after.disks
+    → Does o before after result
+does_want None before after result takes ends rests unread untouched =
+    ends_without before.out after.out Usage result ends
+does_want (Some (Repair asked)) before after result takes ends rests unread untouched =
+    does_repair asked before after before.out (Err Memory) result
+    (inl (record {
       stop = Memory;
       told = refl;
       store = record { went = inl (record { untouched = untouched; why = tt }); counts = tt };
       unsaid = refl;
-    });
-    headline = inl (record {
-      refused = tt;
-      unread = unread;
+      unmoved = rests.acts;
+    })) ends rests.rules rests.topo unread
+does_want (Some (Admin asked)) before after result takes ends rests unread untouched =
+    does_tell asked before after before.out (Err Memory) result
+    (inr (record {
+      stop = Memory;
+      told = refl;
+      store = record { went = inl (record { untouched = untouched; why = tt }); counts = tt };
       unsaid = refl;
-      left = λ image leaves name. (untouched name).images _ (leaves name);
-    });
-  },
-  ends,
-)
+    })) ends rests unread
+does_want (Some _) before after result takes ends rests unread untouched = absurd takes
 
-pub does_wanted : (o : Option Command) (before after : Outside) (result : ToolStatus)
-    → TakesMemory o → AreUnwritten before.disks after.disks → after.input ≡ before.input
-    → EndsAs before.out after.out (Err Memory) result → Does o before after result
-does_wanted None before after result takes untouched unread ends =
-    usage_wanted before.out after.out result ends
-does_wanted (Some (Admin asked)) before after result takes untouched unread ends =
-    tell_wanted asked before after result untouched unread ends
-does_wanted (Some _) before after result takes untouched unread ends = absurd takes
-
-pub works_wanted : {S D A : Type 0} (o : Option Command) (old : Handed S D A) → TakesMemory o
+-- and nothing was worked on
+pub works_want : {S D A : Type 0} (o : Option Command) (old : Handed S D A) → TakesMemory o
     → WorksOn o old old
-works_wanted None old takes = refl
-works_wanted (Some (Admin asked)) old takes = refl
-works_wanted (Some _) old takes = absurd takes
+works_want None old takes = refl
+works_want (Some (Repair asked)) old takes = refl
+works_want (Some (Admin asked)) old takes = refl
+works_want (Some _) old takes = absurd takes

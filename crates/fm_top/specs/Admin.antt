@@ -1,29 +1,32 @@
 -- What an operator's command does that puts one text: the store is drained, and the text is a
--- function of its drained book, or of its log of entries. No entry is accepted.
-use Rattle.std.specs.Prelude.{◌≡◌, ◌⊎◌, ℕ, List, slice_get, None, Some, Result, Ok, Err}
-use Rattle.std.specs.Prelude.{MatchResult, OnOk, IfOk, IfErr}
+-- function of its drained book, of its log of entries, or of where they end. No entry is accepted.
+use Rattle.std.specs.Prelude.{◌≡◌, ◌⊎◌, ℕ, List, [], ◌++◌, codes, decimal, Bool, slice_get, None}
+use Rattle.std.specs.Prelude.{Some, Result, Ok, Err, MatchResult, OnOk, IfOk, IfErr}
 use Rattle.std.specs.Global.{Vec}
 use Rattle.dx_engine.specs.Diagnosers.{DiagnoserOf}
 use Rattle.fm_admin.specs.Telling.{IsFaultyOf}
 use Rattle.fm_conclude.specs.Concluding.{NoDiskFailed, SomeDiskFailed}
 use Rattle.fm_config.specs.Sizes.{IsConfText}
-use Rattle.fm_core.specs.Book.{ModuleState}
+use Rattle.fm_core.specs.Book.{ModuleState, next_number}
 use Rattle.fm_core.specs.Drained.{drained}
 use Rattle.fm_core.specs.Hands.{HandOf}
 use Rattle.fm_drain.specs.DrainCalls.{AllFollow}
-use Rattle.fm_logs.specs.Contents.{Contents}
+use Rattle.fm_logs.specs.Contents.{Contents, active_of_two}
+use Rattle.fm_logs.specs.ReadsAsBook.{IsLog, ReadsAsBook, SaysBook, SpellsEntry}
 use Rattle.fm_logs.specs.StoreBook.{StoreBook, force_now}
 use Rattle.fm_logs.specs.declared.fault.StoreFault.{StoreFault}
 use Rattle.fm_logs.specs.declared.fault.StoreFault.TheVariants.{Disk, Full, Closed, Damaged}
 use Rattle.fm_logs.specs.declared.fault.StoreFault.TheVariants.{NoMemory}
 use Rattle.fm_outer.specs.declared.disk.Disk.{Ghosts}
 use Rattle.fm_saved.specs.declared.conf.Conf.{Conf}
+use Rattle.fm_settled.specs.ToBase.{IsBasedOf}
 use Rattle.fm_store.specs.StoreLeft.{EachLeft, ReadsLike}
 use Rattle.fm_store.specs.StoreOf.{StoreOf, StoreStandsFor}
 use Rattle.fm_store.specs.StoreReading.{IsNoDamage}
 use Rattle.fm_summary.specs.DrainedSummary.{diagnosers}
 use Rattle.fm_top.specs.Accepting.{DisksAccount, OpeningStops}
-use Rattle.fm_top.specs.Dump.{ErrorLog, IsDump, IsErrorLogOf, ReadsDrained, error_log}
+use Rattle.fm_top.specs.DrainedBook.{ReadsDrained}
+use Rattle.fm_top.specs.Dump.{ErrorLog, IsDump, IsErrorLogOf, error_log}
 use Rattle.fm_top.specs.Esc.{TextEnds}
 use Rattle.fm_top.specs.Fmd.{ConcludingStops}
 use Rattle.fm_top.specs.Headline.{HoldsOfBook, LikeBook}
@@ -32,7 +35,22 @@ use Rattle.fm_top.specs.Kept.{BookAt}
 use Rattle.fm_top.specs.Outside.{SinkAt, DisksAt, Tells, Leaves}
 use Rattle.fm_top.specs.declared.stops.Stop.{Stop}
 use Rattle.fm_top.specs.declared.words.AdminCommand.{AdminCommand}
-use Rattle.fm_top.specs.declared.words.AdminCommand.TheVariants.{Config, Dump, Faulty}
+use Rattle.fm_top.specs.declared.words.AdminCommand.TheVariants.{Config, Dump, Faulty, Rotate}
+
+-- `rotated N`
+abbrev pub rotated_text : ℕ → List ℕ
+rotated_text number = codes "rotated " ++ (decimal number ++ codes "\n")
+
+-- The image reads as a book that comes of this one by draining, with its base at its end; and the
+-- error journal that is active in it begins there, and has no payload.
+pub record ReadsRotated (fresh : List ModuleState) (k : StoreBook) (image : Contents) : Type 0
+  where
+    pub read : StoreBook
+    pub reads : ReadsAsBook fresh image read
+    pub based_is : IsBasedOf k read
+    pub second : Bool
+    pub says : SaysBook fresh image second read
+    pub blank : IsLog SpellsEntry (active_of_two second image) (next_number k.book) []
 
 -- WHICH TEXT EACH COMMAND PUTS, one line a command: of a book with this configuration in force, and
 -- of the entries of the active error journal
@@ -40,12 +58,14 @@ abbrev pub IsTextOf : AdminCommand → Conf → ErrorLog → StoreBook → List 
 IsTextOf Faulty conf log k text = IsFaultyOf conf.namespace (drained k.book) text
 IsTextOf Config conf log k text = IsConfText conf text
 IsTextOf (Dump options) conf log k text = IsDump options.errors options conf.namespace log k text
+IsTextOf Rotate conf log k text = text ≡ rotated_text (next_number k.book)
 
 -- WHAT EACH COMMAND LEAVES once it is done, one line a command: how an image reads
 abbrev pub ReadsAfter : AdminCommand → List ModuleState → StoreBook → Contents → Type 0
 ReadsAfter Faulty fresh k image = ReadsDrained fresh k image
 ReadsAfter Config fresh k image = ReadsDrained fresh k image
 ReadsAfter (Dump options) fresh k image = ReadsDrained fresh k image
+ReadsAfter Rotate fresh k image = ReadsRotated fresh k image
 
 -- ---- an open store
 

@@ -11,6 +11,7 @@ use Rattle.fm_top.specs.Headline.{Headline}
 use Rattle.fm_top.specs.Init.{InitRan}
 use Rattle.fm_top.specs.Outside.{Outside, SinkAt, source_counts, disk_counts, counts_of, RoseAt}
 use Rattle.fm_top.specs.Outside.{given_of, standing, act_counts}
+use Rattle.fm_top.specs.Repair.{RepairRan}
 use Rattle.fm_top.specs.Replaying.{ReplayRan}
 use Rattle.fm_logs.specs.declared.disks.Disks.{Disks}
 use Rattle.fm_top.specs.declared.status.ToolStatus.{ToolStatus}
@@ -18,7 +19,7 @@ use Rattle.fm_top.specs.declared.stops.Stop.{Stop}
 use Rattle.fm_top.specs.declared.stops.Stop.TheVariants.{Usage, Read, Write, Disk, Act}
 use Rattle.fm_top.specs.declared.words.Command.{Command}
 use Rattle.fm_top.specs.declared.words.Command.TheVariants.{Accept, Fmd, Replay, Init, Esc}
-use Rattle.fm_top.specs.declared.words.Command.TheVariants.{EscInput, Admin}
+use Rattle.fm_top.specs.declared.words.Command.TheVariants.{EscInput, Admin, Repair}
 
 -- EACH FAULT OF THE OUTSIDE, one line a fault: it comes only where a count of that kind rose
 abbrev pub IsCaused : Outside → Outside → Stop → Type 0
@@ -42,6 +43,8 @@ Did EscInput before after ran =
     EscInputEnds standing before.input after.input before.out after.out ran
 Did (Admin asked) before after ran =
     AdminRan asked before.out after.out before.disks after.disks ran
+Did (Repair asked) before after ran =
+    RepairRan asked before.acts after.acts before.out after.out before.disks after.disks ran
 
 -- a command ran, up to its last line
 pub record Ran (command : Command) (before after : Outside) (ran : Result (Unit {0}) Stop) : Type 0
@@ -82,6 +85,7 @@ WorksOn (Some Replay) old new = new ≡ record old { input = new.input }
 WorksOn (Some (Esc form)) old new = new ≡ record old { rules = new.rules; topo = new.topo }
 WorksOn (Some EscInput) old new = new ≡ record old { input = new.input }
 WorksOn (Some (Admin asked)) old new = new ≡ record old { disks = new.disks }
+WorksOn (Some (Repair asked)) old new = new ≡ record old { disks = new.disks; acts = new.acts }
 WorksOn (Some (Init namespace)) old new =
     new ≡ record old {
       rules = new.rules;

@@ -8,8 +8,8 @@ use Rattle.fm_dump.specs.Errors.{errors_text}
 use Rattle.fm_dump.specs.declared.options.DumpOptions.{DumpOptions}
 use Rattle.fm_entry.specs.declared.entry.Entry.{Entry}
 use Rattle.fm_logs.specs.Contents.{Contents, active_of_two}
-use Rattle.fm_logs.specs.ReadsAsBook.{IsLog, ReadsAsBook, SaysBook, SpellsEntry}
-use Rattle.fm_logs.specs.StoreBook.{IsLawfulStore, StoreBook, store_floored}
+use Rattle.fm_logs.specs.ReadsAsBook.{IsLog, SaysBook, SpellsEntry}
+use Rattle.fm_logs.specs.StoreBook.{IsLawfulStore, StoreBook}
 use Rattle.fm_store.specs.StoreOf.{StoreOf}
 
 -- the entries of the active error journal, and the number of the first
@@ -42,10 +42,3 @@ pub record IsWordsOf (options : DumpOptions) (namespace : List ℕ) (k : StoreBo
 abbrev pub IsDump : Bool → DumpOptions → List ℕ → ErrorLog → StoreBook → List ℕ → Type 0
 IsDump true options namespace log k text = text ≡ errors_text options log.first log.entries
 IsDump false options namespace log k text = IsWordsOf options namespace k text
-
--- The contents read as a book of which each module has come to the end: so their fault log has all
--- that the modules have said.
-pub record ReadsDrained (fresh : List ModuleState) (k : StoreBook) (c : Contents) : Type 0 where
-  pub now : StoreBook
-  pub drained_is : IsDrainedOf k now
-  pub reads : ReadsAsBook fresh c (store_floored now)

@@ -10,11 +10,12 @@ use Rattle.fm_top.specs.Answers.{answers, entries_of}
 use Rattle.fm_top.specs.Kept.{BookAt}
 use Rattle.fm_top.specs.Outside.{Outside, DisksAt, Tells, Leaves}
 use Rattle.fm_top.specs.Recording.{store_with}
+use Rattle.fm_top.specs.RepairEntry.{HasRepair, RepairAsked}
 use Rattle.fm_top.specs.Running.{Line, AreRead}
 use Rattle.fm_top.specs.declared.stops.Stop.{Stop}
 use Rattle.fm_top.specs.declared.words.Command.{Command}
-use Rattle.fm_top.specs.declared.stops.Stop.TheVariants.{Act}
-use Rattle.fm_top.specs.declared.words.Command.TheVariants.{Accept, Fmd, Init, Admin}
+use Rattle.fm_top.specs.declared.stops.Stop.TheVariants.{Act, NotFaulty}
+use Rattle.fm_top.specs.declared.words.Command.TheVariants.{Accept, Fmd, Init, Admin, Repair}
 
 -- Of these lines all but the last one at most were answered whole, and what was put is a front of
 -- their answers: so whoever was told `ok` has the entry among theirs. `next` is the number of the
@@ -103,6 +104,25 @@ pub record Unopened (before after : Outside) (ran : Result (Unit {0}) Stop) : Ty
 pub record LikeBook (told : Contents) (after : DisksAt) (stood : BookAt told) : Type 0 where
   pub left : (image : Contents) → Leaves after image → ReadsLike stood.fresh stood.book image
 
+-- Of a repair: where its entry was accepted and told, or an actuator failed at the end, with that
+-- entry; where nothing would be marked, like the book; else like the book, where nothing was put,
+-- or with the entry.
+abbrev pub HasRepaired : (before after : Outside) (asked : RepairAsked) (told : Contents)
+    → BookAt told → Contents → Result (Unit {0}) Stop → Type 0
+HasRepaired before after asked told stood image (Ok done) = HasRepair asked stood image
+HasRepaired before after asked told stood image (Err (Act index)) = HasRepair asked stood image
+HasRepaired before after asked told stood image (Err NotFaulty) =
+    ReadsLike stood.fresh stood.book image
+HasRepaired before after asked told stood image (Err _) =
+    ((after.out ≡ before.out) × ReadsLike stood.fresh stood.book image)
+    ⊎ HasRepair asked stood image
+
+-- each image that a crash now leaves is so
+pub record HeldRepair (before after : Outside) (asked : RepairAsked) (told : Contents)
+    (ran : Result (Unit {0}) Stop) (stood : BookAt told) : Type 0 where
+  pub left : (image : Contents) → Leaves after.disks image
+      → HasRepaired before after asked told stood image ran
+
 -- THE HEADLINE, one line a command
 abbrev pub Headline : Command → Outside → Outside → Result (Unit {0}) Stop → Type 0
 Headline Accept before after ran =
@@ -116,6 +136,10 @@ Headline Fmd before after ran =
 Headline (Admin asked) before after ran =
     Unopened before after ran
     ⊎ ((told : Contents) → Tells before.disks told → HoldsOfBook told (LikeBook told after.disks))
+Headline (Repair asked) before after ran =
+    Unopened before after ran
+    ⊎ ((told : Contents) → Tells before.disks told
+    → HoldsOfBook told (HeldRepair before after asked told ran))
 Headline (Init namespace) before after ran =
     (told : Contents) → Tells before.disks told → BookAt told
     → AreFromBefore before.disks after.disks

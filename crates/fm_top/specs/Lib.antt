@@ -4,6 +4,7 @@ pub mod Admin
 pub mod Answers
 pub mod Calls
 pub mod Draining
+pub mod DrainedBook
 pub mod Dump
 pub mod Ended
 pub mod Ending
@@ -21,6 +22,8 @@ pub mod Outside
 pub mod Recording
 pub mod RecordingLaws
 pub mod Refusing
+pub mod Repair
+pub mod RepairEntry
 pub mod Replaying
 pub mod Running
 pub mod Status

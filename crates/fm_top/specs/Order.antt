@@ -23,12 +23,13 @@ use Rattle.fm_topo.specs.declared.faults.TopoKind.{TopoKind}
 use Rattle.fm_top.specs.declared.stops.Stop.{Stop}
 use Rattle.fm_top.specs.declared.stops.Stop.TheVariants.{Rules, Topology, Damaged, Read, Write}
 use Rattle.fm_top.specs.declared.stops.Stop.TheVariants.{Disk, Memory, Full, Exists}
-use Rattle.fm_top.specs.declared.stops.Stop.TheVariants.{Graph, DamagedInput, Differs, Act}
+use Rattle.fm_top.specs.declared.stops.Stop.TheVariants.{Graph, DamagedInput, Differs, NotFaulty, Act}
 use Rattle.fm_top.specs.declared.words.Command.{Command}
 use Rattle.fm_top.specs.declared.words.Command.TheVariants.{Accept, Fmd, Replay, Init, Esc}
-use Rattle.fm_top.specs.declared.words.Command.TheVariants.{EscInput, Admin}
+use Rattle.fm_top.specs.declared.words.Command.TheVariants.{EscInput, Admin, Repair}
 use Rattle.fm_top.specs.Kept.{BookAt, FirstDamage, KeepsAsRead, KeepsOther}
 use Rattle.fm_top.specs.Outside.{Outside, SourceAt, disk_by_name, given_of, standing}
+use Rattle.fm_top.specs.RepairEntry.{MarksNothing, RepairAsked}
 
 -- what the looks depend on: what the input and the sources have, and have left behind the looks;
 -- and the bytes that each disk reads as, where it tells them
@@ -53,8 +54,8 @@ abbrev pub AreContents : World → Contents → Type 0
 AreContents w told = (name : DiskName) → w.disks name ≡ Some (content_named name told)
 
 -- a look: at the rule files, at the topology, at what the files come to over it, at the compiled
--- files of the input, whether there is a store, at the whole store, and whether what it keeps is
--- what was read
+-- files of the input, whether there is a store, at the whole store, whether what it keeps is what
+-- was read, and whether what an operator says marks a suspect
 pub data Look : Type 0 where
   at_rules : Look
   at_topology : Look
@@ -63,6 +64,7 @@ pub data Look : Type 0 where
   at_no_store : Look
   at_store : Look
   at_same : Look
+  at_marked : RepairAsked → Look
 
 -- THE ORDER OF REFUSALS, one line a command
 abbrev pub looks : Command → List Look
@@ -73,6 +75,7 @@ looks (Init namespace) = at_rules ∷ at_topology ∷ at_no_store ∷ []
 looks (Esc form) = at_rules ∷ at_topology ∷ at_graphs ∷ []
 looks EscInput = at_files ∷ []
 looks (Admin asked) = at_store ∷ []
+looks (Repair asked) = at_store ∷ at_marked asked ∷ []
 
 -- how a look ends the command
 abbrev pub Finds : World → Look → Stop → Type 0
@@ -96,9 +99,12 @@ Finds w at_store stop =
 Finds w at_same stop =
     (stop ≡ Differs) × (got : Sources) × ReadsSources standing w.sources w.sources_now (Ok got)
     × ((told : Contents) → AreContents w told → KeepsOther told got)
+Finds w (at_marked asked) stop =
+    (stop ≡ NotFaulty) × ((told : Contents) → AreContents w told → MarksNothing asked told)
 
--- what stands where the command goes on; where the input has more bytes than are taken, it is not
--- looked at as files
+-- What stands where the command goes on. Where the input has more bytes than are taken, it is not
+-- looked at as files. Whether something is marked is looked at in the drained book, and a limit may
+-- be reached on the way there: what stands then is said by what the command did.
 abbrev pub Passes : World → Look → Type 0
 Passes w at_rules =
     (files : List RuleFile) × FilesGave standing w.sources.rules w.sources_now.rules files
@@ -115,6 +121,7 @@ Passes w at_store = (told : Contents) → AreContents w told → BookAt told
 Passes w at_same =
     (got : Sources) × ReadsSources standing w.sources w.sources_now (Ok got)
     × ((told : Contents) → AreContents w told → KeepsAsRead told got)
+Passes w (at_marked asked) = Unit {0}
 
 -- the first look that ends the command ends it so
 abbrev pub FirstFinds : World → List Look → Stop → Type 0

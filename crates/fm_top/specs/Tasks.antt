@@ -1,5 +1,5 @@
 -- What becomes of an open store by what is done with it, and of its disks.
-use Rattle.std.specs.Prelude.{◌≡◌, List, true, Result, Ok, Err}
+use Rattle.std.specs.Prelude.{◌≡◌, List, true, Some, Result, Ok, Err}
 use Rattle.std.specs.Io.KnownBytes.{Appends, Consumes, IsAtEnd}
 use Rattle.dx_engine.specs.Diagnosers.{DiagnoserOf}
 use Rattle.fm_core.specs.Hands.{HandOf}
@@ -13,14 +13,15 @@ use Rattle.fm_top.specs.Fmd.{StoreRan}
 use Rattle.fm_top.specs.FmdStore.{StoreWorks}
 use Rattle.fm_top.specs.Outside.{SourceAt, SinkAt, DisksAt}
 use Rattle.fm_top.specs.Recording.{Recorded}
+use Rattle.fm_top.specs.Repair.{RepairDone, RepairHalts, RepairTried}
 use Rattle.fm_top.specs.Running.{RanAll, RanUntil}
 use Rattle.fm_logs.specs.declared.fault.StoreFault.{StoreFault}
 use Rattle.fm_top.specs.Stops.{of_store}
 use Rattle.fm_top.specs.declared.stops.Stop.{Stop}
 use Rattle.fm_top.specs.declared.tasks.StoreTask.{StoreTask}
-use Rattle.fm_top.specs.declared.tasks.StoreTask.TheVariants.{Accept, Fmd, Admin}
+use Rattle.fm_top.specs.declared.tasks.StoreTask.TheVariants.{Accept, Fmd, Admin, Repair}
 use Rattle.fm_top.specs.declared.tasks.TaskDone.{TaskDone}
-use Rattle.fm_top.specs.declared.tasks.TaskDone.TheVariants.{Nothing, Concluded, Text}
+use Rattle.fm_top.specs.declared.tasks.TaskDone.TheVariants.{Nothing, Concluded, Text, Repaired}
 
 -- WHAT BECOMES OF AN OPEN STORE, two lines a task: with these hands and this configuration in force
 abbrev pub TaskDoes : {D : Type 0} → Ghosts D → StoreTask → StoreOf D DiagnoserOf
@@ -41,6 +42,10 @@ TaskDoes g (Admin asked) old new hands conf input input_now out out_now (Ok (Tex
 TaskDoes g (Admin asked) old new hands conf input input_now out out_now (Err stop) =
     (input_now ≡ input) × (out_now ≡ out) × ((fault : StoreFault) × (stop ≡ of_store fault)
     × AdminDone g asked old new hands conf (Err fault))
+TaskDoes g (Repair asked) old new hands conf input input_now out out_now (Ok (Repaired one)) =
+    (input_now ≡ input) × (out_now ≡ out) × RepairDone g asked old new hands conf (Ok (Some one))
+TaskDoes g (Repair asked) old new hands conf input input_now out out_now (Err stop) =
+    (input_now ≡ input) × (out_now ≡ out) × RepairHalts g asked old new hands conf stop
 TaskDoes _ _ _ _ _ _ _ _ _ _ _ = ⊥
 
 -- WHAT WAS DONE WITH THE STORE ON SIX DISKS, two lines a task: it was opened, or not
@@ -58,4 +63,8 @@ TaskRan (Admin asked) input input_now out out_now disks disks_now (Ok (Text text
     (out_now ≡ out) × TextAsked asked disks disks_now (Ok text.items)
 TaskRan (Admin asked) input input_now out out_now disks disks_now (Err stop) =
     (out_now ≡ out) × TextAsked asked disks disks_now (Err stop)
+TaskRan (Repair asked) input input_now out out_now disks disks_now (Ok (Repaired one)) =
+    (out_now ≡ out) × RepairTried asked disks disks_now (Ok one)
+TaskRan (Repair asked) input input_now out out_now disks disks_now (Err stop) =
+    (out_now ≡ out) × RepairTried asked disks disks_now (Err stop)
 TaskRan _ _ _ _ _ _ _ _ = ⊥

@@ -1,9 +1,10 @@
 // The operator's commands that put one text.
-ghost use Rattle.std.specs.Prelude.{◌≡◌, ◌≤◌, Err, None, length};
+ghost use Rattle.std.specs.Prelude.{◌≡◌, ◌≤◌, Err, None, length, IfOk};
 ghost use Rattle.fm_drain.specs.DrainCalls.{AreAtCursors};
+ghost use Rattle.fm_saved.specs.declared.conf.Conf.{Conf};
 ghost use Rattle.fm_store.specs.StoreLeft.{AreSameStore};
 ghost use Rattle.fm_summary.specs.DrainedSummary.{diagnosers};
-ghost use Rattle.fm_top.specs.Admin.{AdminDone, AdminRan};
+ghost use Rattle.fm_top.specs.Admin.{AdminDone, AdminRan, rotated_text};
 ghost use Rattle.fm_top.specs.Calls.{names_of};
 ghost use Rattle.fm_top.specs.Outside.{SinkAt, SourceAt, sink_at, disks_at};
 ghost use Rattle.fm_top.specs.Tasks.{TaskDoes};
@@ -17,13 +18,41 @@ use crate::stops::Stop;
 use crate::tasks::{StoreTask, TaskDone};
 use crate::words::AdminCommand;
 use dx_engine::Diagnoser;
-use fm_admin::tell_faulty;
+use fm_admin::{rotate_drained, tell_faulty};
+use fm_bytes::NoMemory;
 use fm_core::Hand;
 use fm_init::Disks;
 use fm_outer::{Disk, Sink};
 use fm_saved::Conf;
 use fm_store::{Store, StoreFault};
 use std::alloc::Global;
+
+/// The text of a rotation to this base.
+fn rotated_text(alloc: Global, base: u64) -> Result<Vec<u8>, NoMemory>
+    ensures { IfOk result (λ text. text.items ≡ rotated_text base) }
+{
+    let text = format!(in alloc; "rotated {base}\n")?;
+    Ok(text.into_bytes())
+}
+
+/// Drains the store and rotates it, and tells the new base.
+fn rotate<D: Disk>(
+    alloc: Global,
+    store: &mut Store<D, Diagnoser>,
+    hands: Vec<Hand<Diagnoser>>,
+) -> Result<Vec<u8>, StoreFault>
+    requires ready { store.old.logs.closed ≡ None }
+    requires few { length hands.items ≤ 8 }
+    requires at_cursors { AreAtCursors diagnosers store.old.logs hands.items }
+    ensures did { (conf : Conf)
+        → AdminDone D.Disk AdminCommand.Rotate store.old store.new hands.items conf result }
+    ensures same_disks { AreSameStore D.Disk store.old store.new }
+{
+    match rotate_drained(store, alloc, hands) {
+        Ok(base) => Ok(rotated_text(alloc, base)?),
+        Err(fault) => Err(fault),
+    }
+}
 
 /// Does a command with an open store that has this configuration in force, and tells its text.
 fn text_of<D: Disk>(
@@ -43,6 +72,7 @@ fn text_of<D: Disk>(
         AdminCommand::Faulty => tell_faulty(store, alloc, hands, &conf.namespace),
         AdminCommand::Config => drained_conf(alloc, store, hands, conf),
         AdminCommand::Dump(options) => dump_text(alloc, options, store, hands, conf),
+        AdminCommand::Rotate => rotate(alloc, store, hands),
     }
 }
 
@@ -88,5 +118,6 @@ pub(crate) fn tell<K: Sink, D: Disk>(
         TaskDone::Text(text) => put_bytes(out, text.as_slice()),
         TaskDone::Nothing => Err(Stop::Memory),
         TaskDone::Concluded(_) => Err(Stop::Memory),
+        TaskDone::Repaired(_) => Err(Stop::Memory),
     }
 }

@@ -11,6 +11,7 @@ use crate::esc::{esc, esc_input};
 use crate::fmd::fmd;
 use crate::init::init;
 use crate::last::end;
+use crate::repairing::repair;
 use crate::replaying::replay;
 use crate::status::ToolStatus;
 use crate::stops::Stop;
@@ -33,10 +34,14 @@ use std::alloc::Global;
 /// rule file comes to over the topology: a line of its sizes, or with `-b` its compiled file.
 /// `esc -l` reads compiled files from the input, and puts the line of each, up to the first bad
 /// one. `fmadm faulty` opens the store with the modules of what it keeps, drains it, and puts
-/// what is faulty in the drained book. `fmdump` does so too, and puts the words about cases that
-/// its options keep, or with `-e` the entries since the last rotation. Of a command that stops, the
-/// last line says why. Nothing else is touched.
-/// `now` is the moment of the call, in nanoseconds since 1970; no command asks for it yet.
+/// what is faulty in the drained book; `fmadm config` does so too, and puts the namespace and what
+/// the rule files come to; `fmdump` puts the words about cases that its options keep, or with `-e`
+/// the entries since the last rotation; `fmadm rotate` goes on with the other error journal, moves
+/// the base to the end, and puts it. `fmadm repaired`, `fmadm replaced` and `fmadm acquit` drain
+/// the store, accept what was said where it marks a suspect of the drained book, drain it again,
+/// bring the actuators to what is wanted then, and put the number of the entry. Of a command that
+/// stops, the last line says why. Nothing else is touched. `now` is the moment of the call, in
+/// nanoseconds since 1970, which is that of what an operator says.
 pub fn tool<S: Source, K: Sink, D: Disk>(
     alloc: Global,
     words: &[ArgText],
@@ -66,14 +71,13 @@ pub fn tool<S: Source, K: Sink, D: Disk>(
           disks = disks_at D.Disk disks.new;
           acts = map (λ a. actuator_state (kind_text a) (held a) (act_failures a)) acts.new;
         } in
-        Does (command_of words.now) before after result }
-    ensures works_on { WorksOn (command_of words.now)
+        Does (command_of words.now now) before after result }
+    ensures works_on { WorksOn (command_of words.now now)
         (handed input.old rules.old topo.old disks.old acts.old)
         (handed input.new rules.new topo.new disks.new acts.new) }
     ensures same_disks { names_of D.name disks.new ≡ names_of D.name disks.old }
 {
-    let _ = now;
-    let Ok(command) = command_of(alloc, words) else {
+    let Ok(command) = command_of(alloc, words, now) else {
         return end(alloc, Err(Stop::Memory), out);
     };
     match command {
@@ -94,6 +98,10 @@ pub fn tool<S: Source, K: Sink, D: Disk>(
         Some(Command::EscInput) => end(alloc, esc_input(alloc, input, out), out),
         Some(Command::Admin(asked)) => {
             let ran = tell(alloc, asked, out, disks);
+            end(alloc, ran, out)
+        }
+        Some(Command::Repair(request)) => {
+            let ran = repair(alloc, request, out, disks, acts);
             end(alloc, ran, out)
         }
         None => end(alloc, Err(Stop::Usage), out),

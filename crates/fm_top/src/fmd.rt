@@ -16,7 +16,7 @@ ghost use Rattle.fm_top.specs.Tasks.{TaskDoes};
 use crate::as_read::is_as_read;
 use crate::opened::work_store;
 use crate::reading::run;
-use crate::settle::settle;
+use crate::settle::{Settlement, settle};
 use crate::stops::Stop;
 use crate::tasks::{StoreTask, Streams, TaskDone};
 use dx_engine::Diagnoser;
@@ -128,8 +128,15 @@ pub(crate) fn fmd<S: Source, K: Sink, D: Disk, A: ActCalls>(
     let task = StoreTask::Fmd(got);
     let done = work_store(alloc, &task, input, out, disks)?;
     match done {
-        TaskDone::Concluded(conclusion) => settle(alloc, &conclusion, acts, out),
+        TaskDone::Concluded(conclusion) => {
+            let settlement = Settlement {
+                wanted: conclusion.wanted,
+                text: conclusion.summary,
+            };
+            settle(alloc, &settlement, acts, out)
+        }
         TaskDone::Nothing => Err(Stop::Memory),
         TaskDone::Text(_) => Err(Stop::Memory),
+        TaskDone::Repaired(_) => Err(Stop::Memory),
     }
 }

@@ -177,6 +177,7 @@ fn put_last<K: Sink>(alloc: Global, stop: &Stop, out: &mut K) -> Result<(), Stop
         Stop::Full(kind) => put_full(*kind, out),
         Stop::Exists => put_text(out, "store exists\n"),
         Stop::Differs => put_text(out, "configuration differs\n"),
+        Stop::NotFaulty => put_text(out, "not faulty\n"),
         Stop::Act { index } => put_act(alloc, *index, out),
         Stop::Write | Stop::Memory => Ok(()),
     }

@@ -13,6 +13,7 @@ use crate::accept::accept_lines;
 use crate::admin::tell_text;
 use crate::fmd::diagnose_lines;
 use crate::lent::Lent;
+use crate::repairing::repair_store;
 use crate::stops::Stop;
 use crate::tasks::{StoreTask, Streams, TaskDone};
 use dx_engine::Diagnoser;
@@ -49,6 +50,7 @@ fn do_task<S: Source, K: Sink, D: Disk>(
         StoreTask::Accept => accept_lines(streams, store),
         StoreTask::Fmd(got) => diagnose_lines(streams, got, store, hands, conf),
         StoreTask::Admin(asked) => tell_text(streams.alloc, asked, store, hands, conf),
+        StoreTask::Repair(request) => repair_store(streams.alloc, request, store, hands, conf),
     }
 }
 

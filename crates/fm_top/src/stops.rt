@@ -55,6 +55,8 @@ pub enum Stop {
     Exists,
     /// The kept configuration in force isn't the one that was handed in.
     Differs,
+    /// What the operator says marks no suspect.
+    NotFaulty,
     /// An actuator failed, the first that did; its place among those handed in.
     Act {
         index: u32,
@@ -79,6 +81,7 @@ impl Stop {
             Stop::Full(_) => ToolStatus::Full,
             Stop::Exists => ToolStatus::Exists,
             Stop::Differs => ToolStatus::Differs,
+            Stop::NotFaulty => ToolStatus::NotFound,
             Stop::Act { .. } => ToolStatus::ActFault,
         }
     }

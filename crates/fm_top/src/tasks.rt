@@ -1,5 +1,7 @@
 // What a command does with a store that is open, and what is left to do once the disks are back.
+use crate::request::RepairRequest;
 use crate::words::AdminCommand;
+use fm_admin::Repaired;
 use fm_conclude::Conclusion;
 use fm_sources::Sources;
 use std::alloc::Global;
@@ -13,6 +15,8 @@ pub(crate) enum StoreTask {
     Fmd(Sources),
     /// It is drained, and what this command tells of it is told.
     Admin(AdminCommand),
+    /// It is drained, and takes what an operator says, where that marks a suspect.
+    Repair(RepairRequest),
 }
 
 /// What is left to do once the disks are back.
@@ -24,6 +28,8 @@ pub(crate) enum TaskDone {
     Concluded(Conclusion),
     /// This text is to be put.
     Text(Vec<u8>),
+    /// What is wanted now is to be taken out of use, and the number of the entry told.
+    Repaired(Repaired),
 }
 
 /// What a command over a store works with beside the disks: where memory comes from, what is done

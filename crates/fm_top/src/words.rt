@@ -1,13 +1,17 @@
 // The words of a command.
-ghost use Rattle.std.specs.Prelude.{◌≡◌, IfOk, IfErr};
+ghost use Rattle.std.specs.Prelude.{◌≡◌, ◌<◌, ◌^◌, IfOk, IfErr};
 ghost use Rattle.std.specs.Str.{bytes_eq};
 ghost use Rattle.uuid.specs.Text.{parsed};
-ghost use Rattle.fm_top.specs.Words.{TakesMemory, command_in, command_with, command_of, dump_with};
-ghost use Rattle.fm_top.specs.Words.{esc_with, fmadm_with, fmd_with, short_command};
+ghost use Rattle.fm_top.specs.Words.{TakesMemory, command_about, command_in, command_of};
+ghost use Rattle.fm_top.specs.Words.{command_with, dump_with, esc_with, fmadm_with, fmd_with};
+ghost use Rattle.fm_top.specs.Words.{path_of, repair_with, short_command};
 
+use crate::request::RepairRequest;
+use fm_admin::Repair;
 use fm_bytes::NoMemory;
 use fm_dump::{DumpFault, DumpOptions, read_options};
 use fm_esc::GraphForm;
+use fm_name::{Fmri, read_fmri};
 use fm_text::ArgText;
 use std::alloc::Global;
 use uuid::Uuid;
@@ -22,6 +26,8 @@ pub enum AdminCommand {
     Dump(DumpOptions),
     /// The configuration in force: its namespace, and how large what its rule files come to is.
     Config,
+    /// Entries to come go into the other error journal, and the base is moved to the end.
+    Rotate,
 }
 
 /// What is to be done.
@@ -42,6 +48,9 @@ pub enum Command {
     EscInput,
     /// The store is drained, and what this command tells of it is put.
     Admin(AdminCommand),
+    /// The store is drained, and takes what an operator says of repairs, where that marks a
+    /// suspect.
+    Repair(RepairRequest),
 }
 
 /// Whether the word is this text.
@@ -108,6 +117,8 @@ fn fmadm_with(second: &ArgText) -> Option<Command>
         Some(Command::Admin(AdminCommand::Faulty))
     } else if is_word(second, "config") {
         Some(Command::Admin(AdminCommand::Config))
+    } else if is_word(second, "rotate") {
+        Some(Command::Admin(AdminCommand::Rotate))
     } else {
         None
     }
@@ -134,14 +145,77 @@ fn command_with(word: &ArgText, second: &ArgText) -> Option<Command>
     }
 }
 
-/// The command of one word or two.
-fn short_command(words: &[ArgText]) -> Option<Command>
-    ensures { result ≡ short_command words.now }
+/// The path that a word is.
+fn read_path(alloc: Global, word: &ArgText) -> Result<Option<Fmri>, NoMemory>
+    ensures { IfOk result (λ path. path ≡ path_of word.now) }
+{
+    read_fmri(alloc, word.get())
+}
+
+/// What an operator says of repairs, by a word and what it is said of.
+#[tactic(auto, unfolding(crate::specs::Words::repair_with))]
+fn repair_with(alloc: Global, word: &ArgText, third: &ArgText) -> Result<Option<Repair>, NoMemory>
+    ensures { IfOk result (λ repair. repair ≡ repair_with word.now third.now) }
+{
+    if is_word(word, "repaired") {
+        match read_path(alloc, third)? {
+            Some(path) => Ok(Some(Repair::Repaired(path))),
+            None => Ok(None),
+        }
+    } else if is_word(word, "replaced") {
+        match read_path(alloc, third)? {
+            Some(path) => Ok(Some(Repair::Replaced(path))),
+            None => Ok(None),
+        }
+    } else if is_word(word, "acquit") {
+        match parse_uuid(third) {
+            Some(bytes) => Ok(Some(Repair::Acquit(Uuid::from_bytes(bytes)))),
+            None => Ok(None),
+        }
+    } else {
+        Ok(None)
+    }
+}
+
+/// The command of three words at a moment.
+#[tactic(auto, using(crate::proofs::Namespaces::repair_takes), unfolding(crate::specs::Words::command_about))]
+fn command_about(
+    alloc: Global,
+    word: &ArgText,
+    second: &ArgText,
+    third: &ArgText,
+    now: u64,
+) -> Result<Option<Command>, NoMemory>
+    requires { now < 2 ^ 62 }
+    ensures command { IfOk result
+        (λ command. command ≡ command_about word.now second.now third.now now) }
+    ensures wanted { IfErr result
+        (λ _. TakesMemory (command_about word.now second.now third.now now)) }
+{
+    if !is_word(word, "fmadm") {
+        return Ok(None);
+    }
+    match repair_with(alloc, second, third)? {
+        Some(repair) => Ok(Some(Command::Repair(RepairRequest::new(now, repair)))),
+        None => Ok(None),
+    }
+}
+
+/// The command of one word, two or three, at a moment.
+fn short_command(
+    alloc: Global,
+    words: &[ArgText],
+    now: u64,
+) -> Result<Option<Command>, NoMemory>
+    requires { now < 2 ^ 62 }
+    ensures command { IfOk result (λ command. command ≡ short_command words.now now) }
+    ensures wanted { IfErr result (λ _. TakesMemory (short_command words.now now)) }
 {
     match words {
-        [word] => command_in(word),
-        [word, second] => command_with(word, second),
-        _ => None,
+        [word] => Ok(command_in(word)),
+        [word, second] => Ok(command_with(word, second)),
+        [word, second, third] => command_about(alloc, word, second, third, now),
+        _ => Ok(None),
     }
 }
 
@@ -156,11 +230,16 @@ fn dump_with(alloc: Global, words: &[ArgText]) -> Result<Option<Command>, NoMemo
     }
 }
 
-/// The command of the words, if they are one. Words are compared as they stand, but for the options
-/// of `fmdump`, which take memory to be read.
-pub(crate) fn command_of(alloc: Global, words: &[ArgText]) -> Result<Option<Command>, NoMemory>
-    ensures command { IfOk result (λ command. command ≡ command_of words.now) }
-    ensures wanted { IfErr result (λ _. TakesMemory (command_of words.now)) }
+/// The command of the words at a moment, if they are one. Words are compared as they stand, but for
+/// the options of `fmdump`; these and a path take memory to be read.
+pub(crate) fn command_of(
+    alloc: Global,
+    words: &[ArgText],
+    now: u64,
+) -> Result<Option<Command>, NoMemory>
+    requires { now < 2 ^ 62 }
+    ensures command { IfOk result (λ command. command ≡ command_of words.now now) }
+    ensures wanted { IfErr result (λ _. TakesMemory (command_of words.now now)) }
 {
     let Some((word, options)) = words.split_first() else {
         return Ok(None);
@@ -168,5 +247,5 @@ pub(crate) fn command_of(alloc: Global, words: &[ArgText]) -> Result<Option<Comm
     if is_word(word, "fmdump") {
         return dump_with(alloc, options);
     }
-    Ok(short_command(words))
+    short_command(alloc, words, now)
 }

@@ -10,7 +10,7 @@ struct CommandHelp {
 }
 
 /// The commands that are built.
-const COMMANDS: [CommandHelp; 10] = [
+const COMMANDS: [CommandHelp; 14] = [
     CommandHelp {
         words: "init NAMESPACE",
         does: "makes a store of dx0.esc and on, and of topology.txt; NAMESPACE is a UUID",
@@ -30,6 +30,22 @@ const COMMANDS: [CommandHelp; 10] = [
     CommandHelp {
         words: "fmadm config",
         does: "tells the store's namespace, and what its rule files come to",
+    },
+    CommandHelp {
+        words: "fmadm repaired PATH",
+        does: "keeps that the resource at PATH was repaired, and takes it back into use",
+    },
+    CommandHelp {
+        words: "fmadm replaced PATH",
+        does: "keeps that what is at PATH and below was replaced, and takes it back into use",
+    },
+    CommandHelp {
+        words: "fmadm acquit UUID",
+        does: "keeps that the suspects of the case UUID are acquitted",
+    },
+    CommandHelp {
+        words: "fmadm rotate",
+        does: "goes on in a new error journal of the store, and tells the number of its entries",
     },
     CommandHelp {
         words: "fmdump [-e] [-V] [-c PATTERN] [-u UUID] [-t TIME] [-T TIME]",

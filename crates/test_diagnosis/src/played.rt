@@ -1,7 +1,7 @@
 //! A module that takes entries one by one, and what it says, as text.
 
 ghost use Rattle.std.specs.Prelude.{IfSome};
-ghost use Rattle.dx_rules.specs.Rulebooks.{rules_of};
+ghost use Rattle.dx_rules.specs.Rulebooks.{rules_in};
 ghost use Rattle.dx_standing.specs.Standing.{IsStanding};
 ghost use Rattle.fm_entry.specs.Entries.{IsSpelled};
 
@@ -75,9 +75,9 @@ fn put_open(alloc: Global, state: &StandingState, said: &mut String) -> Result<(
 
 /// Takes an entry, and tells what is said at it, which cases are open then, and a bar.
 fn take(alloc: Global, rules: &Rulebook, played: &mut Played, entry: &Entry) -> Result<(), Fail>
-    requires standing { IsStanding (rules_of rules.now) played.old.state }
+    requires standing { IsStanding (rules_in rules.now) played.old.state }
     requires spelled { IsSpelled entry.now }
-    ensures { IsStanding (rules_of rules.now) played.new.state }
+    ensures { IsStanding (rules_in rules.now) played.new.state }
 {
     let number = played.number;
     if number >= 1 << 46 {
@@ -115,8 +115,8 @@ fn entry_of(alloc: Global, line: &str) -> Option<Entry>
 }
 
 fn take_line(alloc: Global, rules: &Rulebook, played: &mut Played, line: &str) -> Result<(), Fail>
-    requires { IsStanding (rules_of rules.now) played.old.state }
-    ensures { IsStanding (rules_of rules.now) played.new.state }
+    requires { IsStanding (rules_in rules.now) played.old.state }
+    ensures { IsStanding (rules_in rules.now) played.new.state }
 {
     match entry_of(alloc, line) {
         Some(entry) => take(alloc, rules, played, &entry),
@@ -130,7 +130,7 @@ fn take_all(
     played: &mut Played,
     lines: &[&str],
 ) -> Result<(), Fail>
-    requires { IsStanding (rules_of rules.now) played.old.state }
+    requires { IsStanding (rules_in rules.now) played.old.state }
 {
     for line in lines {
         take_line(alloc, rules, played, line)?;

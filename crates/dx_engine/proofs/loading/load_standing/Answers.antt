@@ -1,5 +1,5 @@
 use Rattle.std.proofs.Common.{◌∙◌, ap, sym, subst}
-use Rattle.dx_rules.specs.Rulebooks.{rules_of}
+use Rattle.dx_rules.specs.Rulebooks.{rules_in}
 use Rattle.dx_state.specs.StateBytes.{diagnosis_bytes}
 use Rattle.dx_standing.specs.Standing.{stands_for, AreStanding}
 use Rattle.dx_engine.proofs.Loads.{loaded_same, loaded_stands}
@@ -13,6 +13,6 @@ returns-clause-ok c =
 
 pub returns-clause-standing : goal.returns-clause-standing
 returns-clause-standing c =
-    let r = rules_of c.args.rules.now in
+    let r = rules_in c.args.rules.now in
     subst (AreStanding r) (sym c.in_ok-standing.ensures)
     (loaded_stands r c.args.bytes.now c.in_ok-loaded.loaded c.in_ok-loaded.ensures.ok)

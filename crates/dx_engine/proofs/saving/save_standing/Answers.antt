@@ -2,23 +2,23 @@ use Rattle.std.proofs.Common.{◌∙◌, ◌++◌, ap, sym, subst, map}
 use Rattle.std.proofs.lemmas.Result.{on_ok_weaker}
 use Rattle.fm_core.specs.Meaning.{Diagnosis}
 use Rattle.dx_case.specs.Cases.{open_of}
-use Rattle.dx_rules.specs.Rulebooks.{rules_of}
+use Rattle.dx_rules.specs.Rulebooks.{rules_in}
 use Rattle.dx_restore.specs.declared.parts.Parts.{Parts}
 use Rattle.dx_restore.specs.Saving.{IsLawfulSomewhere}
 use Rattle.dx_state.specs.StateBytes.{diagnosis_bytes}
 use Rattle.dx_turn.specs.Tracking.{kept_of}
-use Rattle.dx_standing.specs.Standing.{parts_of}
+use Rattle.dx_standing.specs.Standing.{kept_parts}
 use Rattle.dx_engine.proofs.Saves.{somewhere, short_cases, ArePartsToSave, saved_state}
 use Rattle.dx_engine.proofs.saving.save_standing.Goals as goal
 
 pub kept_cases-requires : goal.kept_cases-requires
 kept_cases-requires c =
-    short_cases (rules_of c.args.rules.now) (parts_of c.args.standing.now) c.cases.result.now
+    short_cases (rules_in c.args.rules.now) (kept_parts c.args.standing.now) c.cases.result.now
     c.cases.ensures c.requires
 
 pub save-requires : goal.save-requires
 save-requires c =
-    let p = parts_of c.args.standing.now in
+    let p = kept_parts c.args.standing.now in
     let q : Parts = record {
       conf = c.conf.result;
       time = c.time.result;
@@ -37,11 +37,11 @@ save-requires c =
       engines = c.engines.ensures;
     } in
     subst IsLawfulSomewhere (sym (saved_state p q made))
-    (somewhere (rules_of c.args.rules.now) p c.requires)
+    (somewhere (rules_in c.args.rules.now) p c.requires)
 
 pub returns-clause-ok : goal.returns-clause-ok
 returns-clause-ok c =
-    let p = parts_of c.args.standing.now in
+    let p = kept_parts c.args.standing.now in
     let q : Parts = record {
       conf = c.conf.result;
       time = c.time.result;

@@ -2,27 +2,22 @@
 use Rattle.std.proofs.Common.{◌≡◌, ◌++◌, ℕ, List, [], sym, ap, ◌∙◌, map, subst, slice_get}
 use Rattle.ev_tree.specs.Pattern.{Pattern, view_pattern}
 use Rattle.ev_tree.specs.declared.tree.SidePattern.{SidePattern}
-use Rattle.ev_check.specs.CheckedFile.{view_prop}
-use Rattle.ev_fit.specs.Names.{Knows}
 use Rattle.ev_fit.specs.Sheets.{AreTablesOf}
-use Rattle.ev_fit.proofs.Known.{knows_left, knows_right}
 use Rattle.ev_fit.proofs.candidates.tables_of.Goals as goal
 
 pub add_tables-requires-clause-names : goal.add_tables-requires-clause-names
 add_tables-requires-clause-names c =
     λ j q at.
-    subst (λ (vs : List (List ℕ)). Knows vs q.parts) (sym c.requires.names)
-    (knows_left (view_prop c.args.prop.now) j q
+    c.requires.names.left j q
     (ap (λ (ps : List SidePattern). slice_get (map view_pattern ps) j) (sym c.as_slice.ensures)
-    ∙ at))
+    ∙ at)
 
 pub add_tables-requires-2-clause-names : goal.add_tables-requires-2-clause-names
 add_tables-requires-2-clause-names c =
     λ j q at.
-    subst (λ (vs : List (List ℕ)). Knows vs q.parts) (sym c.requires.names)
-    (knows_right (view_prop c.args.prop.now) j q
+    c.requires.names.right j q
     (ap (λ (ps : List SidePattern). slice_get (map view_pattern ps) j) (sym c.as_slice-2.ensures)
-    ∙ at))
+    ∙ at)
 
 pub returns : goal.returns
 returns c =

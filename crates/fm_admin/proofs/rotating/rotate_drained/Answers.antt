@@ -3,6 +3,7 @@ use Rattle.std.proofs.Common.{sym, subst}
 use Rattle.fm_drain.specs.DrainCalls.{DrainDoes, DrainsOnBook}
 use Rattle.fm_store.specs.Rotating.{RotateDoes}
 use Rattle.fm_store.specs.StoreCalls.{HandsAreDone, saves_of}
+use Rattle.fm_admin.proofs.Counts.{rotation_counts}
 use Rattle.fm_admin.proofs.Rotations.{refused_after, refused_before, rotated_after, rotation_book}
 use Rattle.fm_admin.proofs.Rotations.{stopped_rotation}
 use Rattle.fm_admin.proofs.rotating.rotate_drained.Goals as goal
@@ -10,6 +11,15 @@ use Rattle.fm_admin.proofs.rotating.rotate_drained.Goals as goal
 pub returns-in-Ok-clause-rotated : goal.returns-in-Ok-clause-rotated
 returns-in-Ok-clause-rotated g c =
     rotated_after g.D.Disk g.M.Module c.args.store.now c.drain-hands.new.store c.rotate.new.self
+    c.args.hands.items c.drain-hands.result.0.items c.in-Ok.field-0 c.rotate.result
+    (subst (λ r. DrainDoes g.D.Disk g.M.Module c.args.store.now c.drain-hands.new.store
+    c.args.hands.items c.drain-hands.result.0.items r) c.in-Ok.is c.drain-hands.ensures.does)
+    (subst (λ hands. RotateDoes g.D.Disk c.drain-hands.new.store c.rotate.new.self
+    (saves_of g.M.Module hands) c.rotate.result) c.deref.ensures.value c.rotate.ensures.does)
+
+pub returns-in-Ok-clause-quiet : goal.returns-in-Ok-clause-quiet
+returns-in-Ok-clause-quiet g c =
+    rotation_counts g.D.Disk g.M.Module c.args.store.now c.drain-hands.new.store c.rotate.new.self
     c.args.hands.items c.drain-hands.result.0.items c.in-Ok.field-0 c.rotate.result
     (subst (λ r. DrainDoes g.D.Disk g.M.Module c.args.store.now c.drain-hands.new.store
     c.args.hands.items c.drain-hands.result.0.items r) c.in-Ok.is c.drain-hands.ensures.does)

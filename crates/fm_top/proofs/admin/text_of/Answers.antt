@@ -1,6 +1,6 @@
 use denote.Param.Send.{sendable}
 use Rattle.dx_engine.proofs.Crossing.{diagnoser_send}
-use Rattle.fm_top.specs.declared.words.AdminCommand.TheVariants.{Config, Dump, Faulty}
+use Rattle.fm_top.specs.declared.words.AdminCommand.TheVariants.{Config, Dump, Faulty, Rotate}
 use Rattle.fm_top.proofs.Texts.{done_as, faulty_done}
 use Rattle.fm_top.proofs.admin.text_of.Goals as goal
 
@@ -26,3 +26,8 @@ returns-in-Dump-clause-did g c =
     done_as g.D.Disk c.args.asked.now (Dump c.in-Dump.options) c.args.store.now
     c.dump_text.new.store c.args.hands.items c.args.conf.now c.dump_text.result c.in-Dump.is
     c.dump_text.ensures.did
+
+pub returns-in-Rotate-clause-did : goal.returns-in-Rotate-clause-did
+returns-in-Rotate-clause-did g c =
+    done_as g.D.Disk c.args.asked.now Rotate c.args.store.now c.rotate.new.store
+    c.args.hands.items c.args.conf.now c.rotate.result c.in-Rotate.is (c.rotate.ensures.did c.args.conf.now)

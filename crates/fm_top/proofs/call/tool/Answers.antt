@@ -1,12 +1,14 @@
 use Rattle.std.proofs.Common.{refl, rules, Some}
 use Rattle.fm_top.specs.Outside.{sink_at}
 use Rattle.fm_top.specs.declared.words.Command.TheVariants.{Accept, Fmd, Replay, Init, Esc}
-use Rattle.fm_top.specs.declared.words.Command.TheVariants.{EscInput, Admin}
+use Rattle.fm_top.specs.declared.words.Command.TheVariants.{EscInput, Admin, Repair}
 use Rattle.fm_top.proofs.AdminDoing.{does_tell}
 use Rattle.fm_top.proofs.Doing.{does_as, does_accept, does_replay}
 use Rattle.fm_top.proofs.Escs.{does_esc, does_input, esc_standing, input_standing}
 use Rattle.fm_top.proofs.FmdDoing.{does_fmd}
 use Rattle.fm_top.proofs.Inits.{does_init, ends_standing}
+use Rattle.fm_top.proofs.RepairDoing.{does_repair}
+use Rattle.fm_top.proofs.Wanting.{does_want, works_want}
 use Rattle.fm_top.proofs.call.tool.Goals as goal
 
 pub returns-in-Some-Accept-clause-does : goal.returns-in-Some-Accept-clause-does
@@ -57,3 +59,18 @@ returns-in-Some-Admin-clause-does g c =
     (does_tell c.in-Some-Admin.asked _ _ (sink_at g.K.Sink c.tell-ran.new.out) c.tell-ran.result _
     c.tell-ran.ensures.ran c.end-in-Some-Admin.ensures
     (record { rules = refl; topo = refl; acts = refl }) refl)
+
+pub returns-in-Some-Repair-clause-does : goal.returns-in-Some-Repair-clause-does
+returns-in-Some-Repair-clause-does g c =
+    does_as _ (Some (Repair c.in-Some-Repair.request)) _ _ _ (search rules)
+    (does_repair c.in-Some-Repair.request _ _ (sink_at g.K.Sink c.repair-ran.new.out)
+    c.repair-ran.result _ c.repair-ran.ensures.ran c.end-in-Some-Repair.ensures refl refl refl)
+
+pub returns-else-clause-does : goal.returns-else-clause-does
+returns-else-clause-does g c =
+    does_want _ _ _ c.end-else.result c.else.ensures.wanted c.end-else.ensures
+    (record { rules = refl; topo = refl; acts = refl }) refl
+    (λ name. record { seen = refl; images = λ image is. is })
+
+pub returns-else-clause-works_on : goal.returns-else-clause-works_on
+returns-else-clause-works_on g c = works_want _ _ c.else.ensures.wanted

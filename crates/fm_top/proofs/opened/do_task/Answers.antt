@@ -1,6 +1,6 @@
 use Rattle.std.proofs.Common.{rules}
 use Rattle.fm_top.specs.Outside.{source_at, sink_at}
-use Rattle.fm_top.specs.declared.tasks.StoreTask.TheVariants.{Accept, Admin}
+use Rattle.fm_top.specs.declared.tasks.StoreTask.TheVariants.{Accept, Admin, Repair}
 use Rattle.fm_top.proofs.TasksDone.{does_task}
 use Rattle.fm_top.proofs.opened.do_task.Goals as goal
 
@@ -13,4 +13,10 @@ pub returns-in-Admin-clause-does : goal.returns-in-Admin-clause-does
 returns-in-Admin-clause-does g c =
     does_task g.D.Disk _ (Admin c.in-Admin.asked) _ _ _ _ _ _ _ _ _ (search rules)
     (c.tell_text.ensures.does (source_at g.S.Source c.args.streams.now.input.now)
+    (sink_at g.K.Sink c.args.streams.now.out.now))
+
+pub returns-in-Repair-clause-does : goal.returns-in-Repair-clause-does
+returns-in-Repair-clause-does g c =
+    does_task g.D.Disk _ (Repair c.in-Repair.request) _ _ _ _ _ _ _ _ _ (search rules)
+    (c.repair_store.ensures.does (source_at g.S.Source c.args.streams.now.input.now)
     (sink_at g.K.Sink c.args.streams.now.out.now))

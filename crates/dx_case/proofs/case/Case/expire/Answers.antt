@@ -2,13 +2,13 @@ use Rattle.std.proofs.Common.{◌-◌, Some, refl, arith}
 use Rattle.ev_graph.specs.Sets.{is_member}
 use Rattle.dx_words.specs.Cases.{cuts_of}
 use Rattle.dx_case.specs.Changes.{gone_of}
-use Rattle.dx_case.specs.Cases.{parts_of, open_case, allowed_at}
+use Rattle.dx_case.specs.Cases.{case_parts, open_case, allowed_at}
 use Rattle.dx_case.proofs.Steps.{lives_of, lost, expired, quiet}
 use Rattle.dx_case.proofs.case.Case.expire.Goals as goal
 
 pub lose-requires : goal.lose-requires
 lose-requires c =
-    let p = parts_of c.args.self.now in
+    let p = case_parts c.args.self.now in
     record {
       lives = lives_of c.args.graph.now (cuts_of (open_case p)) (is_member p.observed)
           (allowed_at c.args.graph.now p.time (open_case p)) p.candidates p.reports
@@ -20,7 +20,7 @@ lose-requires c =
 pub returns-then-self-age : goal.returns-then-self-age
 returns-then-self-age c =
     let g = c.args.graph.now in
-    let p = parts_of c.args.self.now in
+    let p = case_parts c.args.self.now in
     let s = c.lose.ensures.same in
     let settled = rw c.saturating_sub-age.ensures at c.lose.ensures.changed in
     let awaited = rw (
@@ -43,7 +43,7 @@ returns-then-self-age c =
 pub returns-else-self-age : goal.returns-else-self-age
 returns-else-self-age c =
     let g = c.args.graph.now in
-    let p = parts_of c.args.self.now in
+    let p = case_parts c.args.self.now in
     record {
       case = quiet g p c.requires.case c.args.moment c.requires.before
           (omega (arith, c.if-self-age.false, c.saturating_sub-age.ensures));

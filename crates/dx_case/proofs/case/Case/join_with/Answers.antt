@@ -2,14 +2,14 @@ use Rattle.std.proofs.Common.{List, ltb, map, refl, ap, ◌∙◌}
 use Rattle.ev_graph.specs.Sets.{is_member}
 use Rattle.ev_graph.specs.declared.instances.Link.{Link}
 use Rattle.dx_words.specs.Cases.{cuts_of, inserted, broken_of, with_links}
-use Rattle.dx_case.specs.Cases.{parts_of, open_case, allowed_at}
+use Rattle.dx_case.specs.Cases.{case_parts, open_case, allowed_at}
 use Rattle.dx_case.proofs.Standing.{taken_allowed, taken_report}
 use Rattle.dx_case.proofs.Steps.{lives_of, joined_case}
 use Rattle.dx_case.proofs.case.Case.join_with.Goals as goal
 
 pub cut-requires : goal.cut-requires
 cut-requires c =
-    let p = parts_of c.args.self.now in
+    let p = case_parts c.args.self.now in
     record {
       lives = lives_of c.args.graph.now (cuts_of (open_case p)) (is_member p.observed)
           (allowed_at c.args.graph.now p.time (open_case p)) p.candidates p.reports
@@ -20,7 +20,7 @@ cut-requires c =
 pub returns : goal.returns
 returns c =
     let g = c.args.graph.now in
-    let p = parts_of c.args.self.now in
+    let p = case_parts c.args.self.now in
     let s = c.cut.ensures.same in
     let settled = c.cut.ensures.changed in
     let obs = c.in_ok-put_number.ensures.put

@@ -1,13 +1,13 @@
 use Rattle.std.proofs.Common.{◌∙◌, ap}
 use Rattle.ev_graph.specs.Lawful.{GraphValue}
-use Rattle.dx_rules.specs.Rulebooks.{rules_of}
+use Rattle.dx_rules.specs.Rulebooks.{rules_in}
 use Rattle.dx_turn.specs.Reloading.{fresh_rates}
 use Rattle.dx_standing.proofs.Beginnings.{fresh_state, fresh_stands}
 use Rattle.dx_standing.proofs.standing.StandingState.fresh.Goals as goal
 
 pub returns-clause-state : goal.returns-clause-state
 returns-clause-state c =
-    fresh_state (rules_of c.args.rules.now) c.first_of-conf.result c.new.result.items
+    fresh_state (rules_in c.args.rules.now) c.first_of-conf.result c.new.result.items
     c.new-2.result.items c.in_ok-engines.engines.items (record {
       first = c.first_of-conf.ensures;
       none_open = c.new.ensures.items;
@@ -18,7 +18,7 @@ returns-clause-state c =
 
 pub returns-clause-standing : goal.returns-clause-standing
 returns-clause-standing c =
-    fresh_stands (rules_of c.args.rules.now) c.first_of-conf.result c.new.result.items
+    fresh_stands (rules_in c.args.rules.now) c.first_of-conf.result c.new.result.items
     c.new-2.result.items c.in_ok-engines.engines.items c.requires.rules c.requires.there (record {
       first = c.first_of-conf.ensures;
       none_open = c.new.ensures.items;

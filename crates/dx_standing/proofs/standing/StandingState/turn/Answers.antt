@@ -1,22 +1,22 @@
 use Rattle.std.proofs.Common.{◌∙◌, ap, sym, refl, subst, max}
 use Rattle.std.proofs.lemmas.Result.{on_ok_weaker, IfOk-weaker}
-use Rattle.dx_rules.specs.Rulebooks.{rules_of}
+use Rattle.dx_rules.specs.Rulebooks.{rules_in}
 use Rattle.dx_step.proofs.Stepping.{lawful_is}
 use Rattle.dx_turn.specs.declared.work.Work.{Work}
 use Rattle.dx_turn.specs.Tracking.{kept_of}
-use Rattle.dx_standing.specs.Standing.{parts_of, stands_for, state_of, AreStanding}
+use Rattle.dx_standing.specs.Standing.{kept_parts, stands_for, state_of, AreStanding}
 use Rattle.dx_standing.proofs.Placing.{begins, begun_told, begun_ready, begun_ascend}
 use Rattle.dx_standing.proofs.Placing.{ended_ascend, turned, undone_same, on_either}
 use Rattle.dx_standing.proofs.standing.StandingState.turn.Goals as goal
 
 pub ground-ground-requires : goal.ground-ground-requires
 ground-ground-requires c =
-    (lawful_is (rules_of c.args.rules.now) (state_of c.args.self.now)
+    (lawful_is (rules_in c.args.rules.now) (state_of c.args.self.now)
     c.requires.standing.lawful).there
 
 pub turn-requires-clause-told : goal.turn-requires-clause-told
 turn-requires-clause-told c =
-    let p = parts_of c.args.self.now in
+    let p = kept_parts c.args.self.now in
     let e = c.args.entry.now in
     let w : Work = record {
       cases = c.replace-cases.result;
@@ -31,7 +31,7 @@ turn-requires-clause-told c =
 
 pub turn-requires-clause-ready : goal.turn-requires-clause-ready
 turn-requires-clause-ready c =
-    let p = parts_of c.args.self.now in
+    let p = kept_parts c.args.self.now in
     let e = c.args.entry.now in
     let w : Work = record {
       cases = c.replace-cases.result;
@@ -46,7 +46,7 @@ turn-requires-clause-ready c =
 
 pub turn-requires-clause-ascend : goal.turn-requires-clause-ascend
 turn-requires-clause-ascend c =
-    let p = parts_of c.args.self.now in
+    let p = kept_parts c.args.self.now in
     let e = c.args.entry.now in
     let w : Work = record {
       cases = c.replace-cases.result;
@@ -61,7 +61,7 @@ turn-requires-clause-ascend c =
 
 pub put-requires : goal.put-requires
 put-requires c =
-    let p = parts_of c.args.self.now in
+    let p = kept_parts c.args.self.now in
     let e = c.args.entry.now in
     let w : Work = record {
       cases = c.replace-cases.result;
@@ -78,7 +78,7 @@ put-requires c =
 
 pub returns-in-Ok-clause-says : goal.returns-in-Ok-clause-says
 returns-in-Ok-clause-says c =
-    let p = parts_of c.args.self.now in
+    let p = kept_parts c.args.self.now in
     let e = c.args.entry.now in
     let w : Work = record {
       cases = c.replace-cases.result;
@@ -97,7 +97,7 @@ returns-in-Ok-clause-says c =
 
 pub returns-in-Ok-clause-after : goal.returns-in-Ok-clause-after
 returns-in-Ok-clause-after c =
-    let p = parts_of c.args.self.now in
+    let p = kept_parts c.args.self.now in
     let e = c.args.entry.now in
     let w : Work = record {
       cases = c.replace-cases.result;
@@ -116,7 +116,7 @@ returns-in-Ok-clause-after c =
 
 pub returns-in-Ok-clause-standing : goal.returns-in-Ok-clause-standing
 returns-in-Ok-clause-standing c =
-    let p = parts_of c.args.self.now in
+    let p = kept_parts c.args.self.now in
     let e = c.args.entry.now in
     let w : Work = record {
       cases = c.replace-cases.result;
@@ -124,7 +124,7 @@ returns-in-Ok-clause-standing c =
       told = c.new-2.result;
     } in
     let d = c.ground-ground.result in
-    let r = rules_of c.args.rules.now in
+    let r = rules_in c.args.rules.now in
     let put = turned c.args.rules.now d p _ c.args.number e c.in-Ok.reloaded w c.turn.new.work
     c.max-time.result c.requires.number
     (begins c.args.rules.now d p _ e w c.max-time.result c.requires.standing

@@ -1,7 +1,10 @@
 use Rattle.std.proofs.Common.{◌≡◌, ◌++◌}
 use Rattle.std.specs.Prelude.{flat_map}
+use Rattle.fm_status.specs.Rows.{placed_rows}
 use Rattle.fm_status.specs.Wanted.{row_paths}
 use Rattle.fm_status.proofs.status.Status.wanted.Given as goal
 
-abbrev pub invariant-rows : goal.invariant-rows
-invariant-rows l = l.paths.items ++ flat_map row_paths l.row-iterator ≡ flat_map row_paths l.fn.self
+abbrev pub invariant-places : goal.invariant-places
+invariant-places l =
+    l.paths.items ++ flat_map row_paths (placed_rows l.self-inside.rows.items l.place-iterator)
+    ≡ flat_map row_paths l.fn.self

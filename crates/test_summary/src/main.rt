@@ -3,3 +3,6 @@
 
 #[cfg(test)]
 mod summaries;
+
+/// Nothing: the tests are what this program is for.
+fn main() {}

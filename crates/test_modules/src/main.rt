@@ -7,3 +7,6 @@ mod opening;
 mod refused;
 #[cfg(test)]
 mod stores;
+
+/// Nothing: the tests are what this program is for.
+fn main() {}

@@ -12,3 +12,6 @@ mod payloads;
 mod played;
 #[cfg(test)]
 mod solved;
+
+/// Nothing: the tests are what this program is for.
+fn main() {}

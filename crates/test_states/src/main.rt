@@ -12,3 +12,6 @@ mod refused;
 mod ruled;
 #[cfg(test)]
 mod spelled;
+
+/// Nothing: the tests are what this program is for.
+fn main() {}
