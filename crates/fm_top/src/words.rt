@@ -202,11 +202,7 @@ fn command_about(
 }
 
 /// The command of one word, two or three, at a moment.
-fn short_command(
-    alloc: Global,
-    words: &[ArgText],
-    now: u64,
-) -> Result<Option<Command>, NoMemory>
+fn short_command(alloc: Global, words: &[ArgText], now: u64) -> Result<Option<Command>, NoMemory>
     requires { now < 2 ^ 62 }
     ensures command { IfOk result (λ command. command ≡ short_command words.now now) }
     ensures wanted { IfErr result (λ _. TakesMemory (short_command words.now now)) }
