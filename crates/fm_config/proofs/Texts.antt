@@ -1,10 +1,10 @@
 -- The texts of a configuration, one after another.
-use Rattle.std.proofs.Common.{◌≡◌, ℕ, ◌+◌, ◌<◌, List, [], ◌∷◌, ◌++◌, length, map, take, get_or}
-use Rattle.std.proofs.Common.{refl, sym, ap, subst, inr}
+use Rattle.std.proofs.Common.{◌≡◌, ℕ, ◌+◌, ◌<◌, List, [], ◌∷◌, ◌++◌, length, take, get_or}
+use Rattle.std.proofs.Common.{refl, sym, ap, ◌∙◌, subst, inr}
+use Rattle.std.proofs.lemmas.List.{take_more}
 use Rattle.std.proofs.lemmas.Option.{slice_get_read}
 use Rattle.fm_modules.specs.KeptTexts.{AreRefusedTexts, EachHas, IsRefusedConf, IsRefusedText}
 use Rattle.fm_modules.specs.KeptTexts.{IsTopologyText}
-use Rattle.fm_modules.proofs.KeptRows.{each_more}
 use Rattle.fm_saved.specs.declared.conf.Conf.{Conf}
 use Rattle.fm_topo.specs.Fault.{IsClean}
 use Rattle.fm_topo.specs.Topology.{Topology, topology_of}
@@ -12,18 +12,23 @@ use Rattle.fm_config.specs.Sizes.{ConfCause}
 use Rattle.fm_config.specs.declared.fault.ConfFault.{ConfFault}
 use Rattle.fm_config.specs.declared.fault.ConfFault.TheVariants.{Refused, NoMemory}
 
-map_same : {X : Type 0} (xs : List X) → map (λ x. x) xs ≡ xs
-map_same [] = refl
-map_same (x ∷ xs) = ap (λ ys. x ∷ ys) (map_same xs)
+module _ {A B : Type 0} (has : A → B → Type 0) where
+  each_push : (xs : List A) (ys : List B) (x : A) (y : B) → EachHas has xs ys → has x y
+      → EachHas has (xs ++ x ∷ []) (ys ++ y ∷ [])
+  each_push [] [] x y each one = (one, tt)
+  each_push [] (z ∷ ys) x y each one = absurd each
+  each_push (w ∷ xs) [] x y each one = absurd each
+  each_push (w ∷ xs) (z ∷ ys) x y each one = (each.0, each_push xs ys x y each.1 one)
 
--- one more, as a loop makes it
-pub each_next : {A B : Type 0} (has : A → B → Type 0) (xs : List A) (i : ℕ) (x : A)
-    (ys new : List B) (y : B) → i < length xs → x ≡ get_or xs i x → EachHas has (take i xs) ys
-    → has x y → new ≡ ys ++ y ∷ [] → EachHas has (take (i + 1) xs) new
-each_next has xs i x ys new y low is each one new_is =
-    subst (EachHas has (take (i + 1) xs)) (map_same new)
-    (each_more has (λ y. y) xs i x ys new y low is
-    (subst (EachHas has (take i xs)) (sym (map_same ys)) each) one new_is)
+  -- one more, as a loop makes it
+  pub each_next : (xs : List A) (i : ℕ) (x : A) (ys new : List B) (y : B) → i < length xs
+      → x ≡ get_or xs i x → EachHas has (take i xs) ys → has x y → new ≡ ys ++ y ∷ []
+      → EachHas has (take (i + 1) xs) new
+  each_next xs i x ys new y low is each one new_is =
+      subst (λ ws. EachHas has ws new)
+      (sym (take_more xs i x low ∙ ap (λ w. take i xs ++ w ∷ []) (sym is)))
+      (subst (λ zs. EachHas has (take i xs ++ x ∷ []) zs) (sym new_is)
+      (each_push (take i xs) ys x y each one))
 
 -- one of all texts
 pub one_refused : (topo : Topology) (texts : List (List ℕ)) (i : ℕ) (text : List ℕ)
