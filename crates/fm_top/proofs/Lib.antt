@@ -7,7 +7,6 @@ pub mod Confs
 pub mod CountLines
 pub mod Cuts
 pub mod Doing
-pub mod DumpWords
 pub mod Dumps
 pub mod Escs
 pub mod Exactness

@@ -6,6 +6,7 @@ use Rattle.fm_admin.specs.Repairing.{IsRepaired, IsRepairedBy, RepairDid, Repair
 use Rattle.fm_admin.specs.Repairing.{RepairRefused, RepairsBook, TakeRefused, TakesAndTells}
 use Rattle.fm_admin.specs.Repairing.{TookAndDrained}
 use Rattle.fm_admin.specs.Telling.{TellsBook, WasDrained}
+use Rattle.fm_admin.specs.declared.marking.RepairOrder.{RepairOrder}
 use Rattle.fm_admin.specs.declared.repairing.Repaired.{Repaired}
 use Rattle.fm_conclude.specs.Concluding.{NoDiskFailed, SomeDiskFailed}
 use Rattle.fm_core.specs.Book.{ModuleState}
@@ -172,6 +173,15 @@ module _ {D : Type 0} (g : Ghosts D) (asked : RepairAsked) (old new : StoreOf D 
       → AllFollow diagnosers k.book hands → RepairOnBook g asked fresh new k conf answer
   on_book answer book fresh k stands follow = let b = book fresh k stands follow in
       found_book fresh k b.after_look b.found answer b.looks b.follows
+
+  -- what was asked for is said of the order that says it
+  pub as_asked : (order : RepairOrder) (answer : Result (Option Repaired) StoreFault)
+      → order ≡ order_by conf asked
+      → ((fresh : List ModuleState) (k : StoreBook) → StoreStandsFor g fresh old k
+      → AllFollow diagnosers k.book hands → RepairsBook g fresh old new k order answer)
+      → OnBook answer
+  as_asked order answer same book fresh k stands follow =
+      subst (λ one. RepairsBook g fresh old new k one answer) same (book fresh k stands follow)
 
   pub repair_done : (answer : Result (Option Repaired) StoreFault)
       → IfOk answer (RepairDid g old new)

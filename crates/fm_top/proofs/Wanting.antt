@@ -2,7 +2,7 @@
 use Rattle.std.proofs.Common.{◌≡◌, inl, inr, ℕ, zero, suc, List, [], take, refl, subst, arith}
 use Rattle.std.proofs.Common.{Option, Some, None, Err}
 use Rattle.std.specs.Io.KnownBytes.{Appends}
-use Rattle.fm_top.specs.Calls.{Does, Handed, WorksOn}
+use Rattle.fm_top.specs.Calls.{Does}
 use Rattle.fm_top.specs.Ending.{EndsAs}
 use Rattle.fm_top.specs.Init.{AreUnwritten}
 use Rattle.fm_top.specs.Outside.{Outside, SinkAt}
@@ -61,11 +61,3 @@ does_want (Some (Admin asked)) before after result takes ends rests unread untou
       unsaid = refl;
     })) ends rests unread
 does_want (Some _) before after result takes ends rests unread untouched = absurd takes
-
--- and nothing was worked on
-pub works_want : {S D A : Type 0} (o : Option Command) (old : Handed S D A) → TakesMemory o
-    → WorksOn o old old
-works_want None old takes = refl
-works_want (Some (Repair asked)) old takes = refl
-works_want (Some (Admin asked)) old takes = refl
-works_want (Some _) old takes = absurd takes

@@ -77,8 +77,9 @@ pub fn tool<S: Source, K: Sink, D: Disk>(
         (handed input.new rules.new topo.new disks.new acts.new) }
     ensures same_disks { names_of D.name disks.new ≡ names_of D.name disks.old }
 {
-    let Ok(command) = command_of(alloc, words, now) else {
-        return end(alloc, Err(Stop::Memory), out);
+    let command = match command_of(alloc, words, now) {
+        Ok(command) => command,
+        Err(_) => return end(alloc, Err(Stop::Memory), out),
     };
     match command {
         Some(Command::Accept) => end(alloc, accept(alloc, input, out, disks), out),

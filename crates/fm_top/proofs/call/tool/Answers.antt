@@ -8,14 +8,14 @@ use Rattle.fm_top.proofs.Escs.{does_esc, does_input, esc_standing, input_standin
 use Rattle.fm_top.proofs.FmdDoing.{does_fmd}
 use Rattle.fm_top.proofs.Inits.{does_init, ends_standing}
 use Rattle.fm_top.proofs.RepairDoing.{does_repair}
-use Rattle.fm_top.proofs.Wanting.{does_want, works_want}
+use Rattle.fm_top.proofs.Wanting.{does_want}
 use Rattle.fm_top.proofs.call.tool.Goals as goal
 
 pub returns-in-Some-Accept-clause-does : goal.returns-in-Some-Accept-clause-does
 returns-in-Some-Accept-clause-does g c =
     does_as _ (Some Accept) _ _ _ (search rules)
     (does_accept _ _ (sink_at g.K.Sink c.accept.new.out) c.accept.result _ c.accept.ensures.ran
-    c.end.ensures (record { rules = refl; topo = refl; acts = refl }))
+    c.end-in-Some-Accept.ensures (record { rules = refl; topo = refl; acts = refl }))
 
 pub returns-in-Some-Fmd-clause-does : goal.returns-in-Some-Fmd-clause-does
 returns-in-Some-Fmd-clause-does g c =
@@ -66,11 +66,8 @@ returns-in-Some-Repair-clause-does g c =
     (does_repair c.in-Some-Repair.request _ _ (sink_at g.K.Sink c.repair-ran.new.out)
     c.repair-ran.result _ c.repair-ran.ensures.ran c.end-in-Some-Repair.ensures refl refl refl)
 
-pub returns-else-clause-does : goal.returns-else-clause-does
-returns-else-clause-does g c =
-    does_want _ _ _ c.end-else.result c.else.ensures.wanted c.end-else.ensures
+pub returns-in-Err-clause-does : goal.returns-in-Err-clause-does
+returns-in-Err-clause-does g c =
+    does_want _ _ _ c.end.result c.in-Err.ensures.wanted c.end.ensures
     (record { rules = refl; topo = refl; acts = refl }) refl
     (λ name. record { seen = refl; images = λ image is. is })
-
-pub returns-else-clause-works_on : goal.returns-else-clause-works_on
-returns-else-clause-works_on g c = works_want _ _ c.else.ensures.wanted

@@ -7,8 +7,8 @@ use Rattle.fm_summary.specs.DrainedSummary.{diagnosers}
 use Rattle.fm_top.proofs.Configs.{conf_done, conf_undone}
 use Rattle.fm_top.proofs.configuring.drained_conf.Goals as goal
 
-pub drain-requires-send-M : goal.drain-requires-send-M
-drain-requires-send-M g c κs = search (diagnoser_send, sendable)
+pub drain-hands-requires-send-M : goal.drain-hands-requires-send-M
+drain-hands-requires-send-M g c κs = search (diagnoser_send, sendable)
 
 pub returns-in-Ok-clause-did : goal.returns-in-Ok-clause-did
 returns-in-Ok-clause-did g c =
@@ -22,8 +22,8 @@ returns-in-Ok-clause-did g c =
     (c.drain-hands.ensures.book fresh k stands follow))
     c.conf_text.ensures.told c.conf_text.ensures.wanted
 
-pub returns-in-Err-clause-did : goal.returns-in-Err-clause-did
-returns-in-Err-clause-did g c =
+pub returns-clause-did : goal.returns-clause-did
+returns-clause-did g c =
     conf_undone g.D.Disk c.args.store.now c.drain-hands.new.store c.args.hands.items
     c.drain-hands.result.0.items c.args.conf.now c.requires.ready c.in-Err.fault
     (subst (λ r. DrainDoes g.D.Disk diagnosers c.args.store.now c.drain-hands.new.store

@@ -11,3 +11,6 @@ returns-in-Disk-clause-err g c = rw c.in-Disk.is c.put_text-in-Disk.ensures.err
 
 pub returns-in-Differs-clause-err : goal.returns-in-Differs-clause-err
 returns-in-Differs-clause-err g c = rw c.in-Differs.is c.put_text-in-Differs.ensures.err
+
+pub returns-in-NotFaulty-clause-err : goal.returns-in-NotFaulty-clause-err
+returns-in-NotFaulty-clause-err g c = rw c.in-NotFaulty.is c.put_text-in-NotFaulty.ensures.err

@@ -1,13 +1,18 @@
-use Rattle.std.proofs.Common.{inl, inr, refl, rules, ap}
+use Rattle.std.proofs.Common.{inl, inr, refl, rules, Some, []}
 use Rattle.std.proofs.lemmas.Result.{err_from_is_err_and}
+use Rattle.fm_top.specs.Outside.{SourceAt}
 use Rattle.fm_top.proofs.RepairDoing.{settled_from}
 use Rattle.fm_top.proofs.TasksDone.{repair_did}
 use Rattle.fm_top.proofs.repairing.repair.Goals as goal
 
+-- a source of no bytes
+unread : SourceAt
+unread = record { left = Some []; failures = 0 }
+
 pub returns-in-Repaired-clause-ran : goal.returns-in-Repaired-clause-ran
 returns-in-Repaired-clause-ran g c =
-    let did = repair_did _ c.in_ok-done.done c.in-Repaired.repaired _ _ _ _ _ _ (search rules)
-    c.in_ok-done.ensures.ran in
+    let did = repair_did _ c.in_ok-done.done c.in-Repaired.repaired unread unread _ _ _ _
+    (search rules) c.in_ok-done.ensures.ran in
     inr (record {
       one = c.in-Repaired.repaired;
       store = did.1;
@@ -16,8 +21,7 @@ returns-in-Repaired-clause-ran g c =
 
 pub returns-in_err-done-clause-ran : goal.returns-in_err-done-clause-ran
 returns-in_err-done-clause-ran g c =
-    let p = err_from_is_err_and c.from_residual-in_err-done.result
-    c.from_residual-in_err-done.ensures.1 in
+    let p = err_from_is_err_and c.from_residual.result c.from_residual.ensures.1 in
     rw (p.1, p.2) (inl (record {
       stop = c.in_err-done.field-0.0;
       told = refl;
