@@ -1,5 +1,5 @@
 -- What is told of the configuration of a store that was drained.
-use Rattle.std.proofs.Common.{◌≡◌, inl, inr, ℕ, List, None, Result, Ok, Err, IfOk, IfErr, refl, sym}
+use Rattle.std.proofs.Common.{◌≡◌, inl, inr, ℕ, List, None, Result, Ok, Err, IfOk, IfErr, sym}
 use Rattle.std.proofs.Common.{◌∙◌, ap, subst}
 use Rattle.std.specs.Global.{Vec}
 use Rattle.dx_engine.specs.Diagnosers.{DiagnoserOf}

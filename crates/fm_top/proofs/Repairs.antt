@@ -2,7 +2,7 @@
 use Rattle.std.proofs.Common.{◌≡◌, ◌∙◌, inl, inr, ℕ, List, Option, None, Some, Result, Ok, Err, IfOk}
 use Rattle.std.proofs.Common.{IfErr, refl, sym, ap, subst}
 use Rattle.dx_engine.specs.Diagnosers.{DiagnoserOf}
-use Rattle.fm_admin.specs.Repairing.{IsRepaired, IsRepairedBy, RepairDid, RepairFollows}
+use Rattle.fm_admin.specs.Repairing.{IsRepairedBy, RepairDid, RepairFollows}
 use Rattle.fm_admin.specs.Repairing.{RepairRefused, RepairsBook, TakeRefused, TakesAndTells}
 use Rattle.fm_admin.specs.Repairing.{TookAndDrained}
 use Rattle.fm_admin.specs.Telling.{TellsBook, WasDrained}

@@ -19,7 +19,7 @@ use Rattle.fm_logs.specs.declared.fault.StoreFault.{StoreFault}
 use Rattle.fm_logs.specs.declared.fault.StoreFault.TheVariants as store
 use Rattle.fm_outer.specs.declared.disk.Disk.{Ghosts}
 use Rattle.fm_saved.specs.declared.conf.Conf.{Conf}
-use Rattle.fm_store.specs.StoreLeft.{EachLeft, ReadsLike}
+use Rattle.fm_store.specs.StoreLeft.{EachLeft}
 use Rattle.fm_store.specs.StoreOf.{StoreOf, StoreStandsFor}
 use Rattle.fm_store.proofs.StoreReads.{entries_left, left_active, says_left}
 use Rattle.fm_summary.specs.DrainedSummary.{diagnosers}

@@ -1,5 +1,5 @@
 -- The entry that an operator's word on repairs comes to, by the book that the contents read as.
-use Rattle.std.specs.Prelude.{◌≡◌, ℕ, List, Option, Some, None, slice_get}
+use Rattle.std.specs.Prelude.{◌≡◌, ℕ, Option, Some, None, slice_get}
 use Rattle.fm_admin.specs.Marking.{IsEntryBy}
 use Rattle.fm_admin.specs.declared.marking.Repair.{Repair}
 use Rattle.fm_admin.specs.declared.marking.RepairOrder.{RepairOrder}

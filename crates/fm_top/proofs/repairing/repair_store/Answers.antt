@@ -14,8 +14,8 @@ returns-in-Ok-Some-clause-does g c = λ input out. (
       (repair_done g.D.Disk c.args.request.now c.args.store.now c.repair.new.store
       c.args.hands.items c.args.conf.now c.requires.ready (Ok c.in-Ok-Some.field-0)
       c.in-Ok-Some.ensures.did tt (as_asked g.D.Disk c.args.request.now c.args.store.now c.repair.new.store
-        c.args.hands.items c.args.conf.now c.requires.ready c.in_ok-order.order
-        (Ok c.in-Ok-Some.field-0) c.in_ok-order.ensures.order c.in-Ok-Some.ensures.book)),
+      c.args.hands.items c.args.conf.now c.requires.ready c.in_ok-order.order
+      (Ok c.in-Ok-Some.field-0) c.in_ok-order.ensures.order c.in-Ok-Some.ensures.book)),
 )
 
 pub returns-in-Ok-None-clause-does : goal.returns-in-Ok-None-clause-does
