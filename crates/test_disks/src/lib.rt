@@ -5,6 +5,8 @@
 #[cfg(test)]
 mod journals;
 #[cfg(test)]
+mod lent;
+#[cfg(test)]
 mod made;
 #[cfg(test)]
 mod payloads;
