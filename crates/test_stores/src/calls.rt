@@ -1,0 +1,121 @@
+// Calls of a store that stays open from one to the next.
+use crate::commands::number_in;
+use crate::fault::ScriptFault;
+use crate::told::{closed_text, fault_text, records_text, rows_text};
+use fm_core::Counter;
+use fm_entry::Entry;
+use fm_journal::Frame;
+use fm_logs::Committed;
+use fm_outer::MemDisk;
+use fm_settled::read_status;
+use fm_store::Store;
+use std::alloc::Global;
+
+/// Takes a tick at this moment.
+fn tick(
+    alloc: Global,
+    store: &mut Store<MemDisk, Counter>,
+    moment: u32,
+) -> Result<String, ScriptFault> {
+    let moment = u64::from(moment);
+    match store.accept(alloc, Entry::Tick { moment }) {
+        Ok(number) => Ok(format!(in alloc; "{number}")?),
+        Err(fault) => Ok(fault_text(alloc, fault)?),
+    }
+}
+
+/// Commits a step of a module at this number.
+fn commit(
+    alloc: Global,
+    store: &mut Store<MemDisk, Counter>,
+    own: u32,
+    number: u32,
+    words: Option<&Frame>,
+) -> Result<String, ScriptFault> {
+    if own >= store.modules() {
+        return Err(ScriptFault::Words);
+    }
+    match store.commit(own, u64::from(number), words) {
+        Ok(Committed::Done) => Ok(String::from_str(alloc, "done")?),
+        Ok(Committed::Stale { cursor }) => Ok(format!(in alloc; "stale at {cursor}")?),
+        Err(fault) => Ok(fault_text(alloc, fault)?),
+    }
+}
+
+/// Commits a step of a module at this number, with the words `w`, which are no record.
+fn say(
+    alloc: Global,
+    store: &mut Store<MemDisk, Counter>,
+    own: u32,
+    number: u32,
+) -> Result<String, ScriptFault> {
+    match Frame::new(alloc, b"w") {
+        Ok(frame) => commit(alloc, store, own, number, Some(&frame)),
+        Err(_) => Err(ScriptFault::NoMemory),
+    }
+}
+
+/// What the store's records and entries are.
+fn ask(
+    alloc: Global,
+    store: &mut Store<MemDisk, Counter>,
+    word: &str,
+) -> Result<String, ScriptFault> {
+    match word {
+        "at_end" => Ok(format!(in alloc; "{}", store.is_done())?),
+        "closed" => match store.closed() {
+            Some((disk, faults)) => Ok(closed_text(alloc, disk, faults)?),
+            None => Ok(String::from_str(alloc, "open")?),
+        },
+        "spoken" => match store.spoken(alloc) {
+            Ok(records) => Ok(records_text(alloc, &records)?),
+            Err(fault) => Ok(fault_text(alloc, fault)?),
+        },
+        "logged" => match store.logged(alloc) {
+            Ok(entries) => Ok(format!(in alloc; "logged {}", entries.len())?),
+            Err(fault) => Ok(fault_text(alloc, fault)?),
+        },
+        "rows" => match read_status(store, alloc) {
+            Ok(status) => rows_text(alloc, &status),
+            Err(fault) => Ok(fault_text(alloc, fault)?),
+        },
+        _ => Err(ScriptFault::Words),
+    }
+}
+
+/// Makes a call.
+fn call(
+    alloc: Global,
+    store: &mut Store<MemDisk, Counter>,
+    words: &str,
+) -> Result<String, ScriptFault> {
+    let Some((word, rest)) = words.split_once(' ') else {
+        return ask(alloc, store, words);
+    };
+    if word == "tick" {
+        return tick(alloc, store, number_in(rest)?);
+    }
+    let (own, number) = rest.split_once(' ').ok_or(ScriptFault::Words)?;
+    match word {
+        "commit" => commit(alloc, store, number_in(own)?, number_in(number)?, None),
+        "say" => say(alloc, store, number_in(own)?, number_in(number)?),
+        _ => Err(ScriptFault::Words),
+    }
+}
+
+/// Makes the calls of a text, with commas between them, and tells what they answer.
+pub fn make_calls(
+    alloc: Global,
+    store: &mut Store<MemDisk, Counter>,
+    text: &str,
+) -> Result<String, ScriptFault> {
+    let mut answers = String::new(alloc);
+    for words in text.split(',') {
+        if !answers.is_empty() {
+            answers.push_str(", ")?;
+        }
+        let answer = call(alloc, store, words.trim())?;
+        answers.push_str(&answer)?;
+    }
+    Ok(answers)
+}
