@@ -3,13 +3,22 @@ use crate::commands::number_in;
 use crate::fault::ScriptFault;
 use crate::told::{closed_text, fault_text, records_text, rows_text};
 use fm_core::Counter;
-use fm_entry::Entry;
+use fm_entry::{Entry, Spoken};
 use fm_journal::Frame;
-use fm_logs::Committed;
+use fm_logs::{Committed, DiskName, StoreFault};
 use fm_outer::MemDisk;
 use fm_settled::read_status;
+use fm_status::Status;
 use fm_store::Store;
 use std::alloc::Global;
+
+/// The number of an entry that was taken.
+fn taken_text(alloc: Global, taken: Result<u64, StoreFault>) -> Result<String, ScriptFault> {
+    match taken {
+        Ok(number) => Ok(format!(in alloc; "{number}")?),
+        Err(fault) => Ok(fault_text(alloc, fault)?),
+    }
+}
 
 /// Takes a tick at this moment.
 fn tick(
@@ -18,8 +27,18 @@ fn tick(
     moment: u32,
 ) -> Result<String, ScriptFault> {
     let moment = u64::from(moment);
-    match store.accept(alloc, Entry::Tick { moment }) {
-        Ok(number) => Ok(format!(in alloc; "{number}")?),
+    let taken = store.accept(alloc, Entry::Tick { moment });
+    taken_text(alloc, taken)
+}
+
+/// What a commit answered.
+fn committed_text(
+    alloc: Global,
+    committed: Result<Committed, StoreFault>,
+) -> Result<String, ScriptFault> {
+    match committed {
+        Ok(Committed::Done) => Ok(String::from_str(alloc, "done")?),
+        Ok(Committed::Stale { cursor }) => Ok(format!(in alloc; "stale at {cursor}")?),
         Err(fault) => Ok(fault_text(alloc, fault)?),
     }
 }
@@ -35,11 +54,8 @@ fn commit(
     if own >= store.modules() {
         return Err(ScriptFault::Words);
     }
-    match store.commit(own, u64::from(number), words) {
-        Ok(Committed::Done) => Ok(String::from_str(alloc, "done")?),
-        Ok(Committed::Stale { cursor }) => Ok(format!(in alloc; "stale at {cursor}")?),
-        Err(fault) => Ok(fault_text(alloc, fault)?),
-    }
+    let committed = store.commit(own, u64::from(number), words);
+    committed_text(alloc, committed)
 }
 
 /// Commits a step of a module at this number, with the words `w`, which are no record.
@@ -55,6 +71,47 @@ fn say(
     }
 }
 
+/// Whether a store is closed.
+fn closing_text(
+    alloc: Global,
+    closed: Option<(DiskName, u64)>,
+) -> Result<String, ScriptFault> {
+    match closed {
+        Some((disk, faults)) => Ok(closed_text(alloc, disk, faults)?),
+        None => Ok(String::from_str(alloc, "open")?),
+    }
+}
+
+/// Which records were read.
+fn spoken_text(
+    alloc: Global,
+    spoken: Result<Vec<Spoken>, StoreFault>,
+) -> Result<String, ScriptFault> {
+    match spoken {
+        Ok(records) => Ok(records_text(alloc, &records)?),
+        Err(fault) => Ok(fault_text(alloc, fault)?),
+    }
+}
+
+/// How many entries were read.
+fn logged_text(
+    alloc: Global,
+    logged: Result<Vec<Entry>, StoreFault>,
+) -> Result<String, ScriptFault> {
+    match logged {
+        Ok(entries) => Ok(format!(in alloc; "logged {}", entries.len())?),
+        Err(fault) => Ok(fault_text(alloc, fault)?),
+    }
+}
+
+/// Which cases were read.
+fn status_text(alloc: Global, status: Result<Status, StoreFault>) -> Result<String, ScriptFault> {
+    match status {
+        Ok(status) => rows_text(alloc, &status),
+        Err(fault) => Ok(fault_text(alloc, fault)?),
+    }
+}
+
 /// What the store's records and entries are.
 fn ask(
     alloc: Global,
@@ -63,22 +120,10 @@ fn ask(
 ) -> Result<String, ScriptFault> {
     match word {
         "at_end" => Ok(format!(in alloc; "{}", store.is_done())?),
-        "closed" => match store.closed() {
-            Some((disk, faults)) => Ok(closed_text(alloc, disk, faults)?),
-            None => Ok(String::from_str(alloc, "open")?),
-        },
-        "spoken" => match store.spoken(alloc) {
-            Ok(records) => Ok(records_text(alloc, &records)?),
-            Err(fault) => Ok(fault_text(alloc, fault)?),
-        },
-        "logged" => match store.logged(alloc) {
-            Ok(entries) => Ok(format!(in alloc; "logged {}", entries.len())?),
-            Err(fault) => Ok(fault_text(alloc, fault)?),
-        },
-        "rows" => match read_status(store, alloc) {
-            Ok(status) => rows_text(alloc, &status),
-            Err(fault) => Ok(fault_text(alloc, fault)?),
-        },
+        "closed" => closing_text(alloc, store.closed()),
+        "spoken" => spoken_text(alloc, store.spoken(alloc)),
+        "logged" => logged_text(alloc, store.logged(alloc)),
+        "rows" => status_text(alloc, read_status(store, alloc)),
         _ => Err(ScriptFault::Words),
     }
 }

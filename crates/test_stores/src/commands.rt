@@ -6,8 +6,8 @@ use crate::openings::answer_of_two;
 use crate::runs::run;
 use crate::steps::{Step, steps_of};
 use crate::stops::Trial;
-use crate::store_bytes::{FailingCalls, StoreBytes, bytes_of_six};
-use crate::told::{left_text, opening_text, ran_text, reports_text, wrote_text};
+use crate::store_bytes::{FailingCalls, StoreBytes};
+use crate::told::{left_text, opening_text, ran_text, reports_text};
 use crate::{made, trials};
 use fm_logs::DiskName;
 use fm_outer::Image;
@@ -62,12 +62,10 @@ fn first_word(text: &str) -> (&str, &str) {
 /// Runs the steps over the store.
 fn run_steps(alloc: Global, store: &mut StoreBytes, text: &str) -> Result<String, ScriptFault> {
     let steps = steps_in(alloc, text)?;
-    let mut ran = run(alloc, store, FailingCalls::None, &steps)?;
-    let left = bytes_of_six(alloc, &mut ran.disks)?;
-    let answer = ran_text(alloc, &ran)?;
-    let wrote = wrote_text(alloc, store, &left)?;
-    *store = left;
-    Ok(format!(in alloc; "{answer}, {wrote}")?)
+    let ran = run(alloc, store, FailingCalls::None, &steps, None)?;
+    let answer = ran_text(alloc, store, &ran)?;
+    *store = ran.left;
+    Ok(answer)
 }
 
 /// A command on a whole store.
@@ -79,7 +77,7 @@ fn answer_of_store(
 ) -> Result<String, ScriptFault> {
     match word {
         "empty" => {
-            *store = StoreBytes::empty(alloc);
+            *store = StoreBytes::empty(alloc)?;
             Ok(String::from_str(alloc, "ok")?)
         }
         "new" => made::new_store(alloc, store),
@@ -156,10 +154,10 @@ fn stop(
         steps: &steps,
     };
     let call = u64::from(number_in(call)?);
-    let left = trials::left_behind_opening(alloc, trial, call, image_in(image)?)?;
-    let answer = left_text(alloc, &left, reports_in(alloc, &left.bytes)?)?;
-    *store = left.bytes;
-    Ok(answer)
+    let ran = trials::left_behind_opening(alloc, trial, call, image_in(image)?)?;
+    let reports = reports_in(alloc, &ran.left)?;
+    *store = ran.left;
+    Ok(left_text(alloc, ran.answer, reports)?)
 }
 
 /// A command that tries steps while calls of a disk fail.

@@ -1,8 +1,8 @@
 // Runs of which one call of a disk fails.
 use crate::left::reports_in;
-use crate::runs::{calls_of_opening, run};
+use crate::runs::{Ran, calls_of_opening, run};
 use crate::stops::{Trial, extent_of, is_error_journal};
-use crate::store_bytes::{FailingCalls, bytes_of_six};
+use crate::store_bytes::FailingCalls;
 use fm_logs::{DiskName, StoreFault};
 use fm_outer::NoMemory;
 use std::alloc::Global;
@@ -32,6 +32,24 @@ impl FailureCounts {
     }
 }
 
+/// The run of which this call of the disk fails.
+fn ran_with(alloc: Global, trial: Trial<'_>, call: u64) -> Result<Ran, NoMemory> {
+    let failing = FailingCalls::One {
+        disk: trial.disk,
+        call,
+    };
+    run(alloc, trial.bytes, failing, trial.steps, None)
+}
+
+/// Whether a store has the reports that were answered; of an error journal also one more.
+fn are_kept(disk: DiskName, answered: u64, reports: Option<u64>) -> bool {
+    let one_more = answered.saturating_add(1);
+    match reports {
+        Some(reports) => reports == answered || is_error_journal(disk) && reports == one_more,
+        None => false,
+    }
+}
+
 /// Whether the run ends with this call, later calls answer so, and the store then has the reports
 /// that were answered; of an error journal also one more.
 fn is_right(
@@ -41,17 +59,11 @@ fn is_right(
     call: u64,
     closed: Option<(DiskName, u64)>,
 ) -> Result<bool, NoMemory> {
-    let failing = FailingCalls::One {
-        disk: trial.disk,
-        call,
-    };
-    let mut ran = run(alloc, trial.bytes, failing, trial.steps)?;
-    let left = bytes_of_six(alloc, &mut ran.disks)?;
-    let answered = before.saturating_add(ran.taken);
-    let reports = reports_in(alloc, &left)?;
-    let is_kept = reports == Some(answered)
-        || is_error_journal(trial.disk) && reports == Some(answered.saturating_add(1));
-    Ok(ran.fault == Some(StoreFault::Disk) && ran.closed == closed && is_kept)
+    let ran = ran_with(alloc, trial, call)?;
+    let reports = reports_in(alloc, &ran.left)?;
+    let answered = before.saturating_add(ran.answer.taken);
+    let ended = ran.answer.fault == Some(StoreFault::Disk) && ran.answer.closed == closed;
+    Ok(ended && are_kept(trial.disk, answered, reports))
 }
 
 /// Tries a failure of each call of the disk.

@@ -3,7 +3,7 @@ use crate::fold::{RECORD, base, entry_records, fault_records};
 use crate::openings::{OpeningAnswer, answer_of_two};
 use crate::runs::run;
 use crate::steps::Step;
-use crate::store_bytes::{FailingCalls, StoreBytes, bytes_of_six};
+use crate::store_bytes::{FailingCalls, StoreBytes};
 use fm_logs::DiskName;
 use fm_outer::NoMemory;
 use std::alloc::Global;
@@ -96,6 +96,16 @@ fn step_to_end(reports: u64) -> Step {
     }
 }
 
+/// Whether the store drains to what just the first so many of the mixed reports come to.
+fn comes_to(alloc: Global, bytes: &StoreBytes, reports: u64) -> Result<bool, NoMemory> {
+    let steps = [step_to_end(reports)];
+    let ran = run(alloc, bytes, FailingCalls::None, &steps, None)?;
+    if ran.answer.fault.is_some() {
+        return Ok(false);
+    }
+    is_fold(alloc, &ran.left, reports)
+}
+
 /// How many reports the store has taken. It is opened twice, tells the same both times, writes
 /// nothing, and drains to what just the first so many of the mixed reports come to; `None` where it
 /// does not.
@@ -103,9 +113,7 @@ pub fn reports_in(alloc: Global, bytes: &StoreBytes) -> Result<Option<u64>, NoMe
     let OpeningAnswer::Tells((_, reports, _, _)) = answer_of_two(alloc, bytes)? else {
         return Ok(None);
     };
-    let mut ran = run(alloc, bytes, FailingCalls::None, &[step_to_end(reports)])?;
-    let drained = bytes_of_six(alloc, &mut ran.disks)?;
-    if ran.fault.is_none() && is_fold(alloc, &drained, reports)? {
+    if comes_to(alloc, bytes, reports)? {
         Ok(Some(reports))
     } else {
         Ok(None)

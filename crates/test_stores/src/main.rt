@@ -40,9 +40,14 @@ use crate::fault::ScriptFault;
 use crate::store_bytes::StoreBytes;
 use std::io;
 
+/// Want of memory, as `main` answers it.
+fn out_of_memory() -> io::Error {
+    io::Error::from(io::ErrorKind::OutOfMemory)
+}
+
 fn main(rt: HostRuntime) -> io::Result<()> {
     let script = io::read_to_string(rt.alloc(), rt.stdin())?;
-    let mut store = StoreBytes::empty(rt.alloc());
+    let mut store = StoreBytes::empty(rt.alloc()).map_err(|_| out_of_memory())?;
     for line in script.as_str().lines() {
         if line.is_empty() || line.starts_with('#') {
             continue;
@@ -54,7 +59,7 @@ fn main(rt: HostRuntime) -> io::Result<()> {
         match answer(rt.alloc(), &mut store, line) {
             Ok(answer) => println!(rt; "{line}: {answer}")?,
             Err(ScriptFault::Words) => println!(rt; "{line}: no command")?,
-            Err(ScriptFault::NoMemory) => return Err(io::Error::from(io::ErrorKind::OutOfMemory)),
+            Err(ScriptFault::NoMemory) => return Err(out_of_memory()),
         }
     }
     Ok(())

@@ -1,13 +1,13 @@
 // What an opening of a store answers.
-use crate::runs::run;
-use crate::store_bytes::{FailingCalls, StoreBytes, bytes_of_six};
+use crate::runs::{Ran, run};
+use crate::store_bytes::{FailingCalls, StoreBytes};
 use fm_logs::StoreFault;
 use fm_outer::NoMemory;
 use small_store::Told;
 use std::alloc::Global;
 
 /// What openings of a store come to.
-#[derive(Clone, Copy, Debug, Drop, PartialEq, Eq)]
+#[derive(Clone, Copy, Drop, PartialEq, Eq)]
 pub enum OpeningAnswer {
     /// The store that is opened tells this.
     Tells(Told),
@@ -18,16 +18,21 @@ pub enum OpeningAnswer {
     Differ,
 }
 
+/// The answer of an opening of these bytes.
+fn answer_of(ran: &Ran, bytes: &StoreBytes) -> OpeningAnswer {
+    if !ran.left.equals(bytes) {
+        return OpeningAnswer::Wrote;
+    }
+    match ran.answer.fault {
+        None => OpeningAnswer::Tells(ran.answer.told),
+        Some(fault) => OpeningAnswer::Refused(fault),
+    }
+}
+
 /// The answer of an opening, which writes nothing.
 pub fn opening_answer(alloc: Global, bytes: &StoreBytes) -> Result<OpeningAnswer, NoMemory> {
-    let mut ran = run(alloc, bytes, FailingCalls::None, &[])?;
-    if !bytes_of_six(alloc, &mut ran.disks)?.equals(bytes) {
-        return Ok(OpeningAnswer::Wrote);
-    }
-    match ran.fault {
-        None => Ok(OpeningAnswer::Tells(ran.told)),
-        Some(fault) => Ok(OpeningAnswer::Refused(fault)),
-    }
+    let ran = run(alloc, bytes, FailingCalls::None, &[], None)?;
+    Ok(answer_of(&ran, bytes))
 }
 
 /// The answer of two openings, which are the same.

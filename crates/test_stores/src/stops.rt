@@ -3,10 +3,9 @@ use crate::left::reports_in;
 use crate::openings::{OpeningAnswer, answer_of_two};
 use crate::runs::{Ran, run};
 use crate::steps::Step;
-use crate::store_bytes::{FailingCalls, StoreBytes, bytes_of_six, calls_of};
+use crate::store_bytes::{FailingCalls, StoreBytes};
 use fm_logs::{DiskName, StoreFault};
 use fm_outer::{Image, NoMemory};
-use small_store::crashed;
 use std::alloc::Global;
 
 /// What a crash may leave of the ranges that were written since the last sync.
@@ -32,24 +31,16 @@ pub fn extent_of(alloc: Global, trial: Trial<'_>) -> Result<Option<(u64, u64)>, 
     let OpeningAnswer::Tells((_, before, _, _)) = answer_of_two(alloc, trial.bytes)? else {
         return Ok(None);
     };
-    let whole = run(alloc, trial.bytes, FailingCalls::None, trial.steps)?;
-    if whole.fault.is_some() {
+    let whole = run(alloc, trial.bytes, FailingCalls::None, trial.steps, None)?;
+    if whole.answer.fault.is_some() {
         return Ok(None);
     }
-    Ok(Some((before, calls_of(&whole.disks, trial.disk))))
+    Ok(Some((before, whole.calls.of(trial.disk))))
 }
 
 /// Whether an append of an entry to the disk may have been cut short.
 pub fn is_error_journal(disk: DiskName) -> bool {
     disk == DiskName::ErrA || disk == DiskName::ErrB
-}
-
-/// What a stop left: the answer of the step, how many reports were taken, and the disks' bytes.
-#[derive(Drop)]
-pub struct StopLeft {
-    pub fault: Option<StoreFault>,
-    pub taken: u64,
-    pub bytes: StoreBytes,
 }
 
 /// What is left where each call of the disk fails from this one on, and the power then.
@@ -58,35 +49,32 @@ pub fn left_at(
     trial: Trial<'_>,
     call: u64,
     image: Image,
-) -> Result<StopLeft, NoMemory> {
+) -> Result<Ran, NoMemory> {
     let failing = FailingCalls::From {
         disk: trial.disk,
         call,
     };
-    let Ran {
-        disks,
-        taken,
-        told: _,
-        fault,
-        closed: _,
-    } = run(alloc, trial.bytes, failing, trial.steps)?;
-    let mut left = crashed(alloc, disks, image)?;
-    let bytes = bytes_of_six(alloc, &mut left)?;
-    Ok(StopLeft {
-        fault,
-        taken,
-        bytes,
-    })
+    run(alloc, trial.bytes, failing, trial.steps, Some(image))
 }
 
 /// What became of a stop.
-#[derive(Clone, Copy, Drop, PartialEq, Eq)]
+#[derive(Clone, Copy, Drop)]
 enum StopKind {
     /// The store has the reports that were answered.
     Answered,
     /// It has one more, of which nothing was answered.
     OneMore,
     Wrong,
+}
+
+/// What becomes of a stop of the disk that left so many reports, where so many were answered.
+fn kind_of(disk: DiskName, answered: u64, reports: Option<u64>) -> StopKind {
+    let one_more = answered.saturating_add(1);
+    match reports {
+        Some(reports) if reports == answered => StopKind::Answered,
+        Some(reports) if reports == one_more && is_error_journal(disk) => StopKind::OneMore,
+        _ => StopKind::Wrong,
+    }
 }
 
 /// What becomes of a stop at this call, where there were so many entries before.
@@ -97,19 +85,13 @@ fn kind_at(
     call: u64,
     image: Image,
 ) -> Result<StopKind, NoMemory> {
-    let left = left_at(alloc, trial, call, image)?;
-    let answered = before.saturating_add(left.taken);
-    let one_more = answered.saturating_add(1);
-    if left.fault != Some(StoreFault::Disk) {
+    let ran = left_at(alloc, trial, call, image)?;
+    if ran.answer.fault != Some(StoreFault::Disk) {
         return Ok(StopKind::Wrong);
     }
-    match reports_in(alloc, &left.bytes)? {
-        Some(reports) if reports == answered => Ok(StopKind::Answered),
-        Some(reports) if reports == one_more && is_error_journal(trial.disk) => Ok(
-            StopKind::OneMore,
-        ),
-        _ => Ok(StopKind::Wrong),
-    }
+    let reports = reports_in(alloc, &ran.left)?;
+    let answered = before.saturating_add(ran.answer.taken);
+    Ok(kind_of(trial.disk, answered, reports))
 }
 
 /// How many cases there were of each kind, and the first that is not as it should be.
@@ -177,6 +159,23 @@ pub fn try_stops(alloc: Global, trial: Trial<'_>) -> Result<StopCounts, NoMemory
     Ok(counts)
 }
 
+/// Counts the stops of a checkpoint at each call of the disk, with this image.
+fn count_next(
+    alloc: Global,
+    bytes: &StoreBytes,
+    disk: DiskName,
+    image: Image,
+    counts: &mut StopCounts,
+) -> Result<(), NoMemory> {
+    let steps = [Step::Checkpoint];
+    let trial = Trial {
+        bytes,
+        disk,
+        steps: &steps,
+    };
+    count_calls(alloc, trial, image, counts)
+}
+
 /// Tries a stop of a checkpoint at each call of a second disk, behind a stop at each call of the
 /// trial's, with this image of both.
 fn count_twice(
@@ -191,13 +190,8 @@ fn count_twice(
         return Ok(());
     };
     for call in 0..calls {
-        let left = left_at(alloc, trial, call, image)?;
-        let next = Trial {
-            bytes: &left.bytes,
-            disk,
-            steps: &[Step::Checkpoint],
-        };
-        count_calls(alloc, next, image, counts)?;
+        let ran = left_at(alloc, trial, call, image)?;
+        count_next(alloc, &ran.left, disk, image, counts)?;
     }
     Ok(())
 }

@@ -1,8 +1,7 @@
 // What stores, their records and their runs come to, as text.
 use crate::fault::ScriptFault;
 use crate::openings::OpeningAnswer;
-use crate::runs::Ran;
-use crate::stops::StopLeft;
+use crate::runs::{Ran, RunAnswer};
 use crate::store_bytes::{NAMES, StoreBytes};
 use fm_entry::{CaseName, ListEvent, Spoken};
 use fm_logs::{DiskName, StoreFault};
@@ -107,18 +106,35 @@ pub fn wrote_text(
     Ok(text)
 }
 
-/// What a run came to.
-pub fn ran_text(alloc: Global, ran: &Ran) -> Result<String, AllocError> {
-    let Some(fault) = ran.fault else {
-        return told_text(alloc, ran.told);
-    };
-    let mut text = fault_text(alloc, fault)?;
-    if let Some((disk, faults)) = ran.closed {
-        let closed = closed_text(alloc, disk, faults)?;
-        text.push_str(", ")?;
-        text.push_str(&closed)?;
+/// What was met, and what closed the store.
+fn met_text(
+    alloc: Global,
+    fault: StoreFault,
+    closed: Option<(DiskName, u64)>,
+) -> Result<String, AllocError> {
+    let fault = fault_text(alloc, fault)?;
+    match closed {
+        Some((disk, faults)) => {
+            let closed = closed_text(alloc, disk, faults)?;
+            format!(in alloc; "{fault}, {closed}")
+        }
+        None => Ok(fault),
     }
-    Ok(text)
+}
+
+/// What a run told at its end, or what it met.
+fn answer_text(alloc: Global, answer: RunAnswer) -> Result<String, AllocError> {
+    match answer.fault {
+        Some(fault) => met_text(alloc, fault, answer.closed),
+        None => told_text(alloc, answer.told),
+    }
+}
+
+/// What a run over these bytes came to, and which disks it wrote.
+pub fn ran_text(alloc: Global, before: &StoreBytes, ran: &Ran) -> Result<String, AllocError> {
+    let answer = answer_text(alloc, ran.answer)?;
+    let wrote = wrote_text(alloc, before, &ran.left)?;
+    format!(in alloc; "{answer}, {wrote}")
 }
 
 /// How many reports a store has.
@@ -129,15 +145,15 @@ pub fn reports_text(alloc: Global, reports: Option<u64>) -> Result<String, Alloc
     }
 }
 
-/// What a stop left, and how many reports the store has then.
+/// What a run came to that stopped, and how many reports the store has then.
 pub fn left_text(
     alloc: Global,
-    left: &StopLeft,
+    answer: RunAnswer,
     reports: Option<u64>,
 ) -> Result<String, AllocError> {
     let reports = reports_text(alloc, reports)?;
-    let taken = left.taken;
-    match left.fault {
+    let taken = answer.taken;
+    match answer.fault {
         Some(fault) => {
             let fault = fault_text(alloc, fault)?;
             format!(in alloc; "{fault}, answered {taken}, left {reports}")

@@ -2,10 +2,10 @@
 use crate::alterations::try_alterations;
 use crate::failures::try_failures;
 use crate::fault::ScriptFault;
-use crate::runs::{calls_of_opening, run};
-use crate::stops::{StopCounts, StopLeft, Trial, left_at, try_stops, try_stops_twice};
-use crate::store_bytes::{FailingCalls, StoreBytes, bytes_of_six};
-use crate::told::{ran_text, wrote_text};
+use crate::runs::{Ran, calls_of_opening, run};
+use crate::stops::{StopCounts, Trial, left_at, try_stops, try_stops_twice};
+use crate::store_bytes::{FailingCalls, StoreBytes};
+use crate::told::ran_text;
 use fm_logs::DiskName;
 use fm_outer::{Image, NoMemory};
 use std::alloc::{AllocError, Global};
@@ -16,7 +16,7 @@ pub fn left_behind_opening(
     trial: Trial<'_>,
     call: u64,
     image: Image,
-) -> Result<StopLeft, NoMemory> {
+) -> Result<Ran, NoMemory> {
     let opening = calls_of_opening(alloc, trial.bytes, trial.disk)?;
     left_at(alloc, trial, opening.saturating_add(call), image)
 }
@@ -28,11 +28,8 @@ pub fn fail(alloc: Global, trial: Trial<'_>, call: u64) -> Result<String, Script
         disk: trial.disk,
         call: opening.saturating_add(call),
     };
-    let mut ran = run(alloc, trial.bytes, failing, trial.steps)?;
-    let left = bytes_of_six(alloc, &mut ran.disks)?;
-    let answer = ran_text(alloc, &ran)?;
-    let wrote = wrote_text(alloc, trial.bytes, &left)?;
-    Ok(format!(in alloc; "{answer}, {wrote}")?)
+    let ran = run(alloc, trial.bytes, failing, trial.steps, None)?;
+    Ok(ran_text(alloc, trial.bytes, &ran)?)
 }
 
 /// What was wrong, of so many cases.
