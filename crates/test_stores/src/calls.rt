@@ -3,7 +3,7 @@ use crate::commands::number_in;
 use crate::fault::ScriptFault;
 use crate::told::{closed_text, fault_text, records_text, rows_text};
 use fm_core::Counter;
-use fm_entry::{Entry, Spoken};
+use fm_entry::{CaseName, Entry, ListKind, Spoken};
 use fm_journal::Frame;
 use fm_logs::{Committed, DiskName, StoreFault};
 use fm_outer::MemDisk;
@@ -72,10 +72,7 @@ fn say(
 }
 
 /// Whether a store is closed.
-fn closing_text(
-    alloc: Global,
-    closed: Option<(DiskName, u64)>,
-) -> Result<String, ScriptFault> {
+fn closing_text(alloc: Global, closed: Option<(DiskName, u64)>) -> Result<String, ScriptFault> {
     match closed {
         Some((disk, faults)) => Ok(closed_text(alloc, disk, faults)?),
         None => Ok(String::from_str(alloc, "open")?),
@@ -104,10 +101,38 @@ fn logged_text(
     }
 }
 
+/// A kind of words.
+fn kind_text(alloc: Global, kind: Option<ListKind>) -> Result<String, ScriptFault> {
+    match kind {
+        Some(kind) => Ok(format!(in alloc; "{kind:?}")?),
+        None => Ok(String::from_str(alloc, "none")?),
+    }
+}
+
 /// Which cases were read.
 fn status_text(alloc: Global, status: Result<Status, StoreFault>) -> Result<String, ScriptFault> {
     match status {
         Ok(status) => rows_text(alloc, &status),
+        Err(fault) => Ok(fault_text(alloc, fault)?),
+    }
+}
+
+/// The kind of the last word of a case, where it was spoken of.
+fn kind_in(status: &Status, case: CaseName) -> Option<ListKind> {
+    match status.row(&case) {
+        Some(row) => Some(row.kind),
+        None => None,
+    }
+}
+
+/// What was read of a case.
+fn row_text(
+    alloc: Global,
+    status: Result<Status, StoreFault>,
+    case: CaseName,
+) -> Result<String, ScriptFault> {
+    match status {
+        Ok(status) => kind_text(alloc, kind_in(&status, case)),
         Err(fault) => Ok(fault_text(alloc, fault)?),
     }
 }
@@ -128,6 +153,36 @@ fn ask(
     }
 }
 
+/// What is known of a case.
+fn row(
+    alloc: Global,
+    store: &mut Store<MemDisk, Counter>,
+    own: u32,
+    number: u32,
+) -> Result<String, ScriptFault> {
+    let case = CaseName {
+        module: own,
+        case: u64::from(number),
+    };
+    row_text(alloc, read_status(store, alloc), case)
+}
+
+/// Makes a call with a module and a number.
+fn call_of_module(
+    alloc: Global,
+    store: &mut Store<MemDisk, Counter>,
+    word: &str,
+    own: u32,
+    number: u32,
+) -> Result<String, ScriptFault> {
+    match word {
+        "commit" => commit(alloc, store, own, number, None),
+        "say" => say(alloc, store, own, number),
+        "row" => row(alloc, store, own, number),
+        _ => Err(ScriptFault::Words),
+    }
+}
+
 /// Makes a call.
 fn call(
     alloc: Global,
@@ -141,11 +196,7 @@ fn call(
         return tick(alloc, store, number_in(rest)?);
     }
     let (own, number) = rest.split_once(' ').ok_or(ScriptFault::Words)?;
-    match word {
-        "commit" => commit(alloc, store, number_in(own)?, number_in(number)?, None),
-        "say" => say(alloc, store, number_in(own)?, number_in(number)?),
-        _ => Err(ScriptFault::Words),
-    }
+    call_of_module(alloc, store, word, number_in(own)?, number_in(number)?)
 }
 
 /// Makes the calls of a text, with commas between them, and tells what they answer.

@@ -16,11 +16,7 @@ use small_store::{SmallStore, disk_of, opened, small_conf};
 use std::alloc::Global;
 
 /// What a making leaves: the disks, and why it was refused.
-fn made(
-    alloc: Global,
-    disks: Disks<MemDisk>,
-    conf: &Conf,
-) -> (Disks<MemDisk>, Option<StoreFault>)
+fn made(alloc: Global, disks: Disks<MemDisk>, conf: &Conf) -> (Disks<MemDisk>, Option<StoreFault>)
     requires { IsSpelledConf conf.now }
 {
     match init(alloc, disks, conf) {

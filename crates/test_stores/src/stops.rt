@@ -44,12 +44,7 @@ pub fn is_error_journal(disk: DiskName) -> bool {
 }
 
 /// What is left where each call of the disk fails from this one on, and the power then.
-pub fn left_at(
-    alloc: Global,
-    trial: Trial<'_>,
-    call: u64,
-    image: Image,
-) -> Result<Ran, NoMemory> {
+pub fn left_at(alloc: Global, trial: Trial<'_>, call: u64, image: Image) -> Result<Ran, NoMemory> {
     let failing = FailingCalls::From {
         disk: trial.disk,
         call,
