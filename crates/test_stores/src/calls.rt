@@ -2,11 +2,10 @@
 use crate::commands::number_in;
 use crate::fault::ScriptFault;
 use crate::told::{closed_text, fault_text, records_text, rows_text};
-use fm_core::Counter;
 use fm_entry::{CaseName, Entry, ListKind, Spoken};
 use fm_journal::Frame;
 use fm_logs::{Committed, DiskName, StoreFault};
-use fm_outer::MemDisk;
+use fm_outer::Disk;
 use fm_settled::read_status;
 use fm_status::Status;
 use fm_store::Store;
@@ -21,9 +20,9 @@ fn taken_text(alloc: Global, taken: Result<u64, StoreFault>) -> Result<String, S
 }
 
 /// Takes a tick at this moment.
-fn tick(
+fn tick<D: Disk, M>(
     alloc: Global,
-    store: &mut Store<MemDisk, Counter>,
+    store: &mut Store<D, M>,
     moment: u32,
 ) -> Result<String, ScriptFault> {
     let moment = u64::from(moment);
@@ -44,9 +43,9 @@ fn committed_text(
 }
 
 /// Commits a step of a module at this number.
-fn commit(
+fn commit<D: Disk, M>(
     alloc: Global,
-    store: &mut Store<MemDisk, Counter>,
+    store: &mut Store<D, M>,
     own: u32,
     number: u32,
     words: Option<&Frame>,
@@ -59,9 +58,9 @@ fn commit(
 }
 
 /// Commits a step of a module at this number, with the words `w`, which are no record.
-fn say(
+fn say<D: Disk, M>(
     alloc: Global,
-    store: &mut Store<MemDisk, Counter>,
+    store: &mut Store<D, M>,
     own: u32,
     number: u32,
 ) -> Result<String, ScriptFault> {
@@ -138,9 +137,9 @@ fn row_text(
 }
 
 /// What the store's records and entries are.
-fn ask(
+fn ask<D: Disk, M>(
     alloc: Global,
-    store: &mut Store<MemDisk, Counter>,
+    store: &mut Store<D, M>,
     word: &str,
 ) -> Result<String, ScriptFault> {
     match word {
@@ -154,9 +153,9 @@ fn ask(
 }
 
 /// What is known of a case.
-fn row(
+fn row<D: Disk, M>(
     alloc: Global,
-    store: &mut Store<MemDisk, Counter>,
+    store: &mut Store<D, M>,
     own: u32,
     number: u32,
 ) -> Result<String, ScriptFault> {
@@ -168,9 +167,9 @@ fn row(
 }
 
 /// Makes a call with a module and a number.
-fn call_of_module(
+fn call_of_module<D: Disk, M>(
     alloc: Global,
-    store: &mut Store<MemDisk, Counter>,
+    store: &mut Store<D, M>,
     word: &str,
     own: u32,
     number: u32,
@@ -184,9 +183,9 @@ fn call_of_module(
 }
 
 /// Makes a call.
-fn call(
+fn call<D: Disk, M>(
     alloc: Global,
-    store: &mut Store<MemDisk, Counter>,
+    store: &mut Store<D, M>,
     words: &str,
 ) -> Result<String, ScriptFault> {
     let Some((word, rest)) = words.split_once(' ') else {
@@ -200,9 +199,9 @@ fn call(
 }
 
 /// Makes the calls of a text, with commas between them, and tells what they answer.
-pub fn make_calls(
+pub fn make_calls<D: Disk, M>(
     alloc: Global,
-    store: &mut Store<MemDisk, Counter>,
+    store: &mut Store<D, M>,
     text: &str,
 ) -> Result<String, ScriptFault> {
     let mut answers = String::new(alloc);

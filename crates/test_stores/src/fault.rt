@@ -4,7 +4,7 @@ use hex::FromHexError;
 use std::alloc::AllocError;
 
 /// Why a command has no answer.
-#[derive(Clone, Copy, Debug, Drop, PartialEq, Eq)]
+#[derive(Clone, Copy, Drop)]
 pub enum ScriptFault {
     NoMemory,
     /// The line is no command.

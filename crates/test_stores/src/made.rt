@@ -9,14 +9,14 @@ use crate::told::{fault_text, name_text, wrote_text};
 use fm_init::init;
 use fm_journal::Journal;
 use fm_logs::{DiskName, Disks, StoreFault};
-use fm_outer::{MemDisk, NoMemory};
+use fm_outer::{Disk, MemDisk, NoMemory};
 use fm_saved::Conf;
 use fm_store::Opened;
 use small_store::{SmallStore, disk_of, opened, small_conf};
 use std::alloc::Global;
 
 /// What a making leaves: the disks, and why it was refused.
-fn made(alloc: Global, disks: Disks<MemDisk>, conf: &Conf) -> (Disks<MemDisk>, Option<StoreFault>)
+fn made<D: Disk>(alloc: Global, disks: Disks<D>, conf: &Conf) -> (Disks<D>, Option<StoreFault>)
     requires { IsSpelledConf conf.now }
 {
     match init(alloc, disks, conf) {
@@ -75,7 +75,7 @@ pub fn new_store(alloc: Global, store: &mut StoreBytes) -> Result<String, Script
 }
 
 /// How many rule files the configuration has of the store on the disks.
-fn files_on(alloc: Global, disks: Disks<MemDisk>) -> Result<usize, StoreFault> {
+fn files_on<D: Disk + Drop>(alloc: Global, disks: Disks<D>) -> Result<usize, StoreFault> {
     match Opened::open(alloc, disks) {
         Ok(open) => Ok(open.conf().rules.len()),
         Err(refused) => Err(refused.fault),
@@ -92,7 +92,7 @@ pub fn files(alloc: Global, store: &StoreBytes) -> Result<String, ScriptFault> {
 }
 
 /// The first number and the count of the journal on a disk, where there is one.
-fn numbers_on(disk: MemDisk) -> Option<(u64, u64)> {
+fn numbers_on<D: Disk + Drop>(disk: D) -> Option<(u64, u64)> {
     match Journal::open(disk) {
         Ok(journal) => Some((journal.first(), journal.count())),
         Err(_) => None,
