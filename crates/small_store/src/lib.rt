@@ -8,8 +8,8 @@
 //! step takes one by value and gives it back, or else the disks and why it stopped ([`Stopped`]),
 //! so that a path of steps is written with `?`.
 //!
-//! **Promises.** Each step leaves the hands at their modules' cursors (`HasHandsAtCursors`), so that
-//! a drain may follow any step.
+//! **Promises.** Each step leaves the hands at their modules' cursors (`HasHandsAtCursors`), so
+//! that a drain may follow any step.
 #![tactic(auto)]
 
 mod disks;
