@@ -9,6 +9,6 @@ abbrev pub fresh_counter : ℕ → CounterOf
 fresh_counter i = record { number = i; counts = [] }
 
 -- a hand of each of two modules is at the module's cursor
-pub record IsReady (small : SmallStore) : Type 0 where
+pub record HasHandsAtCursors (small : SmallStore) : Type 0 where
   pub two : length small.hands.items ≡ 2
   pub at_cursors : AreAtCursors counters small.store.logs small.hands.items

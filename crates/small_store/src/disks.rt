@@ -14,15 +14,30 @@ pub fn disk_of(alloc: Global, bytes: &[u8], fails: &[u64]) -> Result<MemDisk, No
     MemDisk::new(alloc, bytes, ROOM, 2 * ROOM, fails.to_vec(alloc)?)
 }
 
+/// A disk without bytes.
+fn empty_disk(alloc: Global) -> Result<MemDisk, NoMemory> {
+    disk_of(alloc, b"", &[])
+}
+
+/// Three disks without bytes.
+fn three_empty(alloc: Global) -> Result<(MemDisk, MemDisk, MemDisk), NoMemory> {
+    let first = empty_disk(alloc)?;
+    let second = empty_disk(alloc)?;
+    let third = empty_disk(alloc)?;
+    Ok((first, second, third))
+}
+
 /// Six disks without bytes.
 pub fn empty_disks(alloc: Global) -> Result<Disks<MemDisk>, NoMemory> {
+    let (conf, err_a, err_b) = three_empty(alloc)?;
+    let (slot_a, slot_b, flt) = three_empty(alloc)?;
     Ok(Disks {
-        conf: disk_of(alloc, b"", &[])?,
-        err_a: disk_of(alloc, b"", &[])?,
-        err_b: disk_of(alloc, b"", &[])?,
-        slot_a: disk_of(alloc, b"", &[])?,
-        slot_b: disk_of(alloc, b"", &[])?,
-        flt: disk_of(alloc, b"", &[])?,
+        conf,
+        err_a,
+        err_b,
+        slot_a,
+        slot_b,
+        flt,
     })
 }
 
@@ -38,7 +53,7 @@ pub fn new_store(alloc: Global) -> Result<Option<Disks<MemDisk>>, NoMemory> {
 fn left_of(alloc: Global, disk: MemDisk, image: Image) -> Result<MemDisk, NoMemory> {
     match disk.crash(alloc, image) {
         Ok(left) => Ok(left),
-        Err((_, fault)) => Err(fault),
+        Err(back) => Err(back.1),
     }
 }
 

@@ -50,8 +50,14 @@ fn refuses_rotation(
     store.rotate(alloc, hands).err() == Some(fault)
 }
 
-/// The disk and the count with which a closed store refuses an entry, a step, and where they may be
-/// a checkpoint and a rotation; `None` where it is not closed, or one is answered otherwise.
+/// Whether a reading of the records and one of the entries are refused with this fault.
+fn refuses_reading(alloc: Global, store: &mut Store<MemDisk, Counter>, fault: StoreFault) -> bool {
+    store.spoken(alloc).err() == Some(fault) && store.logged(alloc).err() == Some(fault)
+}
+
+/// The disk and the count with which a closed store refuses an entry, a step, a reading, and where
+/// they may be a checkpoint and a rotation; `None` where it is not closed, or one is answered
+/// otherwise.
 pub(crate) fn closed_with(
     alloc: Global,
     store: &mut Store<MemDisk, Counter>,
@@ -61,7 +67,8 @@ pub(crate) fn closed_with(
     let fault = StoreFault::Closed { disk, faults };
     let refuses_bases = refuses_checkpoint(alloc, store, hands, fault)
         && refuses_rotation(alloc, store, hands, fault);
-    if refuses_bases && refuses_entry(alloc, store, fault) && refuses_step(store, fault) {
+    let refuses_work = refuses_entry(alloc, store, fault) && refuses_step(store, fault);
+    if refuses_bases && refuses_work && refuses_reading(alloc, store, fault) {
         Some((disk, faults))
     } else {
         None

@@ -8,8 +8,8 @@
 //! step takes one by value and gives it back, or else the disks and why it stopped ([`Stopped`]),
 //! so that a path of steps is written with `?`.
 //!
-//! **Promises.** Each step leaves the hands at their modules' cursors (`IsReady`), so that a drain
-//! may follow any step.
+//! **Promises.** Each step leaves the hands at their modules' cursors (`HasHandsAtCursors`), so
+//! that a drain may follow any step.
 #![tactic(auto)]
 
 mod disks;
@@ -19,6 +19,6 @@ mod small;
 mod told;
 
 pub use disks::{bytes_of, crashed, disk_of, empty_disks, new_store};
-pub use parts::{counters, letter_at, moment_at, report, small_conf};
+pub use parts::{letter_at, moment_at, small_conf};
 pub use small::{SmallStore, Stopped, opened};
-pub use told::{Told, comes_to, told_by};
+pub use told::Told;

@@ -3,7 +3,7 @@
 ghost use Rattle.std.specs.Prelude.{◌≡◌, [], ◌∷◌, IfOk};
 ghost use Rattle.fm_entry.specs.Entries.{IsSpelled};
 ghost use Rattle.fm_store.specs.StoreCalls.{AreAtEnd};
-ghost use Rattle.small_store.specs.Small.{IsReady, fresh_counter};
+ghost use Rattle.small_store.specs.Small.{HasHandsAtCursors, fresh_counter};
 
 use crate::later::closed_with;
 use crate::parts::{counters, mixed_report, report};
@@ -24,7 +24,7 @@ pub struct SmallStore {
 }
 
 /// A step that was not done, with the disks, why, and how many reports were taken before it. Where
-/// the store is closed, `closed` has the disk and the count that each later writing call named.
+/// the store is closed, `closed` has the disk and the count that each later call named.
 #[derive(Drop)]
 pub struct Stopped {
     pub disks: Disks<MemDisk>,
@@ -45,7 +45,7 @@ fn refuse(refused: StoreRefused<MemDisk>) -> Stopped {
 
 /// The store that is on the disks.
 pub fn opened(alloc: Global, disks: Disks<MemDisk>) -> Result<SmallStore, Stopped>
-    ensures { IfOk result IsReady }
+    ensures { IfOk result HasHandsAtCursors }
 {
     match (counters(alloc), counters(alloc)) {
         (Ok(fresh), Ok(kept)) => adopted(alloc, disks, fresh, kept),
@@ -65,7 +65,7 @@ fn adopted(
 ) -> Result<SmallStore, Stopped>
     requires fresh { fresh.items ≡ fresh_counter 0 ∷ fresh_counter 1 ∷ [] }
     requires kept { kept.items ≡ fresh_counter 0 ∷ fresh_counter 1 ∷ [] }
-    ensures { IfOk result IsReady }
+    ensures { IfOk result HasHandsAtCursors }
 {
     match Opened::open(alloc, disks) {
         Ok(open) => match open.adopt(alloc, fresh, kept) {
@@ -81,8 +81,8 @@ fn adopted(
 }
 
 impl SmallStore {
-    /// The disks, where a step was not done, and what later writing calls answer then.
-    fn stop(self, alloc: Global, fault: StoreFault) -> Stopped {
+    /// The disks, where a step was not done, and what later calls answer then.
+    pub fn stop(self, alloc: Global, fault: StoreFault) -> Stopped {
         let SmallStore {
             mut store,
             hands,
@@ -109,9 +109,9 @@ impl SmallStore {
 
     /// Takes an entry.
     fn take_entry(self, alloc: Global, entry: Entry) -> Result<SmallStore, Stopped>
-        requires ready { IsReady self }
+        requires ready { HasHandsAtCursors self }
         requires spelled { IsSpelled entry }
-        ensures { IfOk result IsReady }
+        ensures { IfOk result HasHandsAtCursors }
     {
         let mut small = self;
         match small.store.accept(alloc, entry) {
@@ -125,8 +125,8 @@ impl SmallStore {
 
     /// Takes a report.
     fn take_one(self, alloc: Global) -> Result<SmallStore, Stopped>
-        requires ready { IsReady self }
-        ensures { IfOk result IsReady }
+        requires ready { HasHandsAtCursors self }
+        ensures { IfOk result HasHandsAtCursors }
     {
         match report(alloc, 5) {
             Ok(Some(entry)) => self.take_entry(alloc, entry),
@@ -136,8 +136,8 @@ impl SmallStore {
 
     /// Takes so many reports, one after another.
     pub fn take(self, alloc: Global, count: u32) -> Result<SmallStore, Stopped>
-        requires ready { IsReady self }
-        ensures { IfOk result IsReady }
+        requires ready { HasHandsAtCursors self }
+        ensures { IfOk result HasHandsAtCursors }
     {
         let mut small = self;
         'reports: for _report in 0..count {
@@ -148,8 +148,8 @@ impl SmallStore {
 
     /// Takes the next of the mixed reports.
     fn take_next(self, alloc: Global) -> Result<SmallStore, Stopped>
-        requires ready { IsReady self }
-        ensures { IfOk result IsReady }
+        requires ready { HasHandsAtCursors self }
+        ensures { IfOk result HasHandsAtCursors }
     {
         match mixed_report(alloc, self.store.next_entry()) {
             Ok(Some(entry)) => self.take_entry(alloc, entry),
@@ -159,8 +159,8 @@ impl SmallStore {
 
     /// Takes so many of the mixed reports, one after another.
     pub fn take_mixed(self, alloc: Global, count: u32) -> Result<SmallStore, Stopped>
-        requires ready { IsReady self }
-        ensures { IfOk result IsReady }
+        requires ready { HasHandsAtCursors self }
+        ensures { IfOk result HasHandsAtCursors }
     {
         let mut small = self;
         'reports: for _report in 0..count {
@@ -171,8 +171,8 @@ impl SmallStore {
 
     /// Lets both modules take all entries, and commits what they say.
     pub fn drain(self, alloc: Global) -> Result<SmallStore, Stopped>
-        requires ready { IsReady self }
-        ensures ready { IfOk result IsReady }
+        requires ready { HasHandsAtCursors self }
+        ensures ready { IfOk result HasHandsAtCursors }
         ensures at_end { IfOk result (λ small. AreAtEnd small.store.logs) }
     {
         let SmallStore {
@@ -194,9 +194,9 @@ impl SmallStore {
 
     /// Writes a checkpoint, where both modules are at the end.
     pub fn checkpoint(self, alloc: Global) -> Result<SmallStore, Stopped>
-        requires ready { IsReady self }
+        requires ready { HasHandsAtCursors self }
         requires at_end { AreAtEnd self.store.logs }
-        ensures { IfOk result IsReady }
+        ensures { IfOk result HasHandsAtCursors }
     {
         let mut small = self;
         match small.store.checkpoint(alloc, &small.hands) {
@@ -207,9 +207,9 @@ impl SmallStore {
 
     /// Rotates the error journals, where both modules are at the end.
     pub fn rotate(self, alloc: Global) -> Result<SmallStore, Stopped>
-        requires ready { IsReady self }
+        requires ready { HasHandsAtCursors self }
         requires at_end { AreAtEnd self.store.logs }
-        ensures { IfOk result IsReady }
+        ensures { IfOk result HasHandsAtCursors }
     {
         let mut small = self;
         match small.store.rotate(alloc, &small.hands) {
