@@ -99,6 +99,7 @@ pub struct StopCounts {
 }
 
 impl StopCounts {
+    /// No cases yet.
     pub fn new() -> StopCounts {
         StopCounts {
             answered: 0,
