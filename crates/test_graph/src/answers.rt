@@ -1,11 +1,38 @@
-//! What a graph answers.
-
-use crate::made::{cpu_graph, fan_graph, fan_graph_with, name_at};
-use ev_graph::{Graph, Marked};
+// What a graph answers, and marks.
+use crate::fault::ScriptFault;
+use crate::words::{first_part, first_word, number_in, numbers_text};
+use ev_graph::{Graph, Incidence, Marked};
+use ev_small::name_at;
 use std::alloc::Global;
-use std::process::Abort;
 
-fn rank_of(graph: &Graph, node: u32) -> Option<u32> {
+/// How many nodes, engines and instances there are.
+fn sizes(alloc: Global, graph: &Graph) -> Result<String, ScriptFault> {
+    let nodes = graph.nodes().len();
+    let count = graph.node_count();
+    let engines = graph.engines().len();
+    let instances = graph.instances().len();
+    Ok(format!(in alloc; "{nodes} of {count} nodes, {engines} engines, {instances} instances")?)
+}
+
+/// The number of the node of a class at the chassis of a number.
+fn find(alloc: Global, graph: &Graph, words: &str) -> Result<String, ScriptFault> {
+    let (class, chassis) = first_word(words);
+    match name_at(alloc, class, number_in(chassis)?)? {
+        Some(name) => found_text(alloc, graph.find(&name)),
+        None => Err(ScriptFault::Words),
+    }
+}
+
+/// A number that was found.
+fn found_text(alloc: Global, found: Option<u32>) -> Result<String, ScriptFault> {
+    match found {
+        Some(number) => Ok(format!(in alloc; "{number}")?),
+        None => Ok(String::from_str(alloc, "none")?),
+    }
+}
+
+/// The rank of a node that is there.
+fn rank(graph: &Graph, node: u32) -> Option<u32> {
     if (node as usize) < graph.node_count() {
         Some(graph.rank(node))
     } else {
@@ -13,97 +40,75 @@ fn rank_of(graph: &Graph, node: u32) -> Option<u32> {
     }
 }
 
-#[test]
-fn sizes(rt: HostRuntime) {
-    let graph = fan_graph_with(&rt, rt.alloc(), 4, 3, 1);
-    assert!(rt; graph.node_count() == 5);
-    assert!(rt; graph.nodes().len() == 5);
-    assert!(rt; graph.engines().len() == 0);
-    assert!(rt; graph.instances().len() == 3);
-}
-
-fn finds(
-    rt: &impl Abort,
+/// What the table of nodes and instances says.
+fn ask_table(
     alloc: Global,
-    graph: &Graph,
-    class: &str,
+    table: &Incidence,
+    word: &str,
     number: u32,
-    want: Option<u32>,
-) {
-    let name = name_at(rt, alloc, class, number);
-    assert!(rt; graph.find(&name) == want);
-}
-
-#[test]
-fn names(rt: HostRuntime) {
-    let alloc = rt.alloc();
-    let graph = fan_graph(&rt, alloc);
-    finds(&rt, alloc, &graph, "error.part.off", 2, Some(2));
-    finds(&rt, alloc, &graph, "error.part.on", 2, None);
-    finds(&rt, alloc, &graph, "error.part.off", 1, None);
-}
-
-#[test]
-fn ranks(rt: HostRuntime) {
-    let graph = fan_graph_with(&rt, rt.alloc(), 4, 3, 1);
-    assert!(rt; rank_of(&graph, 0) == Some(2));
-    assert!(rt; rank_of(&graph, 1) == Some(0));
-    assert!(rt; rank_of(&graph, 3) == Some(1));
-    assert!(rt; rank_of(&graph, 4) == Some(0));
-}
-
-#[test]
-fn instances_by_node(rt: HostRuntime) {
-    let graph = cpu_graph(&rt, rt.alloc());
-    let table = graph.incidence();
-    assert!(rt; table.uses(2) == [1].as_slice());
-    assert!(rt; table.uses(0) == [].as_slice());
-    assert!(rt; table.gets(0) == [0, 1].as_slice());
-    assert!(rt; table.gets(9) == [].as_slice());
-}
-
-#[test]
-fn nodes_by_instance(rt: HostRuntime) {
-    let graph = cpu_graph(&rt, rt.alloc());
-    let table = graph.incidence();
-    assert!(rt; table.effects(1) == [0, 1].as_slice());
-    assert!(rt; table.causes(0) == [3].as_slice());
-    assert!(rt; table.n(0) == 1);
-    assert!(rt; table.k(1) == 1);
-}
-
-#[test]
-fn a_copy(rt: HostRuntime) {
-    let alloc = rt.alloc();
-    let graph = fan_graph_with(&rt, alloc, 4, 3, 1);
-    let Ok(copied) = graph.copy(alloc) else {
-        panic!(rt; "memory ran out")
-    };
-    assert!(rt; copied.node_count() == 5);
-    assert!(rt; copied.instances().len() == 3);
-    assert!(rt; rank_of(&copied, 0) == Some(2));
-    assert!(rt; copied.incidence().gets(3) == [2].as_slice());
-}
-
-fn notes(rt: &impl Abort, marked: &mut Marked, number: u32, want: bool) {
-    if (number as usize) < marked.size() {
-        match marked.note(number) {
-            Ok(fresh) => assert!(rt; fresh == want),
-            Err(_) => panic!(rt; "memory ran out"),
+) -> Result<String, ScriptFault> {
+    match word {
+        "uses" => numbers_text(alloc, table.uses(number)),
+        "gets" => numbers_text(alloc, table.gets(number)),
+        "causes" => numbers_text(alloc, table.causes(number)),
+        "effects" => numbers_text(alloc, table.effects(number)),
+        "counts" => {
+            let (n, k) = (table.n(number), table.k(number));
+            Ok(format!(in alloc; "{n}/{k}")?)
         }
+        _ => Err(ScriptFault::Words),
     }
 }
 
-#[test]
-fn marks(rt: HostRuntime) {
-    let Ok(mut marked) = Marked::new(rt.alloc(), 3) else {
-        panic!(rt; "memory ran out")
-    };
-    notes(&rt, &mut marked, 2, true);
-    notes(&rt, &mut marked, 2, false);
-    notes(&rt, &mut marked, 0, true);
-    assert!(rt; marked.has(2));
-    assert!(rt; !marked.has(1));
-    assert!(rt; !marked.has(9));
-    assert!(rt; marked.as_slice() == [2, 0].as_slice());
+/// What a graph answers.
+fn ask_graph(alloc: Global, graph: &Graph, word: &str, rest: &str) -> Result<String, ScriptFault> {
+    match word {
+        "sizes" => sizes(alloc, graph),
+        "find" => find(alloc, graph, rest),
+        "rank" => found_text(alloc, rank(graph, number_in(rest)?)),
+        _ => ask_table(alloc, graph.incidence(), word, number_in(rest)?),
+    }
+}
+
+/// What a graph answers, and a copy of it.
+pub fn ask(alloc: Global, graph: &Graph, word: &str, rest: &str) -> Result<String, ScriptFault> {
+    let copy = graph.copy(alloc)?;
+    let answer = ask_graph(alloc, graph, word, rest)?;
+    if answer == ask_graph(alloc, &copy, word, rest)? {
+        Ok(answer)
+    } else {
+        Ok(String::from_str(alloc, "a copy differs")?)
+    }
+}
+
+/// Puts a number, and whether it was put for the first time.
+fn note(marked: &mut Marked, number: u32) -> Result<bool, ScriptFault> {
+    if number as usize >= marked.size() {
+        return Err(ScriptFault::Words);
+    }
+    Ok(marked.note(number)?)
+}
+
+/// What marks answer, `note NUMBER` or `has NUMBER`.
+fn mark(marked: &mut Marked, words: &str) -> Result<bool, ScriptFault> {
+    let (word, number) = first_word(words);
+    match word {
+        "note" => note(marked, number_in(number)?),
+        "has" => Ok(marked.has(number_in(number)?)),
+        _ => Err(ScriptFault::Words),
+    }
+}
+
+/// What marks of numbers below a size answer, one word after the other, and all that were put.
+pub fn marks(alloc: Global, words: &str) -> Result<String, ScriptFault> {
+    let (size, rest) = first_part(words);
+    let mut marked = Marked::new(alloc, number_in(size)? as usize)?;
+    let mut line = String::new(alloc);
+    for each in rest.split(',') {
+        let answer = mark(&mut marked, each.trim())?;
+        write!(&mut line, "{answer} ")?;
+    }
+    let all = numbers_text(alloc, marked.as_slice())?;
+    line.push_str(&all)?;
+    Ok(line)
 }

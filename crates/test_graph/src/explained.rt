@@ -1,134 +1,155 @@
-//! Which roots are possible, and by what story.
-
-use crate::drawn::{Draws, REPORTS, bits_of, drawn_graph, numbers_of, stories_of, union_of};
-use crate::made::{cpu_graph, fan_graph, fan_graph_with, put};
+// Which roots are possible, and by what story.
+use crate::drawn::{
+    Draws, REPORTS, bit_of, bits_of, drawn_graph, numbers_of, stories_of, union_of,
+};
+use crate::fault::ScriptFault;
+use crate::stories::is_own_story;
+use crate::words::{first_part, links_in, number_in, numbers_in, numbers_text};
 use dx_explain::{Scratch, explain, explain_in};
-use dx_story::{are_links, check_story};
-use ev_graph::{Graph, Link, ascends, is_report_node};
+use dx_story::are_links;
+use ev_graph::{Graph, Link, ascends};
 use std::alloc::Global;
-use std::process::Abort;
 
-/// What `explain` answers, where what is allowed ascends. Each story is checked.
+/// What `explain` answers, where what is allowed ascends.
 fn explained(
-    rt: &impl Abort,
     alloc: Global,
     graph: &Graph,
     root: u32,
     seen: &[u32],
     allowed: &[u32],
-) -> Option<Vec<u32>> {
+) -> Result<Option<Vec<u32>>, ScriptFault> {
     if !ascends(allowed) {
-        panic!(rt; "what is allowed does not ascend");
+        return Err(ScriptFault::Words);
     }
-    match explain(alloc, graph, root, seen, allowed) {
-        Ok(Some(story)) => {
-            is_story(rt, alloc, graph, root, story.as_slice());
-            Some(story)
-        }
-        Ok(None) => None,
-        Err(_) => panic!(rt; "memory ran out"),
-    }
+    Ok(explain(alloc, graph, root, seen, allowed)?)
 }
 
-/// Asserts that it is a story of the root, where it has some report.
-pub fn is_story(rt: &impl Abort, alloc: Global, graph: &Graph, root: u32, story: &[u32]) {
-    let mut reports = Vec::new(alloc);
-    for node in story {
-        if is_report_node(graph.nodes(), *node) {
-            put(rt, &mut reports, *node);
-        }
-    }
-    if !reports.is_empty() {
-        assert!(rt; check_story(graph, root, reports.as_slice(), story));
-    }
-}
-
-/// Asserts what `explain` answers; no node stands for no story.
-fn tells(
-    rt: &impl Abort,
+/// A story, where it is one of the root.
+fn story_text(
     alloc: Global,
     graph: &Graph,
     root: u32,
+    found: Option<Vec<u32>>,
+) -> Result<String, ScriptFault> {
+    match found {
+        Some(story) => {
+            if is_own_story(alloc, graph, root, &story)? {
+                numbers_text(alloc, &story)
+            } else {
+                Ok(String::from_str(alloc, "no story of it")?)
+            }
+        }
+        None => Ok(String::from_str(alloc, "none")?),
+    }
+}
+
+/// The greatest story, `ROOT, SEEN .., ALLOWED ..`.
+pub fn explain_root(alloc: Global, graph: &Graph, words: &str) -> Result<String, ScriptFault> {
+    let (root, rest) = first_part(words);
+    let (seen, allowed) = first_part(rest);
+    let root = number_in(root)?;
+    let seen = numbers_in(alloc, seen)?;
+    let allowed = numbers_in(alloc, allowed)?;
+    let found = explained(alloc, graph, root, &seen, &allowed)?;
+    story_text(alloc, graph, root, found)
+}
+
+/// The greatest story less these links, by `explain_in`, as bits of nodes below 8; none where the
+/// root is not possible.
+pub fn found_less(
+    alloc: Global,
+    graph: &Graph,
+    less: &[Link],
+    root: u32,
     seen: &[u32],
     allowed: &[u32],
-    want: &[u32],
-) {
-    match explained(rt, alloc, graph, root, seen, allowed) {
-        Some(story) => assert!(rt; story.as_slice() == want),
-        None => assert!(rt; want.len() == 0),
+) -> Result<Option<u32>, ScriptFault> {
+    if !are_links(graph, less) || !ascends(allowed) {
+        return Err(ScriptFault::Words);
+    }
+    let mut room = Scratch::new(alloc, graph)?;
+    if explain_in(graph, less, root, seen, allowed, &mut room) {
+        Ok(Some(bits_in(&room)))
+    } else {
+        Ok(None)
     }
 }
 
-#[test]
-fn of_the_cpu(rt: HostRuntime) {
-    let alloc = rt.alloc();
-    let graph = cpu_graph(&rt, alloc);
-    tells(&rt, alloc, &graph, 3, &[1], &[0, 1], &[]);
-    tells(&rt, alloc, &graph, 3, &[0], &[0, 1], &[0, 3]);
-    tells(&rt, alloc, &graph, 2, &[0], &[0], &[0, 2]);
-    tells(&rt, alloc, &graph, 2, &[0], &[0, 1], &[0, 1, 2]);
-    tells(&rt, alloc, &graph, 0, &[0], &[0], &[]);
-    tells(&rt, alloc, &graph, 9, &[0], &[0], &[]);
-}
-
-#[test]
-fn of_the_fans(rt: HostRuntime) {
-    let alloc = rt.alloc();
-    tells(&rt, alloc, &fan_graph(&rt, alloc), 4, &[0], &[0], &[]);
-    let both = fan_graph_with(&rt, alloc, 4, 3, 1);
-    tells(&rt, alloc, &both, 4, &[0], &[0], &[0, 2, 3, 4]);
-    let warm = fan_graph_with(&rt, alloc, 2, 1, 0);
-    tells(&rt, alloc, &warm, 4, &[1], &[1], &[]);
-}
-
-/// Whether the fault dead of a fan is possible for the report stop less these links, none where
-/// they are no links of the graph; then its story is that of a `Scratch`.
-fn possible_less(rt: &impl Abort, alloc: Global, graph: &Graph, less: &[Link]) -> Option<bool> {
-    let Ok(mut room) = Scratch::new(alloc, graph) else {
-        panic!(rt; "memory ran out");
-    };
-    if !are_links(graph, less) {
-        return None;
+/// The nodes below 8 that are in the set that was found last, as bits.
+fn bits_in(room: &Scratch) -> u32 {
+    let mut bits = 0u32;
+    for node in 0..8 {
+        if room.has(node) {
+            bits |= bit_of(node);
+        }
     }
-    let possible = explain_in(graph, less, 4, &[0], &[0], &mut room);
-    assert!(rt; possible == room.has(4));
-    assert!(rt; !room.has(1));
-    Some(possible)
+    bits
 }
 
-#[test]
-fn less_a_link(rt: HostRuntime) {
-    let alloc = rt.alloc();
-    let graph = fan_graph_with(&rt, alloc, 4, 3, 1);
-    let link = Link {
-        instance: 2,
-        effect: 3,
-    };
-    assert!(rt; possible_less(&rt, alloc, &graph, &[]) == Some(true));
-    assert!(rt; possible_less(&rt, alloc, &graph, &[link]) == Some(false));
-    assert!(rt; possible_less(&rt, alloc, &graph, &[link, link]) == None);
+/// The same in the graph less some links, `LINK .., ROOT, SEEN .., ALLOWED ..`.
+pub fn explain_less(alloc: Global, graph: &Graph, words: &str) -> Result<String, ScriptFault> {
+    let (links, rest) = first_part(words);
+    let (root, rest) = first_part(rest);
+    let (seen, allowed) = first_part(rest);
+    let less = links_in(alloc, links)?;
+    let seen = numbers_in(alloc, seen)?;
+    let allowed = numbers_in(alloc, allowed)?;
+    if !are_links(graph, &less) {
+        return Ok(String::from_str(alloc, "no links")?);
+    }
+    match found_less(alloc, graph, &less, number_in(root)?, &seen, &allowed)? {
+        Some(bits) => numbers_text(alloc, &numbers_of(alloc, bits)?),
+        None => Ok(String::from_str(alloc, "none")?),
+    }
 }
 
-/// Asserts that `explain` answers as the search over all sets of nodes, whatever is seen.
-fn agrees(rt: &impl Abort, alloc: Global, graph: &Graph, root: u32, draws: &mut Draws) {
-    let stories = stories_of(rt, alloc, graph, &[], root);
+/// Whether `explain` answers as the search over all sets of nodes.
+fn agrees(
+    alloc: Global,
+    graph: &Graph,
+    stories: &[u32],
+    root: u32,
+    seen: u32,
+    allowed: u32,
+) -> Result<bool, ScriptFault> {
+    let want = union_of(stories, seen, allowed);
+    let seen = numbers_of(alloc, seen)?;
+    let allowed = numbers_of(alloc, allowed)?;
+    match explained(alloc, graph, root, &seen, &allowed)? {
+        Some(story) => {
+            Ok(is_own_story(alloc, graph, root, &story)? && want == Some(bits_of(&story)))
+        }
+        None => Ok(want.is_none()),
+    }
+}
+
+/// How many answers for a root are other than those of the search, whatever is seen.
+fn count_wrong(
+    alloc: Global,
+    graph: &Graph,
+    root: u32,
+    draws: &mut Draws,
+) -> Result<u32, ScriptFault> {
+    let stories = stories_of(alloc, graph, &[], root)?;
+    let mut wrong = 0u32;
     for seen in 1..8 {
         let allowed = seen | draws.some_of(REPORTS);
-        let want = union_of(stories.as_slice(), seen, allowed);
-        let seen = numbers_of(rt, alloc, seen);
-        let allowed = numbers_of(rt, alloc, allowed);
-        let found = explained(rt, alloc, graph, root, seen.as_slice(), allowed.as_slice());
-        assert!(rt; found.map(|story| bits_of(story.as_slice())) == want);
+        if !agrees(alloc, graph, &stories, root, seen, allowed)? {
+            wrong = wrong.saturating_add(1);
+        }
     }
+    Ok(wrong)
 }
 
-#[test]
-fn of_drawn_graphs(rt: HostRuntime) {
-    let alloc = rt.alloc();
-    let mut draws = Draws::new(1);
-    for _ in 0..60 {
-        let graph = drawn_graph(&rt, alloc, &mut draws);
-        agrees(&rt, alloc, &graph, 6, &mut draws);
-        agrees(&rt, alloc, &graph, 7, &mut draws);
+/// Tries both roots of so many graphs that are drawn from a number.
+pub fn drawn_stories(alloc: Global, seed: u32, count: u32) -> Result<String, ScriptFault> {
+    let mut draws = Draws::new(u64::from(seed));
+    let mut wrong = 0u32;
+    for _ in 0..count {
+        let graph = drawn_graph(alloc, &mut draws)?;
+        for root in [6, 7] {
+            wrong = wrong.saturating_add(count_wrong(alloc, &graph, root, &mut draws)?);
+        }
     }
+    Ok(format!(in alloc; "{count} graphs, {wrong} wrong")?)
 }

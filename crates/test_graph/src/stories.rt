@@ -1,70 +1,58 @@
-//! Which sets of nodes are stories.
-
-use crate::made::{cpu_graph, fan_graph_with};
+// Which sets of nodes are stories.
+use crate::fault::ScriptFault;
+use crate::words::{first_part, links_in, number_in, numbers_in};
 use dx_story::{are_links, check_story, check_story_less};
-use ev_graph::{Graph, Link};
-use std::process::Abort;
+use ev_graph::{Graph, Link, is_report_node};
+use std::alloc::Global;
 
-fn tells(rt: &impl Abort, graph: &Graph, root: u32, seen: &[u32], story: &[u32], want: bool) {
-    assert!(rt; check_story(graph, root, seen, story) == want);
+/// Whether the links are some of the graph's, and less these the set is a story.
+pub fn is_story_less(graph: &Graph, less: &[Link], root: u32, seen: &[u32], story: &[u32]) -> bool {
+    are_links(graph, less) && check_story_less(graph, less, root, seen, story)
 }
 
-#[test]
-fn of_the_cache(rt: HostRuntime) {
-    let graph = cpu_graph(&rt, rt.alloc());
-    tells(&rt, &graph, 2, &[0], &[0, 2], true);
-    tells(&rt, &graph, 2, &[0], &[0, 1, 2], false);
-    tells(&rt, &graph, 2, &[0], &[2, 0], false);
-    tells(&rt, &graph, 2, &[0, 1], &[0, 1, 2], true);
-    tells(&rt, &graph, 2, &[], &[2], false);
-    tells(&rt, &graph, 2, &[4], &[2, 4], false);
+/// The reports among these nodes.
+fn reports_in(alloc: Global, graph: &Graph, story: &[u32]) -> Result<Vec<u32>, ScriptFault> {
+    let mut reports = Vec::new(alloc);
+    for node in story {
+        if is_report_node(graph.nodes(), *node) {
+            reports.push(*node)?;
+        }
+    }
+    Ok(reports)
 }
 
-#[test]
-fn of_the_core(rt: HostRuntime) {
-    let graph = cpu_graph(&rt, rt.alloc());
-    tells(&rt, &graph, 3, &[0], &[0, 3], true);
-    tells(&rt, &graph, 3, &[1], &[1, 3], false);
-    tells(&rt, &graph, 3, &[0], &[0, 2, 3], false);
-    tells(&rt, &graph, 0, &[0], &[0], false);
+/// Whether it is a story of the root with the reports in it, where it has some.
+pub fn is_own_story(
+    alloc: Global,
+    graph: &Graph,
+    root: u32,
+    story: &[u32],
+) -> Result<bool, ScriptFault> {
+    let reports = reports_in(alloc, graph, story)?;
+    Ok(reports.is_empty() || check_story(graph, root, &reports, story))
 }
 
-#[test]
-fn of_the_fan(rt: HostRuntime) {
-    let alloc = rt.alloc();
-    let both = fan_graph_with(&rt, alloc, 4, 3, 1);
-    tells(&rt, &both, 4, &[0], &[0, 2, 3, 4], true);
-    tells(&rt, &both, 4, &[0], &[0, 2, 4], false);
-    let warm = fan_graph_with(&rt, alloc, 2, 1, 0);
-    tells(&rt, &warm, 4, &[1], &[1, 2, 4], false);
+/// Whether there is this story, `ROOT, SEEN .., NODE ..`.
+pub fn story(alloc: Global, graph: &Graph, words: &str) -> Result<String, ScriptFault> {
+    let (root, rest) = first_part(words);
+    let (seen, nodes) = first_part(rest);
+    let seen = numbers_in(alloc, seen)?;
+    let nodes = numbers_in(alloc, nodes)?;
+    let answer = check_story(graph, number_in(root)?, &seen, &nodes);
+    Ok(format!(in alloc; "{answer}")?)
 }
 
-/// Asserts whether there is this story of dead with the report stop in the graph less these links;
-/// none where they are none of its links.
-fn tells_less(rt: &impl Abort, graph: &Graph, less: &[Link], story: &[u32], want: Option<bool>) {
-    let told = if are_links(graph, less) {
-        Some(check_story_less(graph, less, 4, &[0], story))
-    } else {
-        None
-    };
-    assert!(rt; told == want);
-}
-
-#[test]
-fn less_links(rt: HostRuntime) {
-    let graph = fan_graph_with(&rt, rt.alloc(), 4, 3, 1);
-    let whole = [0, 2, 3, 4];
-    let instance = 2;
-    let link = Link {
-        instance,
-        effect: 3,
-    };
-    let other = Link {
-        instance,
-        effect: 2,
-    };
-    tells_less(&rt, &graph, &[], &whole, Some(true));
-    tells_less(&rt, &graph, &[link], &whole, Some(false));
-    tells_less(&rt, &graph, &[other], &whole, None);
-    tells_less(&rt, &graph, &[link, link], &whole, None);
+/// The same in the graph less some links, `LINK .., ROOT, SEEN .., NODE ..`.
+pub fn story_less(alloc: Global, graph: &Graph, words: &str) -> Result<String, ScriptFault> {
+    let (links, rest) = first_part(words);
+    let (root, rest) = first_part(rest);
+    let (seen, nodes) = first_part(rest);
+    let less = links_in(alloc, links)?;
+    let seen = numbers_in(alloc, seen)?;
+    let nodes = numbers_in(alloc, nodes)?;
+    if !are_links(graph, &less) {
+        return Ok(String::from_str(alloc, "no links")?);
+    }
+    let answer = check_story_less(graph, &less, number_in(root)?, &seen, &nodes);
+    Ok(format!(in alloc; "{answer}")?)
 }

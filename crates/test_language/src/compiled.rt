@@ -1,103 +1,101 @@
-//! A file that is worked out by hand, and files that differ from it.
-
+// The bytes of compiled files, read, written, cut and altered.
+use crate::fault::ScriptFault;
+use crate::instances::put_instances;
+use crate::texts::bytes_in;
+use crate::words::{first_word, number_in};
 use ev_file::{Made, read_file, write_file};
-use std::alloc::Global;
-use std::process::Abort;
-use std::test::Fail;
+use ev_graph::EngineSpec;
+use std::alloc::{AllocError, Global};
 
-/// A machine of one part, with a fault, an upset and its engine. Nodes: two reports, the fault, the
-/// upset; each of two instances leads to one report. Nine instances were skipped.
-const FILE: [u8; 313] = *b"FMAESC01\
-\0\0\0\x04\
-\x05\0\x0eereport.cpu.ce\0\x15hc:///chassis=0/cpu=0\0\0\0\0\0\0\0\0\
-\x05\0\x0fereport.cpu.thr\0\x15hc:///chassis=0/cpu=0\0\0\0\0\0\0\0\x07\
-\x01\0\x0ffault.cpu.cache\0\x15hc:///chassis=0/cpu=0\0\0\0\x01\x01\
-\x03\0\x0cupset.cpu.ce\0\x15hc:///chassis=0/cpu=0\0\0\0\0\
-\0\0\0\x01\
-\0\x0bserd.cpu.ce\0\x15hc:///chassis=0/cpu=0\0\0\0\x03\0\0\x03F0\xb8\xa0\0\0\0\0\x01\
-\0\0\0\x02\
-\0\0\0\x01\0\0\0\x01\0\0\0\x01\0\0\0\x03\0\0\0\x01\0\0\0\0\
-\0\0\0\0\0\0\0\x01\0\0\0\x01\0\0\0\x02\0\0\0\x01\0\0\0\x01\
-\0\0\0\0\0\0\0\x09";
-
-/// The file of no events.
-const EMPTY: [u8; 28] = *b"FMAESC01\0\0\0\0\0\0\0\0\0\0\0\0\0\0\0\0\0\0\0\0";
-
-fn read(alloc: Global, bytes: &[u8]) -> Result<(Made, usize), Fail> {
+/// What bytes begin with: a file, and how long it is.
+fn file_in(alloc: Global, bytes: &[u8]) -> Result<(Made, usize), ScriptFault> {
     match read_file(alloc, bytes)? {
         Some(found) => Ok(found),
-        None => Err(Fail::new("no file")),
+        None => Err(ScriptFault::Words),
     }
 }
 
-#[test]
-fn a_file_is_read(rt: HostRuntime) -> Result<(), Fail> {
-    let (made, size) = read(rt.alloc(), &FILE)?;
-    assert_eq!(rt; size, 313);
-    assert_eq!(rt; made.skipped, 9);
-    assert_eq!(rt; made.graph.nodes().len(), 4);
-    let engines = made.graph.engines();
-    assert_eq!(rt; engines.len(), 1);
-    assert_eq!(rt; engines[0].t, 3_600_000_000_000);
-    let instances = made.graph.instances();
-    assert_eq!(rt; instances.len(), 2);
-    assert_eq!(rt; instances[0].causes.as_slice(), [3].as_slice());
-    assert_eq!(rt; instances[1].n, 0);
+/// Puts N, T and the trip of each engine.
+fn put_engines(engines: &[EngineSpec], line: &mut String) -> Result<(), AllocError> {
+    for engine in engines {
+        let EngineSpec { n, t, trip, .. } = engine;
+        write!(line, "engine {n} {t} {trip}; ")?;
+    }
     Ok(())
 }
 
-#[test]
-fn a_file_is_written_behind_what_is_there(rt: HostRuntime) -> Result<(), Fail> {
-    let alloc = rt.alloc();
-    let (made, _) = read(alloc, &FILE)?;
-    let (empty, size) = read(alloc, &EMPTY)?;
-    assert_eq!(rt; size, 28);
+/// What was made, as a line.
+fn made_text(alloc: Global, made: &Made, size: usize) -> Result<String, AllocError> {
+    let nodes = made.graph.nodes().len();
+    let mut line = format!(in alloc; "{size} bytes; {nodes} nodes; ")?;
+    put_engines(made.graph.engines(), &mut line)?;
+    put_instances(made.graph.instances(), &mut line)?;
+    let skipped = made.skipped;
+    write!(&mut line, "{skipped} skipped")?;
+    Ok(line)
+}
+
+/// What bytes read as.
+pub fn read(alloc: Global, bytes: &[u8]) -> Result<String, ScriptFault> {
+    match read_file(alloc, bytes)? {
+        Some((made, size)) => Ok(made_text(alloc, &made, size)?),
+        None => Ok(String::from_str(alloc, "no file")?),
+    }
+}
+
+/// The bytes of two files, one behind the other.
+fn both(alloc: Global, first: &[u8], second: &[u8]) -> Result<Vec<u8>, ScriptFault> {
+    let mut bytes = first.to_vec(alloc)?;
+    bytes.extend_from_slice(second)?;
+    Ok(bytes)
+}
+
+/// What two files that were read are written as, one behind the other.
+fn written(alloc: Global, first: &[u8], second: &[u8]) -> Result<Vec<u8>, ScriptFault> {
+    let (made, _) = file_in(alloc, first)?;
+    let (other, _) = file_in(alloc, second)?;
     let mut out = Vec::new(alloc);
-    write_file(&empty, &mut out)?;
-    assert_eq!(rt; out.as_slice(), EMPTY.as_slice());
     write_file(&made, &mut out)?;
-    assert_eq!(rt; &out[28..], FILE.as_slice());
-    let (_, first) = read(alloc, &out)?;
-    assert_eq!(rt; first, 28);
-    Ok(())
+    write_file(&other, &mut out)?;
+    Ok(out)
 }
 
-#[test]
-fn no_part_of_a_file_is_one(rt: HostRuntime) -> Result<(), Fail> {
-    let alloc = rt.alloc();
-    for end in 0..FILE.len() {
-        assert!(rt; read_file(alloc, &FILE[..end])?.is_none());
+/// Whether this file and the other are written, one behind the other, as the bytes that they were
+/// read from, and how long the first of them is then.
+pub fn write(alloc: Global, file: &[u8], text: &str) -> Result<String, ScriptFault> {
+    let first = bytes_in(alloc, text)?;
+    let out = written(alloc, &first, file)?;
+    if out != both(alloc, &first, file)? {
+        return Ok(String::from_str(alloc, "other bytes")?);
     }
-    Ok(())
+    let (_, size) = file_in(alloc, &out)?;
+    let count = out.len();
+    Ok(format!(in alloc; "the same {count} bytes, of which the first file has {size}")?)
 }
 
-/// Whether each change of one byte, as `places` and `bytes` say, leaves a file or none, as wanted.
-fn each_is(alloc: Global, want: bool, places: &[u8], bytes: &[u8]) -> Result<bool, Fail> {
-    for (place, byte) in places.iter().zip(bytes) {
-        let mut other = FILE;
-        other[usize::from(*place)] = *byte;
-        if read_file(alloc, &other)?.is_some() != want {
-            return Ok(false);
+/// How many beginnings of the bytes there are, and how many of these are files.
+pub fn beginnings(alloc: Global, bytes: &[u8]) -> Result<String, ScriptFault> {
+    let mut files = 0u32;
+    for end in 0..bytes.len() {
+        if read_file(alloc, &bytes[..end])?.is_some() {
+            files = files.saturating_add(1);
         }
     }
-    Ok(true)
+    let count = bytes.len();
+    Ok(format!(in alloc; "{count} beginnings, {files} files")?)
 }
 
-#[test]
-fn other_bytes_are_no_file(rt: HostRuntime) -> Result<(), Fail> {
-    // The eight bytes, a kind of no number, a fault as a defect, a truth value, a text that is no
-    // class; a node too many, an engine that is not there, and a trip that is no report.
-    let places = [7, 12, 109, 154, 15, 11, 196, 252];
-    let bytes = [48, 6, 2, 2, 46, 5, 1, 3];
-    assert!(rt; each_is(rt.alloc(), false, &places, &bytes)?);
-    Ok(())
-}
-
-#[test]
-fn numbers_may_differ(rt: HostRuntime) -> Result<(), Fail> {
-    // Another time to wait, no retirement, another rate, and another N of the engine.
-    let places = [108, 154, 153, 240];
-    let bytes = [8, 0, 9, 4];
-    assert!(rt; each_is(rt.alloc(), true, &places, &bytes)?);
-    Ok(())
+/// What the bytes read as where one is altered, `PLACE BYTE`.
+pub fn alter(alloc: Global, bytes: &[u8], words: &str) -> Result<String, ScriptFault> {
+    let (place, byte) = first_word(words);
+    let place = number_in(place)? as usize;
+    let Ok(byte) = byte.parse::<u8>() else {
+        return Err(ScriptFault::Words);
+    };
+    let mut other = bytes.to_vec(alloc)?;
+    match other.get_mut(place) {
+        Some(at) => *at = byte,
+        None => return Err(ScriptFault::Words),
+    }
+    read(alloc, &other)
 }
