@@ -14,7 +14,9 @@ ghost use Rattle.dx_explain.specs.Explaining.{may_stay, set_of, FitsGraph, AreMe
 ghost use Rattle.dx_explain.specs.Explaining.{IsExplanation, IsExplanationList};
 
 use dx_sets::{Sets, begin, fill};
-use ev_graph::{CutList, CutTest, Graph, Link, NoMemory, Node, contains, is_report_node, is_root_node};
+use ev_graph::{
+    CutList, CutTest, Graph, Link, NoMemory, Node, contains, is_report_node, is_root_node,
+};
 use std::alloc::Global;
 use std::marker::Model;
 

@@ -117,13 +117,7 @@ pub fn drawn_graph(rt: &impl Abort, alloc: Global, draws: &mut Draws) -> Graph {
 
 /// Whether these are links of the graph, in order, and without them it is a story of the root with
 /// just these reports.
-pub fn is_story_less(
-    graph: &Graph,
-    less: &[Link],
-    root: u32,
-    seen: &[u32],
-    story: &[u32],
-) -> bool {
+pub fn is_story_less(graph: &Graph, less: &[Link], root: u32, seen: &[u32], story: &[u32]) -> bool {
     are_links(graph, less) && check_story_less(graph, less, root, seen, story)
 }
 

@@ -1,7 +1,8 @@
 //! Which roots are possible, and by what story.
 
-use crate::drawn::{Draws, REPORTS, bits_of, drawn_graph, is_story_less, numbers_of};
-use crate::drawn::{stories_of, union_of};
+use crate::drawn::{
+    Draws, REPORTS, bits_of, drawn_graph, is_story_less, numbers_of, stories_of, union_of,
+};
 use crate::made::{cpu_graph, fan_graph, fan_graph_with, put};
 use dx_explain::{Scratch, explain, explain_in};
 use dx_story::{are_links, check_story};
