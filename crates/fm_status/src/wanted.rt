@@ -53,6 +53,7 @@ impl Wanted {
     {
         let mut paths: Vec<Fmri> = Vec::from_iter(alloc, met)?;
         paths.sort_unstable();
+        // drops none, since a set holds no path twice; the proof takes the strict order from it
         paths.dedup();
         Ok(Wanted { paths })
     }

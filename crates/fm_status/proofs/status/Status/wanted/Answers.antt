@@ -22,8 +22,8 @@ places-preserved-in-Continue-1 c =
     ≡ slice_get c.self.inside.rows.items c.in-Some.place.now = search rules in
     paths_more c.places.met.keys c.put_paths.new.met.keys
     (insert_all (pointwise nat_eq) [] (flat_map row_paths c.args.self.now))
-    c.in-Some-row_at.row.now c.self.inside.rows.items c.places.place-iterator c.next.new.self c.in-Some.place.now c.in_ok-put_paths.ensures
-    c.places.invariant step there
+    c.in-Some-row_at.row.now c.self.inside.rows.items c.places.place-iterator
+    c.next.new.self c.in-Some.place.now c.in_ok-put_paths.ensures c.places.invariant step there
 
 pub places-preserved : goal.places-preserved
 places-preserved c =
