@@ -7,23 +7,44 @@ use crate::stories::is_own_story;
 use ev_graph::{Graph, Link};
 use std::alloc::Global;
 
-/// Whether the bits are the greatest story of the root less these links, with these reports
-/// allowed, as it is found afresh, and as the search finds it in the stories.
+/// A root, and all its stories in the graph less some links, as the search finds them.
+#[derive(Drop)]
+struct RootStories<'a> {
+    less: &'a [Link],
+    root: u32,
+    stories: Vec<u32>,
+}
+
+/// The stories of a root in the graph less these links.
+fn root_stories<'a>(
+    alloc: Global,
+    graph: &Graph,
+    less: &'a [Link],
+    root: u32,
+) -> Result<RootStories<'a>, ScriptFault> {
+    let stories = stories_of(alloc, graph, less, root)?;
+    Ok(RootStories {
+        less,
+        root,
+        stories,
+    })
+}
+
+/// Whether the bits are the greatest story with these reports allowed, as it is found afresh, and
+/// as the search finds it.
 fn is_greatest(
     alloc: Global,
     graph: &Graph,
-    less: &[Link],
-    root: u32,
+    all: &RootStories,
     allowed: u32,
     bits: u32,
 ) -> Result<bool, ScriptFault> {
-    let stories = stories_of(alloc, graph, less, root)?;
     let reports = numbers_of(alloc, allowed)?;
-    let afresh = found_less(alloc, graph, less, root, &[], &reports)?.unwrap_or(0);
+    let afresh = found_less(alloc, graph, all.less, all.root, &[], &reports)?.unwrap_or(0);
     // The search knows no story without a report.
-    let searched = union_of(&stories, 0, allowed).unwrap_or(afresh & !REPORTS);
+    let searched = union_of(&all.stories, 0, allowed).unwrap_or(afresh & !REPORTS);
     let story = numbers_of(alloc, bits)?;
-    let is_story = bits == 0 || is_own_story(alloc, graph, root, &story)?;
+    let is_story = bits == 0 || is_own_story(alloc, graph, all.less, all.root, &story)?;
     Ok(bits == afresh && afresh == searched && is_story)
 }
 
@@ -40,7 +61,7 @@ const ORDERS: [[u32; 3]; 6] = [
 fn count_shrunk_wrong(
     alloc: Global,
     graph: &Graph,
-    root: u32,
+    all: &RootStories,
     order: [u32; 3],
 ) -> Result<u32, ScriptFault> {
     let [first, second, last] = order;
@@ -51,10 +72,10 @@ fn count_shrunk_wrong(
         Change::Lose(last),
     ];
     let left = [REPORTS, REPORTS & !bit_of(first), bit_of(last), 0];
-    let sets = live_sets(alloc, graph, root, &changes)?;
+    let sets = live_sets(alloc, graph, all.root, &changes)?;
     let mut wrong = 0u32;
     for (bits, allowed) in sets.iter().zip(left) {
-        if !is_greatest(alloc, graph, &[], root, allowed, *bits)? {
+        if !is_greatest(alloc, graph, all, allowed, *bits)? {
             wrong = wrong.saturating_add(1);
         }
     }
@@ -63,9 +84,10 @@ fn count_shrunk_wrong(
 
 /// The same in each order.
 fn count_all_shrunk_wrong(alloc: Global, graph: &Graph, root: u32) -> Result<u32, ScriptFault> {
+    let all = root_stories(alloc, graph, &[], root)?;
     let mut wrong = 0u32;
     for order in ORDERS {
-        wrong = wrong.saturating_add(count_shrunk_wrong(alloc, graph, root, order)?);
+        wrong = wrong.saturating_add(count_shrunk_wrong(alloc, graph, &all, order)?);
     }
     Ok(wrong)
 }
@@ -109,7 +131,8 @@ fn count_cut_wrong(alloc: Global, graph: &Graph, root: u32) -> Result<u32, Scrip
         } else {
             bit_of(0) | bit_of(2)
         };
-        if !is_greatest(alloc, graph, less, root, allowed, *bits)? {
+        let all = root_stories(alloc, graph, less, root)?;
+        if !is_greatest(alloc, graph, &all, allowed, *bits)? {
             wrong = wrong.saturating_add(1);
         }
     }

@@ -24,16 +24,17 @@ fn explained(
     Ok(explain(alloc, graph, root, seen, allowed)?)
 }
 
-/// A story, where it is one of the root.
+/// A story, where it is one of the root, also less these links.
 fn story_text(
     alloc: Global,
     graph: &Graph,
+    less: &[Link],
     root: u32,
     found: Option<Vec<u32>>,
 ) -> Result<String, ScriptFault> {
     match found {
         Some(story) => {
-            if is_own_story(alloc, graph, root, &story)? {
+            if is_own_story(alloc, graph, less, root, &story)? {
                 numbers_text(alloc, &story)
             } else {
                 Ok(String::from_str(alloc, "no story of it")?)
@@ -51,7 +52,7 @@ pub fn explain_root(alloc: Global, graph: &Graph, words: &str) -> Result<String,
     let seen = numbers_in(alloc, seen)?;
     let allowed = numbers_in(alloc, allowed)?;
     let found = explained(alloc, graph, root, &seen, &allowed)?;
-    story_text(alloc, graph, root, found)
+    story_text(alloc, graph, &[], root, found)
 }
 
 /// The greatest story less these links, by `explain_in`, as bits of nodes below 8; none where the
@@ -92,15 +93,17 @@ pub fn explain_less(alloc: Global, graph: &Graph, words: &str) -> Result<String,
     let (root, rest) = first_part(rest);
     let (seen, allowed) = first_part(rest);
     let less = links_in(alloc, links)?;
+    let root = number_in(root)?;
     let seen = numbers_in(alloc, seen)?;
     let allowed = numbers_in(alloc, allowed)?;
     if !are_links(graph, &less) {
         return Ok(String::from_str(alloc, "no links")?);
     }
-    match found_less(alloc, graph, &less, number_in(root)?, &seen, &allowed)? {
-        Some(bits) => numbers_text(alloc, &numbers_of(alloc, bits)?),
-        None => Ok(String::from_str(alloc, "none")?),
-    }
+    let found = match found_less(alloc, graph, &less, root, &seen, &allowed)? {
+        Some(bits) => Some(numbers_of(alloc, bits)?),
+        None => None,
+    };
+    story_text(alloc, graph, &less, root, found)
 }
 
 /// Whether `explain` answers as the search over all sets of nodes.
@@ -117,7 +120,7 @@ fn agrees(
     let allowed = numbers_of(alloc, allowed)?;
     match explained(alloc, graph, root, &seen, &allowed)? {
         Some(story) => {
-            Ok(is_own_story(alloc, graph, root, &story)? && want == Some(bits_of(&story)))
+            Ok(is_own_story(alloc, graph, &[], root, &story)? && want == Some(bits_of(&story)))
         }
         None => Ok(want.is_none()),
     }

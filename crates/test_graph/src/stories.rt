@@ -21,15 +21,23 @@ fn reports_in(alloc: Global, graph: &Graph, story: &[u32]) -> Result<Vec<u32>, S
     Ok(reports)
 }
 
-/// Whether it is a story of the root with the reports in it, where it has some.
+/// Whether it is a story of the root with the reports in it, also less these links, where it has
+/// some.
 pub fn is_own_story(
     alloc: Global,
     graph: &Graph,
+    less: &[Link],
     root: u32,
     story: &[u32],
 ) -> Result<bool, ScriptFault> {
     let reports = reports_in(alloc, graph, story)?;
-    Ok(reports.is_empty() || check_story(graph, root, &reports, story))
+    if reports.is_empty() {
+        return Ok(true);
+    }
+    Ok(
+        check_story(graph, root, &reports, story)
+            && is_story_less(graph, less, root, &reports, story),
+    )
 }
 
 /// Whether there is this story, `ROOT, SEEN .., NODE ..`.

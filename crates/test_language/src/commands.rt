@@ -9,6 +9,7 @@ use crate::fault::ScriptFault;
 use crate::guards::{breaks, guarded};
 use crate::instances::instances;
 use crate::listed::list;
+use crate::orders::ordered_iterators;
 use crate::pairs::pairs;
 use crate::settings::Settings;
 use crate::sources::{rule_file, sources};
@@ -34,6 +35,7 @@ fn answer_of_rules(
         "explain" => explain(alloc, rules, parts, rest),
         "explain_alone" => explain_alone(alloc, rest),
         "pairs" => pairs(alloc, rest),
+        "order" => ordered_iterators(alloc, rest),
         _ => ask_topo(alloc, parts, word, rest),
     }
 }

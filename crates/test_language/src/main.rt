@@ -18,6 +18,7 @@ mod fault;
 mod guards;
 mod instances;
 mod listed;
+mod orders;
 mod pairs;
 mod parts;
 mod settings;
