@@ -11,12 +11,15 @@
 #![tactic(auto)]
 
 mod dumping;
+mod explaining;
 mod marking;
+mod named_rows;
 mod repairing;
 mod rotating;
 mod telling;
 
 pub use dumping::{dump_errors, dump_faults};
+pub use explaining::explain;
 pub use marking::{Repair, RepairOrder};
 pub use repairing::{Repaired, repair};
 pub use rotating::rotate_drained;

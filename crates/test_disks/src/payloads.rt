@@ -1,12 +1,12 @@
-// What no clause says: that calls succeed, in how many calls of the disk, and where a disk fails.
+// What the payloads of a journal spell, and their places.
 ghost use Rattle.std.specs.Prelude.{◌≡◌, ◌≤◌, length, None, IfOk};
 
-use crate::made::many;
+use crate::setting::Setting;
 use fm_journal::Journal;
-use fm_outer::{Disk, MemDisk};
+use fm_outer::MemDisk;
 use fm_payloads::{NoMemory, PayloadCodec, ReadValues, ReadingFault, place_of, read_values};
 use std::alloc::Global;
-use std::test::Fail;
+use test_words::{ScriptFault, show_count, show_found, show_item};
 
 /// A payload of at most three bytes spells how many it has.
 #[derive(Drop)]
@@ -23,91 +23,55 @@ impl PayloadCodec<u64> for ShortLength {
     }
 }
 
-/// A journal of `a`, nothing and `xyz`, whose gates stand at 16, 22, 27 and 35, and one of `a`,
-/// nothing, `four` and `b`.
-const SHORT: &[u8] = b"FMAJRNL1\0\0\0\0\0\0\0\0\x01\0\0\0\x01a\x01\0\0\0\0\x01\0\0\0\x03xyz\0";
-
-const LONG: &[u8] =
-    b"FMAJRNL1\0\0\0\0\0\0\0\0\x01\0\0\0\x01a\x01\0\0\0\0\x01\0\0\0\x04four\x01\0\0\0\x01b\0";
-
-/// The journal of these bytes, on a disk that fails at these calls.
-fn journal_on(alloc: Global, bytes: &[u8], fails: &[u64]) -> Result<Journal<MemDisk>, Fail>
+/// The journal on the disk.
+fn opened(alloc: Global, setting: &Setting) -> Result<Journal<MemDisk>, ScriptFault>
     ensures { IfOk result (λ journal. journal.closed ≡ None) }
 {
-    let disk = MemDisk::new(alloc, bytes, bytes.len() as u64, 16, fails.to_vec(alloc)?)?;
-    match Journal::open(disk) {
+    match Journal::open(setting.disk(alloc)?) {
         Ok(journal) => Ok(journal),
-        Err(_refused) => Err(Fail::new("not opened")),
+        Err(_refused) => Err(ScriptFault::NoSpelling),
     }
 }
 
-/// What the journal of these bytes spells.
-fn lengths(alloc: Global, bytes: &[u8]) -> Result<ReadValues<u64>, Fail> {
-    let mut journal = journal_on(alloc, bytes, &[])?;
-    Ok(read_values(alloc, &mut journal, ShortLength)?)
+/// Appends why payloads were not read.
+fn show_fault(fault: ReadingFault, out: &mut String) -> Result<(), ScriptFault> {
+    match fault {
+        ReadingFault::Disk => Ok(out.push_str("disk fault")?),
+        ReadingFault::Changed { place } => show_count("changed", place as usize, out),
+        ReadingFault::NoMemory => Err(ScriptFault::NoMemory),
+    }
 }
 
-/// The place of a payload of the journal of these bytes, and how many calls of the disk it took to
-/// open the journal and to find the place.
-fn place_in(
+/// Appends values, and the place of the payload that spells none.
+fn show_read(read: &ReadValues<u64>, out: &mut String) -> Result<(), ScriptFault> {
+    for value in read.values.as_slice() {
+        show_item(*value, out)?;
+    }
+    out.push_str("stop ")?;
+    show_found(read.stop, out)
+}
+
+/// What the payloads of the journal on the disk spell.
+pub fn show_values(alloc: Global, setting: &Setting, out: &mut String) -> Result<(), ScriptFault> {
+    let mut journal = opened(alloc, setting)?;
+    match read_values(alloc, &mut journal, ShortLength) {
+        Ok(read) => show_read(&read, out),
+        Err(fault) => show_fault(fault, out),
+    }
+}
+
+/// The place of the payload that so many stand before, and how often the disk was called since it
+/// was opened, the opening with it.
+pub fn show_place(
     alloc: Global,
-    bytes: &[u8],
-    fails: &[u64],
+    setting: &Setting,
     before: u64,
-) -> Result<(Result<u64, ReadingFault>, u64), Fail> {
-    let mut journal = journal_on(alloc, bytes, fails)?;
-    let place = place_of(alloc, &mut journal, before);
-    Ok((place, journal.into_disk().calls()))
-}
-
-#[test]
-fn values_are_read_up_to_the_first_bad_payload(rt: HostRuntime) -> Result<(), Fail> {
-    let alloc = rt.alloc();
-    let all = lengths(alloc, SHORT)?;
-    assert!(rt; all.values.as_slice() == [1, 0, 3].as_slice());
-    assert!(rt; all.stop == None);
-    let few = lengths(alloc, LONG)?;
-    assert!(rt; few.values.as_slice() == [1, 0].as_slice());
-    assert!(rt; few.stop == Some(27));
-    Ok(())
-}
-
-#[test]
-fn payloads_have_their_places(rt: HostRuntime) -> Result<(), Fail> {
-    let alloc = rt.alloc();
-    for (before, place) in [(0, 16), (1, 22), (2, 27), (3, 35), (4, 35)] {
-        assert!(rt; place_in(alloc, SHORT, &[], before)?.0 == Ok(place));
+    out: &mut String,
+) -> Result<(), ScriptFault> {
+    let mut journal = opened(alloc, setting)?;
+    match place_of(alloc, &mut journal, before) {
+        Ok(place) => show_count("place", place as usize, out)?,
+        Err(fault) => show_fault(fault, out)?,
     }
-    Ok(())
-}
-
-#[test]
-fn a_failing_disk_is_told(rt: HostRuntime) -> Result<(), Fail> {
-    let alloc = rt.alloc();
-    // The journal is opened by a sync, the length and a read, and one read more gives its payloads.
-    assert!(rt; place_in(alloc, SHORT, &[3], 1)? == (Err(ReadingFault::Disk), 4));
-    assert!(rt; place_in(alloc, SHORT, &[4], 1)? == (Ok(22), 4));
-    Ok(())
-}
-
-/// The same of the end of a journal of so many payloads, each of so many bytes.
-fn end_of(
-    alloc: Global,
-    count: usize,
-    length: u32,
-) -> Result<(Result<u64, ReadingFault>, u64), Fail> {
-    place_in(alloc, &many(alloc, count, length)?, &[], count as u64)
-}
-
-#[test]
-fn a_journal_is_read_in_pieces(rt: HostRuntime) -> Result<(), Fail> {
-    let alloc = rt.alloc();
-    // The place of the end, and how many calls the opening and the reading make: a sync, the
-    // length, and then one for each piece of 65,536 bytes. An opening passes over what is behind a
-    // piece, and a reading takes the rest of a payload that is longer than a piece by one call.
-    assert!(rt; end_of(alloc, 0, 0)? == (Ok(16), 3));
-    assert!(rt; end_of(alloc, 10000, 13)? == (Ok(180016), 8));
-    assert!(rt; end_of(alloc, 3, 70000)? == (Ok(210031), 10));
-    assert!(rt; end_of(alloc, 1, 200000)? == (Ok(200021), 6));
-    Ok(())
+    show_count("; calls", journal.into_disk().calls() as usize, out)
 }

@@ -1,0 +1,34 @@
+//! The program `test_disks`: a script about disks, streams, journals and slots, from standard
+//! input, and what each of its lines comes to, to standard output.
+#![tactic(auto)]
+
+mod calls;
+mod journals;
+mod lent;
+mod payloads;
+mod script;
+mod setting;
+mod slots;
+mod streams;
+mod sweeps;
+
+use crate::script::written_of;
+use std::io;
+use std::io::{ErrorKind, Write};
+use std::process::ExitCode;
+
+/// Goes through the script.
+fn run_script(rt: &HostRuntime) -> io::Result<()> {
+    let script = io::read_to_string(rt.alloc(), rt.stdin())?;
+    match written_of(rt, script.as_str()) {
+        Ok(written) => rt.stdout().write_all(written.as_bytes()),
+        Err(_) => Err(io::Error::from(ErrorKind::OutOfMemory)),
+    }
+}
+
+fn main(rt: HostRuntime) -> ExitCode {
+    match run_script(&rt) {
+        Ok(()) => ExitCode::SUCCESS,
+        Err(_) => ExitCode::FAILURE,
+    }
+}
