@@ -6,3 +6,4 @@ pub mod Rows
 pub mod Repairs
 pub mod RepairBooks
 pub mod Dumps
+pub mod Explanations

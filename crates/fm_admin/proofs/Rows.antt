@@ -24,6 +24,14 @@ case_of : (r : Option (Bor ListEvent))
 case_of (Some row) = refl
 case_of None = refl
 
+-- the first row that is lent, and the first row
+pub row_found : (test : CaseName → Bool) (rows : List (Bor ListEvent))
+    (r : Option (Bor ListEvent)) → r ≡ find (λ row. test row.now.case) rows
+    → option_map (λ row. row.now) r ≡ find (λ row. test row.case) (map (λ row. row.now) rows)
+row_found test rows r found =
+    ap (λ (o : Option (Bor ListEvent)). option_map (λ row. row.now) o) found
+    ∙ sym (find_mapped (λ row. row.now) (λ (row : ListEvent). test row.case) rows)
+
 -- the case of the first row that is lent, and of the first row
 pub case_found : (test : CaseName → Bool) (rows : List (Bor ListEvent))
     (r : Option (Bor ListEvent)) → r ≡ find (λ row. test row.now.case) rows

@@ -1,8 +1,8 @@
 -- What an operator's word on a repair comes to: an entry that marks a suspect of the drained book,
 -- or none.
-use Rattle.std.specs.Prelude.{◌≡◌, ℕ, ◌&&◌, ◌^◌, Bool, nat_lt, List, [], bytes_eq}
+use Rattle.std.specs.Prelude.{◌≡◌, ℕ, ◌&&◌, ◌^◌, Bool, nat_lt, List, []}
 use Rattle.std.specs.Prelude.{Option, Some, None, if◌then◌else◌}
-use Rattle.std.specs.List.{find, list_any}
+use Rattle.std.specs.List.{list_any}
 use Rattle.std.specs.Option.{option_map, option_and_then}
 use Rattle.dx_step.specs.Repairs.{Chosen, is_at, is_at_or_under, is_marked_by, is_of_case}
 use Rattle.fm_core.specs.Drained.{Drained}
@@ -14,7 +14,7 @@ use Rattle.fm_entry.specs.declared.entry.Entry.{Entry}
 use Rattle.fm_entry.specs.declared.entry.Entry.TheVariants as entry
 use Rattle.fm_entry.specs.declared.list_event.ListEvent.{ListEvent}
 use Rattle.fm_settled.specs.CaseStatus.{IsStatusOf}
-use Rattle.fm_status.specs.Names.{case_uuid}
+use Rattle.fm_admin.specs.Rows.{row_with}
 use Rattle.fm_admin.specs.declared.marking.Repair.{Repair}
 use Rattle.fm_admin.specs.declared.marking.Repair.TheVariants.{Repaired, Replaced, Acquit}
 
@@ -43,14 +43,9 @@ where_marks chosen marks e = if marks chosen then Some e else None
 abbrev pub is_case_name : CaseName → Bool
 is_case_name name = nat_lt name.module 8 && nat_lt name.case (2 ^ 63)
 
--- the case of a row has this UUID
-abbrev pub has_uuid : List ℕ → List ℕ → CaseName → Bool
-has_uuid namespace uuid case = bytes_eq (case_uuid namespace case) uuid
-
 -- the case of the first row that has this UUID
 abbrev pub case_with : List ℕ → List ℕ → List ListEvent → Option CaseName
-case_with namespace uuid rows =
-    option_map (λ row. row.case) (find (λ row. has_uuid namespace uuid row.case) rows)
+case_with namespace uuid rows = option_map (λ row. row.case) (row_with namespace uuid rows)
 
 -- the acquittal of a case, where it marks one of its suspects
 abbrev pub where_acquits : ℕ → (Chosen → Bool) → CaseName → Option Entry

@@ -11,12 +11,15 @@
 #![tactic(auto)]
 
 mod dumping;
+mod explaining;
 mod marking;
 mod repairing;
 mod rotating;
+mod rows;
 mod telling;
 
 pub use dumping::{dump_errors, dump_faults};
+pub use explaining::explain;
 pub use marking::{Repair, RepairOrder};
 pub use repairing::{Repaired, repair};
 pub use rotating::rotate_drained;

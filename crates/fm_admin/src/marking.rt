@@ -1,20 +1,19 @@
 //! What an operator's word on a repair comes to.
 
-ghost use Rattle.std.specs.List.{find};
-ghost use Rattle.std.specs.Option.{option_map};
 ghost use Rattle.std.specs.Prelude.{◌≡◌, ◌<◌, ◌^◌, map, IfOk, IfSome};
-ghost use Rattle.fm_admin.specs.Marking.{case_with, entry_by, has_uuid, marks_hands};
-ghost use Rattle.fm_admin.specs.Marking.{solved_of, where_acquits};
+ghost use Rattle.fm_admin.specs.Marking.{case_with, entry_by, marks_hands, solved_of};
+ghost use Rattle.fm_admin.specs.Marking.{where_acquits};
 ghost use Rattle.fm_core.specs.Book.{IsAdmitted};
 ghost use Rattle.fm_summary.specs.DrainedSummary.{diagnosers};
 
+use crate::rows::find_row;
 use dx_engine::Diagnoser;
 use dx_said::{AtPath, Choice, OfCase, UnderPath, marks_any};
 use fm_bytes::NoMemory;
 use fm_core::Hand;
 use fm_entry::{CaseName, Entry, ListEvent};
 use fm_name::Fmri;
-use fm_status::{Status, uuid_of};
+use fm_status::Status;
 use std::alloc::Global;
 use uuid::Uuid;
 
@@ -47,25 +46,6 @@ fn marks_hands<C: Choice>(choice: &C, hands: &[Hand<Diagnoser>]) -> bool
     ensures { result ≡ marks_hands diagnosers hands.now (C.chosen choice.now) }
 {
     hands.iter().any(|hand| marks_any(choice, solved_by(hand)))
-}
-
-/// Whether the case has the UUID.
-fn has_uuid(namespace: &[u8; 16], uuid: &Uuid, case: &CaseName) -> bool
-    ensures { result ≡ has_uuid namespace.now uuid.now case.now }
-{
-    uuid_of(namespace, case).as_bytes().as_slice() == uuid.as_bytes().as_slice()
-}
-
-/// The first row whose case has the UUID.
-fn find_row<'a>(
-    namespace: &[u8; 16],
-    uuid: &Uuid,
-    rows: &'a [&'a ListEvent],
-) -> Option<&'a &'a ListEvent>
-    ensures { option_map (λ row. row.now) result
-        ≡ find (λ row. has_uuid namespace.now uuid.now row.now.case) rows.now }
-{
-    rows.iter().find(|row| has_uuid(namespace, uuid, &row.case))
 }
 
 /// The case of the first row that has the UUID.

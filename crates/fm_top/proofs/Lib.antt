@@ -10,6 +10,8 @@ pub mod Doing
 pub mod Dumps
 pub mod Escs
 pub mod Exactness
+pub mod ExplainDoing
+pub mod Explains
 pub mod FmdDoing
 pub mod Fmds
 pub mod Feeding

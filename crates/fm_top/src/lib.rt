@@ -64,6 +64,7 @@ mod configuring;
 mod counts;
 mod dumping;
 mod esc;
+mod explaining;
 mod fmd;
 mod init;
 mod last;

@@ -1,5 +1,5 @@
 -- The first row that was found has the case.
-use Rattle.fm_admin.specs.Marking.{has_uuid}
+use Rattle.fm_admin.specs.Rows.{has_uuid}
 use Rattle.fm_admin.proofs.Rows.{case_found}
 use Rattle.fm_admin.proofs.marking.case_with.Goals as goal
 
