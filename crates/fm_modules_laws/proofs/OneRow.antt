@@ -1,12 +1,16 @@
 -- What a configuration makes is one row, and the modules of configurations are one list.
-use Rattle.std.proofs.Common.{◌≡◌, ℕ, List, [], ◌∷◌, refl, sym, ap, ◌∙◌, subst}
+use Rattle.std.proofs.Common.{◌≡◌, ℕ, zero, suc, List, [], ◌∷◌, Option, Some, None, refl, sym, ap}
+use Rattle.std.proofs.Common.{◌∙◌, subst}
+use Rattle.std.specs.List.{slice_get}
+use Rattle.std.specs.Option.{option_map}
 use Rattle.fm_core.specs.Book.{ModuleState}
 use Rattle.fm_saved.specs.declared.conf.Conf.{Conf}
-use Rattle.fm_topo.specs.Topology.{Topology}
+use Rattle.fm_topo.specs.Topology.{Topology, topology_of}
 use Rattle.ev_check.specs.CheckedFile.{CheckedFile}
 use Rattle.ev_check.specs.Sound.{IsSound}
 use Rattle.ev_graph.specs.Lawful.{GraphValue}
 use Rattle.ev_inst.specs.Guards.{AreGuardsOf}
+use Rattle.ev_inst.specs.Instances.{IsGraphOf}
 use Rattle.ev_inst.proofs.GuardsAlike.{guards_alike}
 use Rattle.ev_inst_laws.proofs.OneGraph.{graphs_one}
 use Rattle.dx_guards.proofs.Alike.{same_guarding}
@@ -74,3 +78,60 @@ pub modules_one : (confs : List Conf) (modules others : List ModuleState)
 modules_one confs modules others a b =
     let rows : a.rows ≡ b.rows = each_one ConfMakes row_one confs a.rows b.rows a.make b.make in
     a.modules_are ∙ ap (first_modules (file_count confs)) rows ∙ sym b.modules_are
+
+-- a rule file has the graph that it makes of a module
+graph_one : (topo : Topology) (text : List ℕ) (x : Configuration) (f : CheckedFile)
+    (g : GraphValue) (skipped : ℕ) → TextMakes topo text x → IsRuleFile text f
+    → IsGraphOf f topo g skipped → x.graph ≡ g
+graph_one topo text x f g skipped a is_rules is_graph =
+    let one = a.makes.made in
+    a.makes.graph_is
+    ∙ (graphs_one a.checked f topo one.graph g one.skipped skipped
+    (sound_of text a.checked a.is_rules) (rule_files_one text a.checked f a.is_rules is_rules)
+    a.makes.is_made.graph is_graph).0
+
+-- one of a list, and its own in another
+pub each_at : {A B : Type 0} (has : A → B → Type 0) (xs : List A) (ys : List B) (i : ℕ) (x : A)
+    → EachHas has xs ys → slice_get xs i ≡ Some x
+    → (y : B) × (slice_get ys i ≡ Some y) × has x y
+each_at has [] [] i x each at = absurd (no_none x at)
+  where
+    no_none : {X : Type 0} (x : X) → None ≡ Some x → ⊥
+    no_none x is = cc
+each_at has [] (y ∷ ys) i x each at = absurd each
+each_at has (w ∷ xs) [] i x each at = absurd each
+each_at has (w ∷ xs) (y ∷ ys) zero x each at = (y, refl, subst (λ v. has v y) (same w x at) each.0)
+  where
+    same : {X : Type 0} (w x : X) → Some w ≡ Some x → w ≡ x
+    same w x is = cc
+each_at has (w ∷ xs) (y ∷ ys) (suc i) x each at = each_at has xs ys i x each.1 at
+
+-- past the end of the one is past that of the other
+each_past : {A B : Type 0} (has : A → B → Type 0) (xs : List A) (ys : List B) (i : ℕ)
+    → EachHas has xs ys → slice_get xs i ≡ None → slice_get ys i ≡ None
+each_past has [] [] i each past = refl
+each_past has [] (y ∷ ys) i each past = absurd each
+each_past has (x ∷ xs) [] i each past = absurd each
+each_past has (x ∷ xs) (y ∷ ys) zero each past = absurd (no_some x past)
+  where
+    no_some : {X : Type 0} (x : X) → Some x ≡ None → ⊥
+    no_some x is = cc
+each_past has (x ∷ xs) (y ∷ ys) (suc i) each past = each_past has xs ys i each.1 past
+
+-- the graph of a rule file of a configuration stands in the row
+pub row_has : (conf : Conf) (row : List Configuration) (file : ℕ) (text : List ℕ)
+    (f : CheckedFile) (g : GraphValue) (skipped : ℕ) → ConfMakes conf row
+    → slice_get conf.rules file ≡ Some text → IsRuleFile text f
+    → IsGraphOf f (topology_of conf.topo) g skipped
+    → option_map (λ x. x.graph) (slice_get row file) ≡ Some g
+row_has conf row file text f g skipped makes there is_rules is_graph =
+    let at = each_at (TextMakes makes.topo) conf.rules row file text makes.files there in
+    ap (λ (o : Option Configuration). option_map (λ x. x.graph) o) at.1
+    ∙ ap Some (graph_one makes.topo text at.0 f g skipped at.2 is_rules
+    (subst (λ (t : Topology). IsGraphOf f t g skipped) (sym makes.topo_is.topology_is) is_graph))
+
+-- where it has no such file, the row has nothing there
+pub row_lacks : (conf : Conf) (row : List Configuration) (file : ℕ) → ConfMakes conf row
+    → slice_get conf.rules file ≡ None → slice_get row file ≡ None
+row_lacks conf row file makes none =
+    each_past (TextMakes makes.topo) conf.rules row file makes.files none

@@ -1,6 +1,10 @@
 //! The laws, each as the contract of a call that does nothing.
 
-ghost use Rattle.std.specs.Prelude.{◌≡◌, List};
+ghost use Rattle.std.specs.Option.{option_map};
+ghost use Rattle.std.specs.Prelude.{◌≡◌, ℕ, List, Some, slice_get};
+ghost use Rattle.ev_check.specs.CheckedFile.{CheckedFile};
+ghost use Rattle.ev_graph.specs.Lawful.{GraphValue};
+ghost use Rattle.ev_inst.specs.Instances.{IsGraphOf};
 ghost use Rattle.fm_core.specs.Book.{ModuleState};
 ghost use Rattle.fm_logs.specs.Contents.{Contents};
 ghost use Rattle.fm_logs.specs.ReadsAsBook.{ReadsAsBook};
@@ -9,11 +13,22 @@ ghost use Rattle.fm_saved.specs.declared.conf.Conf.{Conf};
 ghost use Rattle.dx_state.specs.Configured.{Configuration};
 ghost use Rattle.fm_modules.specs.KeptTexts.{ConfMakes};
 ghost use Rattle.fm_modules.specs.Modules.{AreModulesOf};
+ghost use Rattle.fm_sources.specs.Rules.{IsRuleFile};
+ghost use Rattle.fm_topo.specs.Topology.{topology_of};
 
 /// A configuration makes one row: of each of its rule files one configuration of a module.
 pub fn a_configuration_makes_one_row()
     ensures { (conf : Conf) (row other : List Configuration) → ConfMakes conf row
         → ConfMakes conf other → row ≡ other }
+{}
+
+/// The graph of a rule file of a configuration, over its topology, is the one that its row has there.
+pub fn a_row_has_the_graphs_of_its_files()
+    ensures { (conf : Conf) (row : List Configuration) (file : ℕ) (text : List ℕ)
+        (f : CheckedFile) (g : GraphValue) (skipped : ℕ) → ConfMakes conf row
+        → slice_get conf.rules file ≡ Some text → IsRuleFile text f
+        → IsGraphOf f (topology_of conf.topo) g skipped
+        → option_map (λ x. x.graph) (slice_get row file) ≡ Some g }
 {}
 
 /// Configurations make one list of modules.

@@ -34,6 +34,7 @@ use Rattle.fm_top.specs.declared.stops.Stop.TheVariants.{NotFound}
 use Rattle.fm_top.proofs.Accepts.{opening_account, opening_stops}
 use Rattle.fm_top.proofs.Fmds.{OpenAt}
 use Rattle.fm_top.proofs.OpenedDisks.{none_rose, opened_at, some_rose, store_left}
+use Rattle.fm_top.proofs.RowGraphs.{row_text_at}
 use Rattle.fm_top.proofs.SixDisks.{all_only_read, rose_any, none_counts}
 use Rattle.fm_top.proofs.Texts.{OpenFor, left_drained, open_for, same_counts, told_refused}
 
@@ -129,7 +130,7 @@ module _ {D : Type 0} (g : Ghosts D) (disks disks_now : Disks D)
       (λ book at. let on = on_book (Ok text) told book at did in record {
         left = λ image leaves.
             on.after image (store_left g disks disks_now first new are image leaves);
-        text_is = record { conf = conf; in_force = at.in_force; text_is = on.told };
+        text_is = row_text_at uuid told book conf (bytes_of text) at.in_force on.told;
       })
 
   like_book : (fault : StoreFault) → ExplainDone g uuid first new hands conf (Err fault)

@@ -29,6 +29,7 @@ pub mod RepairDoing
 pub mod Repairs
 pub mod Replays
 pub mod Rotatings
+pub mod RowGraphs
 pub mod Sinks
 pub mod SixDisks
 pub mod Standing
