@@ -4,12 +4,14 @@ use Rattle.std.proofs.Common.{OnOk, refl, sym, subst}
 use Rattle.std.specs.Global.{Vec}
 use Rattle.std.specs.Option.{option_map}
 use Rattle.dx_engine.specs.Diagnosers.{DiagnoserOf}
+use Rattle.fm_admin.specs.Explaining.{IsExplanationOf}
 use Rattle.fm_admin.specs.Telling.{TellRefused, TellsBook, WasDrained}
 use Rattle.fm_core.specs.Book.{ModuleState}
+use Rattle.fm_core.specs.Drained.{drained}
 use Rattle.fm_core.specs.Hands.{HandOf}
 use Rattle.fm_drain.specs.DrainCalls.{AllFollow}
 use Rattle.fm_logs.specs.Contents.{Contents, AreTold, WereOnlyRead, disk_named}
-use Rattle.fm_logs.specs.StoreBook.{StoreBook}
+use Rattle.fm_logs.specs.StoreBook.{StoreBook, force_now}
 use Rattle.fm_logs.specs.declared.disks.DiskName.{DiskName}
 use Rattle.fm_logs.specs.declared.disks.DiskName.TheVariants.{Flt}
 use Rattle.fm_logs.specs.declared.disks.Disks.{Disks}
@@ -23,7 +25,6 @@ use Rattle.fm_store.specs.StoreOf.{StoreOf, StoreStandsFor}
 use Rattle.fm_summary.specs.DrainedSummary.{diagnosers}
 use Rattle.fm_top.specs.Accepting.{DisksAccount}
 use Rattle.fm_top.specs.Explain.{ExplainDone, ExplainHalts, ExplainOnBook, ExplainTried, ExplainedOf}
-use Rattle.fm_top.specs.ExplainedRow.{IsRowTextOf}
 use Rattle.fm_top.specs.Fmd.{ConcludingStops}
 use Rattle.fm_top.specs.Headline.{HoldsOfBook, LikeBook}
 use Rattle.fm_top.specs.Kept.{BookAt}
@@ -34,7 +35,7 @@ use Rattle.fm_top.specs.declared.stops.Stop.TheVariants.{NotFound}
 use Rattle.fm_top.proofs.Accepts.{opening_account, opening_stops}
 use Rattle.fm_top.proofs.Fmds.{OpenAt}
 use Rattle.fm_top.proofs.OpenedDisks.{none_rose, opened_at, some_rose, store_left}
-use Rattle.fm_top.proofs.RowGraphs.{row_text_at}
+use Rattle.fm_top.proofs.RowGraphs.{explanation_at}
 use Rattle.fm_top.proofs.SixDisks.{all_only_read, rose_any, none_counts}
 use Rattle.fm_top.proofs.Texts.{OpenFor, left_drained, open_for, same_counts, told_refused}
 
@@ -56,7 +57,8 @@ module _ {D : Type 0} (g : Ghosts D) (uuid : List ℕ) (old new : StoreOf D Diag
       → IfErr answer (TellRefused g diagnosers Flt old new hands)
       → ((fresh : List ModuleState) (k : StoreBook) → StoreStandsFor g fresh old k
       → AllFollow diagnosers k.book hands → TellsBook g fresh Flt old new k answer
-      (λ now text. IsRowTextOf uuid conf k (option_map (λ t. t.items) text)))
+      (λ now text. IsExplanationOf conf (force_now k) uuid (drained k.book)
+      (option_map (λ t. t.items) text)))
       → ExplainDone g uuid old new hands conf answer
   explain_done (Ok found) drains refused book = record {
     was_open = open_before;
@@ -64,7 +66,8 @@ module _ {D : Type 0} (g : Ghosts D) (uuid : List ℕ) (old new : StoreOf D Diag
     refused = tt;
     book = λ fresh k stands follow. let told = book fresh k stands follow in record {
       told = told.done.told;
-      after = left_drained g new fresh k (λ now text. IsRowTextOf uuid conf k (bytes_of text)) found
+      after = left_drained g new fresh k (λ now text. IsExplanationOf conf (force_now k) uuid
+          (drained k.book) (bytes_of text)) found
           told.done;
       undamaged = tt;
       left = told.left;
@@ -130,7 +133,7 @@ module _ {D : Type 0} (g : Ghosts D) (disks disks_now : Disks D)
       (λ book at. let on = on_book (Ok text) told book at did in record {
         left = λ image leaves.
             on.after image (store_left g disks disks_now first new are image leaves);
-        text_is = row_text_at uuid told book conf (bytes_of text) at.in_force on.told;
+        text_is = explanation_at uuid told book conf (bytes_of text) at.in_force on.told;
       })
 
   like_book : (fault : StoreFault) → ExplainDone g uuid first new hands conf (Err fault)

@@ -5,8 +5,9 @@ use Rattle.std.specs.List.{slice_get}
 use Rattle.std.specs.Option.{option_map, option_and_then}
 use Rattle.dx_state.specs.Configured.{Configuration}
 use Rattle.ev_graph.specs.Lawful.{GraphValue}
-use Rattle.fm_admin.specs.Explaining.{IsGraphOfRow, IsTextOfFound}
+use Rattle.fm_admin.specs.Explaining.{IsExplanationOf, IsGraphOfRow, IsTextOfFound}
 use Rattle.fm_core.proofs.Tests.{eq_true, true_eq}
+use Rattle.fm_core.specs.Drained.{drained}
 use Rattle.fm_entry.specs.declared.list_event.ListEvent.{ListEvent}
 use Rattle.fm_explain.specs.Explained.{IsExplained}
 use Rattle.fm_logs.specs.Contents.{Contents}
@@ -15,7 +16,7 @@ use Rattle.fm_modules.specs.KeptTexts.{ConfMakes, EachHas}
 use Rattle.fm_modules_laws.proofs.OneRow.{each_at, row_has, row_lacks}
 use Rattle.fm_saved.specs.declared.conf.Conf.{Conf}
 use Rattle.fm_admin.specs.Rows.{row_with}
-use Rattle.fm_top.specs.ExplainedRow.{IsRowText, IsRowTextAt, IsRowTextOf, graph_in, row_graph}
+use Rattle.fm_top.specs.ExplainedRow.{IsExplanationIn, IsExplanationAt, graph_in, row_graph}
 use Rattle.fm_top.specs.Kept.{BookAt}
 
 not_both : (b : Bool) → b ≡ true → b ≡ false → ⊥
@@ -56,7 +57,7 @@ module _ (confs : List Conf) (rows : List (List Configuration)) (make : EachHas 
   by_test row None false is of = refl
 
   found_text : (row : Option ListEvent) (text : Option (List ℕ)) → IsTextOfFound conf n row text
-      → IsRowText (row_graph rows n) row text
+      → IsExplanationIn (row_graph rows n) row text
   found_text None None told = tt
   found_text None (Some text) told = absurd told
   found_text (Some row) None told = absurd told
@@ -64,10 +65,10 @@ module _ (confs : List Conf) (rows : List (List Configuration)) (make : EachHas 
       subst (λ (o : Option GraphValue). IsExplained o row text)
       (by_test row graph (row.conf == n) refl of) told
 
-pub row_text_at : (uuid : List ℕ) (told : Contents) (stood : BookAt told) (conf : Conf)
+pub explanation_at : (uuid : List ℕ) (told : Contents) (stood : BookAt told) (conf : Conf)
     (text : Option (List ℕ)) → slice_get stood.book.confs (force_now stood.book) ≡ Some conf
-    → IsRowTextOf uuid conf stood.book text → IsRowTextAt uuid stood text
-row_text_at uuid told stood conf text in_force is = record {
+    → IsExplanationOf conf (force_now stood.book) uuid (drained stood.book.book) text → IsExplanationAt uuid stood text
+explanation_at uuid told stood conf text in_force is = record {
   conf = conf;
   in_force = in_force;
   rows = is.rows;

@@ -5,12 +5,14 @@ use Rattle.std.specs.Prelude.{OnOk, IfOk, IfErr}
 use Rattle.std.specs.Global.{Vec}
 use Rattle.std.specs.Option.{option_map}
 use Rattle.dx_engine.specs.Diagnosers.{DiagnoserOf}
+use Rattle.fm_admin.specs.Explaining.{IsExplanationOf}
 use Rattle.fm_conclude.specs.Concluding.{NoDiskFailed}
 use Rattle.fm_core.specs.Book.{ModuleState}
+use Rattle.fm_core.specs.Drained.{drained}
 use Rattle.fm_core.specs.Hands.{HandOf}
 use Rattle.fm_drain.specs.DrainCalls.{AllFollow}
 use Rattle.fm_logs.specs.Contents.{Contents}
-use Rattle.fm_logs.specs.StoreBook.{StoreBook}
+use Rattle.fm_logs.specs.StoreBook.{StoreBook, force_now}
 use Rattle.fm_logs.specs.declared.fault.StoreFault.{StoreFault}
 use Rattle.fm_outer.specs.declared.disk.Disk.{Ghosts}
 use Rattle.fm_saved.specs.declared.conf.Conf.{Conf}
@@ -22,7 +24,7 @@ use Rattle.fm_top.specs.Accepting.{DisksAccount}
 use Rattle.fm_top.specs.Admin.{AdminRefused, StoreUnopened, StoreUntold}
 use Rattle.fm_top.specs.DrainedBook.{ReadsDrained}
 use Rattle.fm_top.specs.Esc.{TextEnds}
-use Rattle.fm_top.specs.ExplainedRow.{IsRowTextAt, IsRowTextOf}
+use Rattle.fm_top.specs.ExplainedRow.{IsExplanationAt}
 use Rattle.fm_top.specs.Headline.{HoldsOfBook}
 use Rattle.fm_top.specs.Kept.{BookAt}
 use Rattle.fm_top.specs.Outside.{SinkAt, DisksAt, Tells, Leaves}
@@ -38,7 +40,8 @@ use Rattle.fm_top.specs.declared.stops.Stop.TheVariants.{NotFound}
 pub record ExplainOnBook {D M : Type 0} (g : Ghosts D) (uuid : List ℕ) (fresh : List ModuleState)
     (new : StoreOf D M) (k : StoreBook) (conf : Conf)
     (answer : Result (Option (Vec ℕ)) StoreFault) : Type 0 where
-  pub told : IfOk answer (λ text. IsRowTextOf uuid conf k (option_map (λ t. t.items) text))
+  pub told : IfOk answer (λ text. IsExplanationOf conf (force_now k) uuid (drained k.book)
+      (option_map (λ t. t.items) text))
   pub after : OnOk answer (EachLeft g new (ReadsDrained fresh k))
   pub undamaged : IfErr answer IsNoDamage
   pub left : EachLeft g new (ReadsLike fresh k)
@@ -68,7 +71,7 @@ ExplainHalts g uuid old new hands conf stop =
 pub record ExplainedOf (uuid : List ℕ) (told : Contents) (after : DisksAt)
     (text : Option (List ℕ)) (stood : BookAt told) : Type 0 where
   pub left : (image : Contents) → Leaves after image → ReadsDrained stood.fresh stood.book image
-  pub text_is : IsRowTextAt uuid stood text
+  pub text_is : IsExplanationAt uuid stood text
 
 -- The store was drained, and no row has the UUID.
 pub record StoreWithout (uuid : List ℕ) (disks disks_now : DisksAt) (stop : Stop) : Type 0 where
