@@ -90,20 +90,20 @@ graph_one topo text x f g skipped a is_rules is_graph =
     (sound_of text a.checked a.is_rules) (rule_files_one text a.checked f a.is_rules is_rules)
     a.makes.is_made.graph is_graph).0
 
+none_is : {X : Type 0} (x : X) → None ≡ Some x → ⊥
+none_is x is = cc
+
+some_is : {X : Type 0} (w x : X) → Some w ≡ Some x → w ≡ x
+some_is w x is = cc
+
 -- one of a list, and its own in another
 pub each_at : {A B : Type 0} (has : A → B → Type 0) (xs : List A) (ys : List B) (i : ℕ) (x : A)
     → EachHas has xs ys → slice_get xs i ≡ Some x
     → (y : B) × (slice_get ys i ≡ Some y) × has x y
-each_at has [] [] i x each at = absurd (no_none x at)
-  where
-    no_none : {X : Type 0} (x : X) → None ≡ Some x → ⊥
-    no_none x is = cc
+each_at has [] [] i x each at = absurd (none_is x at)
 each_at has [] (y ∷ ys) i x each at = absurd each
 each_at has (w ∷ xs) [] i x each at = absurd each
-each_at has (w ∷ xs) (y ∷ ys) zero x each at = (y, refl, subst (λ v. has v y) (same w x at) each.0)
-  where
-    same : {X : Type 0} (w x : X) → Some w ≡ Some x → w ≡ x
-    same w x is = cc
+each_at has (w ∷ xs) (y ∷ ys) zero x each at = (y, refl, subst (λ v. has v y) (some_is w x at) each.0)
 each_at has (w ∷ xs) (y ∷ ys) (suc i) x each at = each_at has xs ys i x each.1 at
 
 -- past the end of the one is past that of the other
@@ -112,10 +112,7 @@ each_past : {A B : Type 0} (has : A → B → Type 0) (xs : List A) (ys : List B
 each_past has [] [] i each past = refl
 each_past has [] (y ∷ ys) i each past = absurd each
 each_past has (x ∷ xs) [] i each past = absurd each
-each_past has (x ∷ xs) (y ∷ ys) zero each past = absurd (no_some x past)
-  where
-    no_some : {X : Type 0} (x : X) → Some x ≡ None → ⊥
-    no_some x is = cc
+each_past has (x ∷ xs) (y ∷ ys) zero each past = absurd (none_is x (sym past))
 each_past has (x ∷ xs) (y ∷ ys) (suc i) each past = each_past has xs ys i each.1 past
 
 -- the graph of a rule file of a configuration stands in the row
