@@ -25,12 +25,23 @@ case_of (Some row) = refl
 case_of None = refl
 
 -- the first row that is lent, and the first row
-pub row_found : (test : CaseName → Bool) (rows : List (Bor ListEvent))
+row_found : (test : CaseName → Bool) (rows : List (Bor ListEvent))
     (r : Option (Bor ListEvent)) → r ≡ find (λ row. test row.now.case) rows
     → option_map (λ row. row.now) r ≡ find (λ row. test row.case) (map (λ row. row.now) rows)
 row_found test rows r found =
     ap (λ (o : Option (Bor ListEvent)). option_map (λ row. row.now) o) found
     ∙ sym (find_mapped (λ row. row.now) (λ (row : ListEvent). test row.case) rows)
+
+-- the first of all rows, where these are lent
+pub row_in : (test : CaseName → Bool) (rows lent : List (Bor ListEvent)) (all : List ListEvent)
+    (r : Option (Bor ListEvent)) → lent ≡ rows → map (λ row. row.now) rows ≡ all
+    → r ≡ find (λ row. test row.now.case) lent
+    → find (λ row. test row.case) all ≡ option_map (λ row. row.now) r
+row_in test rows lent all r lends are found =
+    sym (row_found test lent r found
+    ∙ (ap (λ (ls : List (Bor ListEvent)). find (λ (row : ListEvent). test row.case)
+    (map (λ row. row.now) ls)) lends
+    ∙ ap (λ (ls : List ListEvent). find (λ row. test row.case) ls) are))
 
 -- the case of the first row that is lent, and of the first row
 pub case_found : (test : CaseName → Bool) (rows : List (Bor ListEvent))

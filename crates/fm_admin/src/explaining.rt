@@ -14,7 +14,7 @@ ghost use Rattle.fm_logs.specs.declared.disks.DiskName.TheVariants.{Flt};
 ghost use Rattle.fm_store.specs.StoreLeft.{AreSameStore};
 ghost use Rattle.fm_store.specs.StoreOf.{StoreStandsFor};
 
-use crate::rows::find_row;
+use crate::named_rows::find_row;
 use crate::telling::drain_status;
 use ev_graph::Graph;
 use ev_inst::instantiate;

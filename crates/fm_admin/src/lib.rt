@@ -13,9 +13,9 @@
 mod dumping;
 mod explaining;
 mod marking;
+mod named_rows;
 mod repairing;
 mod rotating;
-mod rows;
 mod telling;
 
 pub use dumping::{dump_errors, dump_faults};

@@ -6,7 +6,7 @@ ghost use Rattle.fm_admin.specs.Marking.{where_acquits};
 ghost use Rattle.fm_core.specs.Book.{IsAdmitted};
 ghost use Rattle.fm_summary.specs.DrainedSummary.{diagnosers};
 
-use crate::rows::find_row;
+use crate::named_rows::find_row;
 use dx_engine::Diagnoser;
 use dx_said::{AtPath, Choice, OfCase, UnderPath, marks_any};
 use fm_bytes::NoMemory;

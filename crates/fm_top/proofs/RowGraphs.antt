@@ -20,8 +20,8 @@ use Rattle.fm_top.specs.ExplainedRow.{IsExplanationIn, IsExplanationAt, graph_in
 use Rattle.fm_top.specs.Kept.{BookAt}
 
 not_both : (b : Bool) → b ≡ true → b ≡ false → ⊥
-not_both b yes no =
-    let both : true ≡ false = sym yes ∙ no in
+not_both b is other =
+    let both : true ≡ false = sym is ∙ other in
     cc
 
 -- the graph at a place of a row

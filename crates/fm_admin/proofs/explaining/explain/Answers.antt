@@ -22,7 +22,7 @@ returns-clause-book g c = λ fresh k stands follow.
     told_on g.D.Disk fresh Flt c.args.store.now c.drain_status.new.store k
     (c.in_ok-_hands._hands, c.in_ok-_hands.status) _ _ _
     (c.in_ok-_hands.ensures.book fresh k stands follow)
-    (λ now is told. explanation_is c.args.conf.now c.conf_now.result c.args.uuid.now k now
+    (λ now is told. explanation_is c.args.conf.now c.conf_now-in_force.result c.args.uuid.now k now
     c.in_ok-_hands.status _ is told.1
-    (c.conf_now.ensures ∙ force_is g.D.Disk fresh c.args.store.now k stands)
+    (c.conf_now-in_force.ensures ∙ force_is g.D.Disk fresh c.args.store.now k stands)
     c.in_ok-explained_of.ensures) tt
