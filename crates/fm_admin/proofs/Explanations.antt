@@ -1,5 +1,5 @@
 -- What a case is explained as, by the book that a store stands for.
-use Rattle.std.proofs.Common.{◌≡◌, ℕ, List, Option, sym, ◌∙◌, ap, subst}
+use Rattle.std.proofs.Common.{◌≡◌, ℕ, List, Option, ◌∙◌, ap, subst}
 use Rattle.fm_core.specs.Book.{ModuleState}
 use Rattle.fm_core.specs.Drained.{Drained, drained}
 use Rattle.fm_entry.specs.declared.entry.Entry.{Entry}

@@ -69,12 +69,7 @@ fn row_graph(
 }
 
 /// The text of a row.
-fn row_text(
-    alloc: Global,
-    conf: &Conf,
-    in_force: u32,
-    row: &ListEvent,
-) -> Result<Vec<u8>, NoMemory>
+fn row_text(alloc: Global, conf: &Conf, in_force: u32, row: &ListEvent) -> Result<Vec<u8>, NoMemory>
     ensures { IfOk result (λ text. IsTextOfRow conf.now in_force row.now text.items) }
 {
     let graph = row_graph(alloc, conf, in_force, row)?;

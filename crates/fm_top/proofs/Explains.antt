@@ -31,7 +31,6 @@ use Rattle.fm_top.specs.Kept.{BookAt}
 use Rattle.fm_top.specs.Outside.{Tells, disks_at}
 use Rattle.fm_top.specs.Stops.{of_store}
 use Rattle.fm_top.specs.declared.stops.Stop.{Stop}
-use Rattle.fm_top.specs.declared.stops.Stop.TheVariants.{NotFound}
 use Rattle.fm_top.proofs.Accepts.{opening_account, opening_stops}
 use Rattle.fm_top.proofs.Fmds.{OpenAt}
 use Rattle.fm_top.proofs.OpenedDisks.{none_rose, opened_at, some_rose, store_left}
