@@ -1,5 +1,5 @@
--- What a case is explained as: the text of the row of a drained book that has a UUID, in the graph of
--- the row's configuration.
+-- What a case is explained as: the text of the row of a drained book that has a UUID, in the graph
+-- of the row's configuration.
 use Rattle.std.specs.Prelude.{◌≡◌, ◌⊎◌, ℕ, List, Option, Some, None, slice_get}
 use Rattle.ev_check.specs.CheckedFile.{CheckedFile}
 use Rattle.ev_file.specs.declared.made.Made.{Made}

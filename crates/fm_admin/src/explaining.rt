@@ -96,9 +96,9 @@ fn explained_of(
     }
 }
 
-/// Drains a store that has this configuration in force, and tells what each suspect of the case with
-/// the UUID accounts for, in the graph of the case's configuration. `None` where no case has it. No
-/// checkpoint is written.
+/// Drains a store that has this configuration in force, and tells what each suspect of the case
+/// with the UUID accounts for, in the graph of the case's configuration. `None` where no case has
+/// it. No checkpoint is written.
 pub fn explain<D: Disk, M: Module>(
     store: &mut Store<D, M>,
     alloc: Global,

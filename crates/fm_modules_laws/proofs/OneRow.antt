@@ -103,7 +103,8 @@ pub each_at : {A B : Type 0} (has : A → B → Type 0) (xs : List A) (ys : List
 each_at has [] [] i x each at = absurd (none_is x at)
 each_at has [] (y ∷ ys) i x each at = absurd each
 each_at has (w ∷ xs) [] i x each at = absurd each
-each_at has (w ∷ xs) (y ∷ ys) zero x each at = (y, refl, subst (λ v. has v y) (some_is w x at) each.0)
+each_at has (w ∷ xs) (y ∷ ys) zero x each at =
+    (y, refl, subst (λ v. has v y) (some_is w x at) each.0)
 each_at has (w ∷ xs) (y ∷ ys) (suc i) x each at = each_at has xs ys i x each.1 at
 
 -- past the end of the one is past that of the other

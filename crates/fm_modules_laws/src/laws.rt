@@ -22,7 +22,8 @@ pub fn a_configuration_makes_one_row()
         → ConfMakes conf other → row ≡ other }
 {}
 
-/// The graph of a rule file of a configuration, over its topology, is the one that its row has there.
+/// The graph of a rule file of a configuration, over its topology, is the one that its row has
+/// there.
 pub fn a_row_has_the_graphs_of_its_files()
     ensures { (conf : Conf) (row : List Configuration) (file : ℕ) (text : List ℕ)
         (f : CheckedFile) (g : GraphValue) (skipped : ℕ) → ConfMakes conf row

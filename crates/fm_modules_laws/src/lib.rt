@@ -4,12 +4,12 @@
 //! file (`ConfMakes`, `AreModulesOf`). So a claim that contents read as a book of such modules
 //! speaks of some modules and of some book.
 //!
-//! **Laws.** A configuration makes one row ([`a_configuration_makes_one_row`]), which has the graphs
-//! of its rule files ([`a_row_has_the_graphs_of_its_files`]), a list of configurations one list of
-//! modules ([`configurations_make_one_list_of_modules`]), and the
-//! contents of six disks read as one book, of one list of modules, where the modules are those
-//! that the book's own configurations make ([`contents_read_as_one_book`]). So what such contents
-//! come to when they are drained is a function of their bytes.
+//! **Laws.** A configuration makes one row ([`a_configuration_makes_one_row`]), which has the
+//! graphs of its rule files ([`a_row_has_the_graphs_of_its_files`]), a list of configurations one
+//! list of modules ([`configurations_make_one_list_of_modules`]), and the contents of six disks
+//! read as one book, of one list of modules, where the modules are those that the book's own
+//! configurations make ([`contents_read_as_one_book`]). So what such contents come to when they are
+//! drained is a function of their bytes.
 //!
 //! **Proof.** A text is one topology, by its definition, and one rule file but for where conditions
 //! lie in memory (fm_sources_laws), which has one graph over a topology (ev_inst_laws). The modules

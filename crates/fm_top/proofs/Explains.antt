@@ -1,6 +1,6 @@
 -- From an open store of which a case is explained to what its disks hold.
-use Rattle.std.proofs.Common.{◌≡◌, ◌∙◌, inl, inr, ℕ, List, Option, None, Some, Result, Ok, Err, IfErr}
-use Rattle.std.proofs.Common.{OnOk, refl, sym, subst}
+use Rattle.std.proofs.Common.{◌≡◌, ◌∙◌, inl, inr, ℕ, List, Option, None, Some, Result, Ok, Err}
+use Rattle.std.proofs.Common.{IfErr, OnOk, refl, sym, subst}
 use Rattle.std.specs.Global.{Vec}
 use Rattle.std.specs.Option.{option_map}
 use Rattle.dx_engine.specs.Diagnosers.{DiagnoserOf}
@@ -24,7 +24,8 @@ use Rattle.fm_store.specs.StoreLeft.{store_disk, AreDisksOf}
 use Rattle.fm_store.specs.StoreOf.{StoreOf, StoreStandsFor}
 use Rattle.fm_summary.specs.DrainedSummary.{diagnosers}
 use Rattle.fm_top.specs.Accepting.{DisksAccount}
-use Rattle.fm_top.specs.Explain.{ExplainDone, ExplainHalts, ExplainOnBook, ExplainTried, ExplainedOf}
+use Rattle.fm_top.specs.Explain.{ExplainDone, ExplainHalts, ExplainOnBook, ExplainTried}
+use Rattle.fm_top.specs.Explain.{ExplainedOf}
 use Rattle.fm_top.specs.Fmd.{ConcludingStops}
 use Rattle.fm_top.specs.Headline.{HoldsOfBook, LikeBook}
 use Rattle.fm_top.specs.Kept.{BookAt}

@@ -28,8 +28,8 @@ not_both b is other =
 abbrev graph_at : List Configuration → ℕ → Option GraphValue
 graph_at made file = option_map (λ x. x.graph) (slice_get made file)
 
-module _ (confs : List Conf) (rows : List (List Configuration)) (make : EachHas ConfMakes confs rows)
-    (n : ℕ) (conf : Conf) (there : slice_get confs n ≡ Some conf) where
+module _ (confs : List Conf) (rows : List (List Configuration))
+    (make : EachHas ConfMakes confs rows) (n : ℕ) (conf : Conf) (there : slice_get confs n ≡ Some conf) where
   made_there : (made : List Configuration) × (slice_get rows n ≡ Some made) × ConfMakes conf made
   made_there = each_at ConfMakes confs rows n conf make there
 
@@ -67,7 +67,8 @@ module _ (confs : List Conf) (rows : List (List Configuration)) (make : EachHas 
 
 pub explanation_at : (uuid : List ℕ) (told : Contents) (stood : BookAt told) (conf : Conf)
     (text : Option (List ℕ)) → slice_get stood.book.confs (force_now stood.book) ≡ Some conf
-    → IsExplanationOf conf (force_now stood.book) uuid (drained stood.book.book) text → IsExplanationAt uuid stood text
+    → IsExplanationOf conf (force_now stood.book) uuid (drained stood.book.book) text
+    → IsExplanationAt uuid stood text
 explanation_at uuid told stood conf text in_force is = record {
   conf = conf;
   in_force = in_force;

@@ -1,5 +1,6 @@
--- What `explain` does: the store is drained, and the text of the row of the drained book that has the
--- UUID is put, in the graph of its configuration; where no row has it, nothing. No entry is accepted.
+-- What `explain` does: the store is drained, and the text of the row of the drained book that has
+-- the UUID is put, in the graph of its configuration; where no row has it, nothing. No entry is
+-- accepted.
 use Rattle.std.specs.Prelude.{◌≡◌, ◌⊎◌, List, Option, Some, None, Result, Ok, Err, MatchResult}
 use Rattle.std.specs.Prelude.{OnOk, IfOk, IfErr}
 use Rattle.std.specs.Global.{Vec}

@@ -13,8 +13,8 @@ use Rattle.fm_saved.specs.declared.conf.Conf.{Conf}
 use Rattle.fm_settled.specs.CaseStatus.{IsStatusOf}
 use Rattle.fm_top.specs.Kept.{BookAt}
 
--- THE GRAPH OF A ROW, by what the rule files make in each configuration: that of the row's module in
--- the row's configuration
+-- THE GRAPH OF A ROW, by what the rule files make in each configuration: that of the row's module
+-- in the row's configuration
 abbrev pub graph_in : List (List Configuration) → ListEvent → Option GraphValue
 graph_in rows row = option_map (λ x. x.graph)
     (option_and_then (λ made. slice_get made row.case.module) (slice_get rows row.conf))
@@ -24,13 +24,14 @@ abbrev pub row_graph : List (List Configuration) → ℕ → ListEvent → Optio
 row_graph rows in_force row = if row.conf == in_force then graph_in rows row else None
 
 -- the text of a row in its graph, if there is a row
-abbrev pub IsExplanationIn : (ListEvent → Option GraphValue) → Option ListEvent → Option (List ℕ) → Type 0
+abbrev pub IsExplanationIn : (ListEvent → Option GraphValue) → Option ListEvent
+    → Option (List ℕ) → Type 0
 IsExplanationIn graph None None = Unit {0}
 IsExplanationIn graph (Some row) (Some text) = IsExplained (graph row) row text
 IsExplanationIn graph _ _ = ⊥
 
--- The text of the first row, in case order, of the drained book's status that has the UUID under the
--- namespace of the configuration in force, in the graph that its module has in the book; none where
+-- The text of the first row, in case order, of the drained book's status that has the UUID under
+-- the namespace of the configuration in force, in the graph that its module has in the book; none where
 -- no row has it.
 pub record IsExplanationAt (uuid : List ℕ) {told : Contents} (stood : BookAt told)
     (text : Option (List ℕ)) : Type 0 where

@@ -109,8 +109,9 @@ Finds w (at_row uuid) stop =
     (stop ≡ NotFound) × ((told : Contents) → AreContents w told → HasNoRow uuid told)
 
 -- What stands where the command goes on. Where the input has more bytes than are taken, it is not
--- looked at as files. Whether something is marked, or a case has a UUID, is looked at in the drained
--- book, and a limit may be reached on the way there: what stands then is said by what the command did.
+-- looked at as files. Whether something is marked, or a case has a UUID, is looked at in the
+-- drained book, and a limit may be reached on the way there: what stands then is said by what the
+-- command did.
 abbrev pub Passes : World → Look → Type 0
 Passes w at_rules =
     (files : List RuleFile) × FilesGave standing w.sources.rules w.sources_now.rules files

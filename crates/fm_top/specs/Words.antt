@@ -41,8 +41,8 @@ fmadm_with second =
 abbrev pub explain_with : List ℕ → Option Command
 explain_with second = option_map Explain (parsed second)
 
--- the command of two words: `init` and a namespace, `esc` or `fmd` and an option, `fmadm` and what is
--- asked for, or `explain` and a UUID
+-- the command of two words: `init` and a namespace, `esc` or `fmd` and an option, `fmadm` and what
+-- is asked for, or `explain` and a UUID
 unfoldable pub command_with : List ℕ → List ℕ → Option Command
 command_with word second =
     if bytes_eq word (codes "init") then option_map Init (parsed second)

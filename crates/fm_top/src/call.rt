@@ -40,9 +40,9 @@ use std::alloc::Global;
 /// the entries since the last rotation; `fmadm rotate` goes on with the other error journal, moves
 /// the base to the end, and puts it. `fmadm repaired`, `fmadm replaced` and `fmadm acquit` drain
 /// the store, accept what was said where it marks a suspect of the drained book, drain it again,
-/// bring the actuators to what is wanted then, and put the number of the entry. `explain` drains the
-/// store, and puts of the case with a UUID what each suspect accounts for. Of a command that stops,
-/// the last line says why. Nothing else is touched. `now` is the moment of the call, in
+/// bring the actuators to what is wanted then, and put the number of the entry. `explain` drains
+/// the store, and puts of the case with a UUID what each suspect accounts for. Of a command that
+/// stops, the last line says why. Nothing else is touched. `now` is the moment of the call, in
 /// nanoseconds since 1970, which is that of what an operator says.
 pub fn tool<S: Source, K: Sink, D: Disk>(
     alloc: Global,
