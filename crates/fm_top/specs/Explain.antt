@@ -2,7 +2,7 @@
 -- the UUID is put, in the graph of its configuration; where no row has it, nothing. No entry is
 -- accepted.
 use Rattle.std.specs.Prelude.{◌≡◌, ◌⊎◌, List, Option, Some, None, Result, Ok, Err, MatchResult}
-use Rattle.std.specs.Prelude.{OnOk, IfOk, IfErr}
+use Rattle.std.specs.Prelude.{ℕ, OnOk, IfOk, IfErr}
 use Rattle.std.specs.Global.{Vec}
 use Rattle.std.specs.Option.{option_map}
 use Rattle.dx_engine.specs.Diagnosers.{DiagnoserOf}

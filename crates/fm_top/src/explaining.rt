@@ -51,7 +51,7 @@ pub(crate) fn explain_store<D: Disk>(
 /// Drains the store on the disks, and puts what the suspects of the case with the UUID account for.
 pub(crate) fn explain<K: Sink, D: Disk>(
     alloc: Global,
-    uuid: Uuid,
+    uuid: [u8; 16],
     out: &mut K,
     disks: &mut Disks<D>,
 ) -> Result<(), Stop>
@@ -59,7 +59,7 @@ pub(crate) fn explain<K: Sink, D: Disk>(
         (disks_at D.Disk disks.old) (disks_at D.Disk disks.new) result }
     ensures same_disks { names_of D.name disks.new ≡ names_of D.name disks.old }
 {
-    let task = StoreTask::Explain(uuid);
+    let task = StoreTask::Explain(Uuid::from_bytes(uuid));
     let mut none = NoInput;
     let done = work_store(alloc, &task, &mut none, out, disks)?;
     match done {

@@ -52,7 +52,7 @@ pub enum Command {
     /// suspect.
     Repair(RepairRequest),
     /// The store is drained, and what the suspects of the case with this UUID account for is put.
-    Explain(Uuid),
+    Explain([u8; 16]),
 }
 
 /// Whether the word is this text.
@@ -131,7 +131,7 @@ fn explain_with(second: &ArgText) -> Option<Command>
     ensures { result ≡ explain_with second.now }
 {
     match parse_uuid(second) {
-        Some(bytes) => Some(Command::Explain(Uuid::from_bytes(bytes))),
+        Some(uuid) => Some(Command::Explain(uuid)),
         None => None,
     }
 }

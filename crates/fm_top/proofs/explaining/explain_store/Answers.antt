@@ -33,8 +33,8 @@ returns-in-Ok-None-clause-does g c = λ input out. (
   ),
 )
 
-pub returns-clause-does : goal.returns-clause-does
-returns-clause-does g c = λ input out. (
+pub returns-in-Err-clause-does : goal.returns-in-Err-clause-does
+returns-in-Err-clause-does g c = λ input out. (
   refl,
   refl,
   inr (
