@@ -10,6 +10,8 @@ pub mod Doing
 pub mod Dumps
 pub mod Escs
 pub mod Exactness
+pub mod ExplainDoing
+pub mod Explains
 pub mod FmdDoing
 pub mod Fmds
 pub mod Feeding
@@ -27,6 +29,7 @@ pub mod RepairDoing
 pub mod Repairs
 pub mod Replays
 pub mod Rotatings
+pub mod RowGraphs
 pub mod Sinks
 pub mod SixDisks
 pub mod Standing

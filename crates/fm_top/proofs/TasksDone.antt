@@ -27,10 +27,11 @@ use Rattle.fm_top.specs.Tasks.{TaskDoes, TaskRan}
 use Rattle.fm_top.specs.declared.stops.Stop.{Stop}
 use Rattle.fm_top.specs.declared.stops.Stop.TheVariants.{Read, Write}
 use Rattle.fm_top.specs.declared.tasks.StoreTask.{StoreTask}
-use Rattle.fm_top.specs.declared.tasks.StoreTask.TheVariants.{Accept, Fmd, Admin, Repair}
+use Rattle.fm_top.specs.declared.tasks.StoreTask.TheVariants.{Accept, Fmd, Admin, Repair, Explain}
 use Rattle.fm_top.specs.declared.tasks.TaskDone.{TaskDone}
 use Rattle.fm_top.specs.declared.tasks.TaskDone.TheVariants.{Nothing, Concluded, Text, Repaired}
 use Rattle.fm_top.proofs.Accepts.{not_opened, opened_ran}
+use Rattle.fm_top.proofs.Explains.{explain_halted, explain_tried, explain_unopened}
 use Rattle.fm_top.proofs.Fmds.{OpenAt, unopened_ran, worked_ran}
 use Rattle.fm_top.proofs.Repairs.{repair_halted, repair_tried, repair_unopened}
 use Rattle.fm_top.proofs.Texts.{asked_told, asked_untold, unopened_asked}
@@ -57,6 +58,8 @@ task_unopened g disks disks_now (Admin asked) input out fault refused read =
     (refl, unopened_asked g disks disks_now asked fault refused read)
 task_unopened g disks disks_now (Repair asked) input out fault refused read =
     (refl, repair_unopened g disks disks_now asked fault refused read)
+task_unopened g disks disks_now (Explain uuid) input out fault refused read =
+    (refl, explain_unopened g disks disks_now uuid fault refused read)
 
 module _ {D : Type 0} (g : Ghosts D)
     (seen_is_image : (disk : D) (c : List ℕ) → g.seen disk ≡ Some c → g.images disk c)
@@ -101,6 +104,14 @@ module _ {D : Type 0} (g : Ghosts D)
       (does.1, repair_tried g disks disks_now first new hands conf asked kept opened are one does.2)
   task_ran (Repair asked) (Err stop) does counts_input counts_out =
       (does.1, repair_halted g disks disks_now first new hands conf asked kept opened are stop does.2)
+  task_ran (Explain uuid) (Ok (Text text)) does counts_input counts_out = (
+    does.1,
+    explain_tried g disks disks_now first new hands conf uuid kept opened are text does.2,
+  )
+  task_ran (Explain uuid) (Err stop) does counts_input counts_out = (
+    does.1,
+    explain_halted g disks disks_now first new hands conf uuid kept opened are stop does.2,
+  )
   task_ran _ _ does counts_input counts_out = absurd does
 
 -- ---- what a command takes of it

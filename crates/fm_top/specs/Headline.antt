@@ -16,6 +16,7 @@ use Rattle.fm_top.specs.declared.stops.Stop.{Stop}
 use Rattle.fm_top.specs.declared.words.Command.{Command}
 use Rattle.fm_top.specs.declared.stops.Stop.TheVariants.{Act, NotFaulty}
 use Rattle.fm_top.specs.declared.words.Command.TheVariants.{Accept, Fmd, Init, Admin, Repair}
+use Rattle.fm_top.specs.declared.words.Command.TheVariants.{Explain}
 
 -- Of these lines all but the last one at most were answered whole, and what was put is a front of
 -- their answers: so whoever was told `ok` has the entry among theirs. `next` is the number of the
@@ -140,6 +141,9 @@ Headline (Repair asked) before after ran =
     Unopened before after ran
     ⊎ ((told : Contents) → Tells before.disks told
     → HoldsOfBook told (HeldRepair before after asked told ran))
+Headline (Explain uuid) before after ran =
+    Unopened before after ran
+    ⊎ ((told : Contents) → Tells before.disks told → HoldsOfBook told (LikeBook told after.disks))
 Headline (Init namespace) before after ran =
     (told : Contents) → Tells before.disks told → BookAt told
     → AreFromBefore before.disks after.disks

@@ -10,6 +10,8 @@ pub mod Ended
 pub mod Ending
 pub mod Esc
 pub mod Exact
+pub mod Explain
+pub mod ExplainedRow
 pub mod Fmd
 pub mod FmdStore
 pub mod Halting

@@ -24,9 +24,11 @@ use Rattle.fm_top.specs.declared.stops.Stop.{Stop}
 use Rattle.fm_top.specs.declared.stops.Stop.TheVariants.{Rules, Topology, Damaged, Read, Write}
 use Rattle.fm_top.specs.declared.stops.Stop.TheVariants.{Disk, Memory, Full, Exists}
 use Rattle.fm_top.specs.declared.stops.Stop.TheVariants.{Graph, DamagedInput, Differs, NotFaulty, Act}
+use Rattle.fm_top.specs.declared.stops.Stop.TheVariants.{NotFound}
 use Rattle.fm_top.specs.declared.words.Command.{Command}
 use Rattle.fm_top.specs.declared.words.Command.TheVariants.{Accept, Fmd, Replay, Init, Esc}
-use Rattle.fm_top.specs.declared.words.Command.TheVariants.{EscInput, Admin, Repair}
+use Rattle.fm_top.specs.declared.words.Command.TheVariants.{EscInput, Admin, Repair, Explain}
+use Rattle.fm_top.specs.ExplainedRow.{HasNoRow}
 use Rattle.fm_top.specs.Kept.{BookAt, FirstDamage, KeepsAsRead, KeepsOther}
 use Rattle.fm_top.specs.Outside.{Outside, SourceAt, disk_by_name, given_of, standing}
 use Rattle.fm_top.specs.RepairEntry.{MarksNothing, RepairAsked}
@@ -55,7 +57,7 @@ AreContents w told = (name : DiskName) → w.disks name ≡ Some (content_named 
 
 -- a look: at the rule files, at the topology, at what the files come to over it, at the compiled
 -- files of the input, whether there is a store, at the whole store, whether what it keeps is what
--- was read, and whether what an operator says marks a suspect
+-- was read, whether what an operator says marks a suspect, and whether a case has a UUID
 pub data Look : Type 0 where
   at_rules : Look
   at_topology : Look
@@ -65,6 +67,7 @@ pub data Look : Type 0 where
   at_store : Look
   at_same : Look
   at_marked : RepairAsked → Look
+  at_row : List ℕ → Look
 
 -- THE ORDER OF REFUSALS, one line a command
 abbrev pub looks : Command → List Look
@@ -76,6 +79,7 @@ looks (Esc form) = at_rules ∷ at_topology ∷ at_graphs ∷ []
 looks EscInput = at_files ∷ []
 looks (Admin asked) = at_store ∷ []
 looks (Repair asked) = at_store ∷ at_marked asked ∷ []
+looks (Explain uuid) = at_store ∷ at_row uuid ∷ []
 
 -- how a look ends the command
 abbrev pub Finds : World → Look → Stop → Type 0
@@ -101,10 +105,13 @@ Finds w at_same stop =
     × ((told : Contents) → AreContents w told → KeepsOther told got)
 Finds w (at_marked asked) stop =
     (stop ≡ NotFaulty) × ((told : Contents) → AreContents w told → MarksNothing asked told)
+Finds w (at_row uuid) stop =
+    (stop ≡ NotFound) × ((told : Contents) → AreContents w told → HasNoRow uuid told)
 
 -- What stands where the command goes on. Where the input has more bytes than are taken, it is not
--- looked at as files. Whether something is marked is looked at in the drained book, and a limit may
--- be reached on the way there: what stands then is said by what the command did.
+-- looked at as files. Whether something is marked, or a case has a UUID, is looked at in the
+-- drained book, and a limit may be reached on the way there: what stands then is said by what the
+-- command did.
 abbrev pub Passes : World → Look → Type 0
 Passes w at_rules =
     (files : List RuleFile) × FilesGave standing w.sources.rules w.sources_now.rules files
@@ -122,6 +129,7 @@ Passes w at_same =
     (got : Sources) × ReadsSources standing w.sources w.sources_now (Ok got)
     × ((told : Contents) → AreContents w told → KeepsAsRead told got)
 Passes w (at_marked asked) = Unit {0}
+Passes w (at_row uuid) = Unit {0}
 
 -- the first look that ends the command ends it so
 abbrev pub FirstFinds : World → List Look → Stop → Type 0

@@ -22,6 +22,7 @@ use Rattle.fm_top.specs.declared.stops.Stop.{Stop}
 use Rattle.fm_top.specs.declared.stops.Stop.TheVariants.{Usage, Rules, Topology, Damaged, Read}
 use Rattle.fm_top.specs.declared.stops.Stop.TheVariants.{Write, Disk, Memory, Full, Exists}
 use Rattle.fm_top.specs.declared.stops.Stop.TheVariants.{Graph, DamagedInput, Differs, NotFaulty, Act}
+use Rattle.fm_top.specs.declared.stops.Stop.TheVariants.{NotFound}
 
 -- the status that tells it
 abbrev pub status_of : Stop → ToolStatus
@@ -39,6 +40,7 @@ status_of (Full kind) = status.Full
 status_of Exists = status.Exists
 status_of Differs = status.Differs
 status_of NotFaulty = status.NotFound
+status_of NotFound = status.NotFound
 status_of (Act index) = status.ActFault
 
 -- what the sources were refused for
@@ -114,4 +116,5 @@ last_text (Full kind) = codes "full " ++ (kind_text kind ++ codes "\n")
 last_text Exists = codes "store exists\n"
 last_text Differs = codes "configuration differs\n"
 last_text NotFaulty = codes "not faulty\n"
+last_text NotFound = codes "not found\n"
 last_text (Act index) = codes "actuator fault " ++ (decimal index ++ codes "\n")

@@ -9,6 +9,7 @@ use Rattle.fm_store.specs.StoreCalls.{next_entry}
 use Rattle.fm_store.specs.StoreOf.{StoreOf}
 use Rattle.fm_top.specs.Accepting.{AcceptRan}
 use Rattle.fm_top.specs.Admin.{AdminDone, TextAsked}
+use Rattle.fm_top.specs.Explain.{ExplainDone, ExplainHalts, ExplainTried}
 use Rattle.fm_top.specs.Fmd.{StoreRan}
 use Rattle.fm_top.specs.FmdStore.{StoreWorks}
 use Rattle.fm_top.specs.Outside.{SourceAt, SinkAt, DisksAt}
@@ -19,7 +20,7 @@ use Rattle.fm_logs.specs.declared.fault.StoreFault.{StoreFault}
 use Rattle.fm_top.specs.Stops.{of_store}
 use Rattle.fm_top.specs.declared.stops.Stop.{Stop}
 use Rattle.fm_top.specs.declared.tasks.StoreTask.{StoreTask}
-use Rattle.fm_top.specs.declared.tasks.StoreTask.TheVariants.{Accept, Fmd, Admin, Repair}
+use Rattle.fm_top.specs.declared.tasks.StoreTask.TheVariants.{Accept, Fmd, Admin, Repair, Explain}
 use Rattle.fm_top.specs.declared.tasks.TaskDone.{TaskDone}
 use Rattle.fm_top.specs.declared.tasks.TaskDone.TheVariants.{Nothing, Concluded, Text, Repaired}
 
@@ -46,6 +47,10 @@ TaskDoes g (Repair asked) old new hands conf input input_now out out_now (Ok (Re
     (input_now ≡ input) × (out_now ≡ out) × RepairDone g asked old new hands conf (Ok (Some one))
 TaskDoes g (Repair asked) old new hands conf input input_now out out_now (Err stop) =
     (input_now ≡ input) × (out_now ≡ out) × RepairHalts g asked old new hands conf stop
+TaskDoes g (Explain uuid) old new hands conf input input_now out out_now (Ok (Text text)) =
+    (input_now ≡ input) × (out_now ≡ out) × ExplainDone g uuid old new hands conf (Ok (Some text))
+TaskDoes g (Explain uuid) old new hands conf input input_now out out_now (Err stop) =
+    (input_now ≡ input) × (out_now ≡ out) × ExplainHalts g uuid old new hands conf stop
 TaskDoes _ _ _ _ _ _ _ _ _ _ _ = ⊥
 
 -- WHAT WAS DONE WITH THE STORE ON SIX DISKS, two lines a task: it was opened, or not
@@ -67,4 +72,8 @@ TaskRan (Repair asked) input input_now out out_now disks disks_now (Ok (Repaired
     (out_now ≡ out) × RepairTried asked disks disks_now (Ok one)
 TaskRan (Repair asked) input input_now out out_now disks disks_now (Err stop) =
     (out_now ≡ out) × RepairTried asked disks disks_now (Err stop)
+TaskRan (Explain uuid) input input_now out out_now disks disks_now (Ok (Text text)) =
+    (out_now ≡ out) × ExplainTried uuid disks disks_now (Ok text.items)
+TaskRan (Explain uuid) input input_now out out_now disks disks_now (Err stop) =
+    (out_now ≡ out) × ExplainTried uuid disks disks_now (Err stop)
 TaskRan _ _ _ _ _ _ _ _ = ⊥

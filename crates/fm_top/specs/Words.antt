@@ -10,7 +10,7 @@ use Rattle.fm_name.specs.Path.{is_path}
 use Rattle.fm_top.specs.declared.words.Command.{Command}
 use Rattle.fm_esc.specs.declared.graphs.GraphForm.TheVariants.{Listed, Compiled}
 use Rattle.fm_top.specs.declared.words.Command.TheVariants.{Accept, Fmd, Replay, Init, Esc}
-use Rattle.fm_top.specs.declared.words.Command.TheVariants.{EscInput, Admin, Repair}
+use Rattle.fm_top.specs.declared.words.Command.TheVariants.{EscInput, Admin, Repair, Explain}
 use Rattle.fm_top.specs.declared.words.AdminCommand.TheVariants.{Config, Dump, Faulty, Rotate}
 
 -- the command of one word
@@ -37,14 +37,19 @@ fmadm_with second =
     else (if bytes_eq second (codes "config") then Some (Admin Config)
     else (if bytes_eq second (codes "rotate") then Some (Admin Rotate) else None))
 
--- the command of two words: `init` and a namespace, `esc` or `fmd` and an option, or `fmadm` and
--- what is asked for
+-- the command `explain` and the UUID of a case
+abbrev pub explain_with : List ℕ → Option Command
+explain_with second = option_map Explain (parsed second)
+
+-- the command of two words: `init` and a namespace, `esc` or `fmd` and an option, `fmadm` and what
+-- is asked for, or `explain` and a UUID
 unfoldable pub command_with : List ℕ → List ℕ → Option Command
 command_with word second =
     if bytes_eq word (codes "init") then option_map Init (parsed second)
     else (if bytes_eq word (codes "esc") then esc_with second
     else (if bytes_eq word (codes "fmd") then fmd_with second
-    else (if bytes_eq word (codes "fmadm") then fmadm_with second else None)))
+    else (if bytes_eq word (codes "fmadm") then fmadm_with second
+    else (if bytes_eq word (codes "explain") then explain_with second else None))))
 
 -- the path that a word is
 abbrev pub path_of : List ℕ → Option (List ℕ)

@@ -8,6 +8,7 @@ ghost use Rattle.fm_top.specs.Words.{command_of};
 use crate::accept::accept;
 use crate::admin::tell;
 use crate::esc::{esc, esc_input};
+use crate::explaining::explain;
 use crate::fmd::fmd;
 use crate::init::init;
 use crate::last::end;
@@ -39,7 +40,8 @@ use std::alloc::Global;
 /// the entries since the last rotation; `fmadm rotate` goes on with the other error journal, moves
 /// the base to the end, and puts it. `fmadm repaired`, `fmadm replaced` and `fmadm acquit` drain
 /// the store, accept what was said where it marks a suspect of the drained book, drain it again,
-/// bring the actuators to what is wanted then, and put the number of the entry. Of a command that
+/// bring the actuators to what is wanted then, and put the number of the entry. `explain` drains
+/// the store, and puts of the case with a UUID what each suspect accounts for. Of a command that
 /// stops, the last line says why. Nothing else is touched. `now` is the moment of the call, in
 /// nanoseconds since 1970, which is that of what an operator says.
 pub fn tool<S: Source, K: Sink, D: Disk>(
@@ -103,6 +105,10 @@ pub fn tool<S: Source, K: Sink, D: Disk>(
         }
         Some(Command::Repair(request)) => {
             let ran = repair(alloc, request, out, disks, acts);
+            end(alloc, ran, out)
+        }
+        Some(Command::Explain(uuid)) => {
+            let ran = explain(alloc, uuid, out, disks);
             end(alloc, ran, out)
         }
         None => end(alloc, Err(Stop::Usage), out),

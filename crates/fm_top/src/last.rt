@@ -178,6 +178,7 @@ fn put_last<K: Sink>(alloc: Global, stop: &Stop, out: &mut K) -> Result<(), Stop
         Stop::Exists => put_text(out, "store exists\n"),
         Stop::Differs => put_text(out, "configuration differs\n"),
         Stop::NotFaulty => put_text(out, "not faulty\n"),
+        Stop::NotFound => put_text(out, "not found\n"),
         Stop::Act { index } => put_act(alloc, *index, out),
         Stop::Write | Stop::Memory => Ok(()),
     }

@@ -20,7 +20,7 @@
 //! on six lent disks, does the task with it and gives the disks back, and says what came of it by
 //! the task (`specs/Tasks`). `fmadm` has fm_admin drain the store and tell a text of it, which is put
 //! when the disks are back (`admin`, `specs/Admin`); so does `fmdump`, of one of the logs (`dumping`,
-//! `specs/Dump`).
+//! `specs/Dump`), and `explain`, of one case (`explaining`, `specs/Explain`).
 //!
 //! The model of a call is two records of what stands outside, before and after it
 //! (`specs/Outside`). `specs/Calls` says by the command what lies between them; `specs/Order` in
@@ -64,6 +64,7 @@ mod configuring;
 mod counts;
 mod dumping;
 mod esc;
+mod explaining;
 mod fmd;
 mod init;
 mod last;

@@ -11,6 +11,7 @@ ghost use Rattle.fm_top.specs.Tasks.{TaskDoes, TaskRan};
 
 use crate::accept::accept_lines;
 use crate::admin::tell_text;
+use crate::explaining::explain_store;
 use crate::fmd::diagnose_lines;
 use crate::lent::Lent;
 use crate::repairing::repair_store;
@@ -51,6 +52,7 @@ fn do_task<S: Source, K: Sink, D: Disk>(
         StoreTask::Fmd(got) => diagnose_lines(streams, got, store, hands, conf),
         StoreTask::Admin(asked) => tell_text(streams.alloc, asked, store, hands, conf),
         StoreTask::Repair(request) => repair_store(streams.alloc, request, store, hands, conf),
+        StoreTask::Explain(uuid) => explain_store(streams.alloc, uuid, store, hands, conf),
     }
 }
 

@@ -57,6 +57,8 @@ pub enum Stop {
     Differs,
     /// What the operator says marks no suspect.
     NotFaulty,
+    /// No case has the UUID.
+    NotFound,
     /// An actuator failed, the first that did; its place among those handed in.
     Act {
         index: u32,
@@ -82,6 +84,7 @@ impl Stop {
             Stop::Exists => ToolStatus::Exists,
             Stop::Differs => ToolStatus::Differs,
             Stop::NotFaulty => ToolStatus::NotFound,
+            Stop::NotFound => ToolStatus::NotFound,
             Stop::Act { .. } => ToolStatus::ActFault,
         }
     }

@@ -5,6 +5,7 @@ use fm_admin::Repaired;
 use fm_conclude::Conclusion;
 use fm_sources::Sources;
 use std::alloc::Global;
+use uuid::Uuid;
 
 /// What is done with a store once it is open.
 #[derive(Drop)]
@@ -17,6 +18,8 @@ pub(crate) enum StoreTask {
     Admin(AdminCommand),
     /// It is drained, and takes what an operator says, where that marks a suspect.
     Repair(RepairRequest),
+    /// It is drained, and what the suspects of the case with this UUID account for is told.
+    Explain(Uuid),
 }
 
 /// What is left to do once the disks are back.

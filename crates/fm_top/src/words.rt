@@ -3,8 +3,8 @@ ghost use Rattle.std.specs.Prelude.{◌≡◌, ◌<◌, ◌^◌, IfOk, IfErr};
 ghost use Rattle.std.specs.Str.{bytes_eq};
 ghost use Rattle.uuid.specs.Text.{parsed};
 ghost use Rattle.fm_top.specs.Words.{TakesMemory, command_about, command_in, command_of};
-ghost use Rattle.fm_top.specs.Words.{command_with, dump_with, esc_with, fmadm_with, fmd_with};
-ghost use Rattle.fm_top.specs.Words.{path_of, repair_with, short_command};
+ghost use Rattle.fm_top.specs.Words.{command_with, dump_with, esc_with, explain_with, fmadm_with};
+ghost use Rattle.fm_top.specs.Words.{fmd_with, path_of, repair_with, short_command};
 
 use crate::request::RepairRequest;
 use fm_admin::Repair;
@@ -51,6 +51,8 @@ pub enum Command {
     /// The store is drained, and takes what an operator says of repairs, where that marks a
     /// suspect.
     Repair(RepairRequest),
+    /// The store is drained, and what the suspects of the case with this UUID account for is put.
+    Explain([u8; 16]),
 }
 
 /// Whether the word is this text.
@@ -124,6 +126,16 @@ fn fmadm_with(second: &ArgText) -> Option<Command>
     }
 }
 
+/// The command `explain` with a word.
+fn explain_with(second: &ArgText) -> Option<Command>
+    ensures { result ≡ explain_with second.now }
+{
+    match parse_uuid(second) {
+        Some(uuid) => Some(Command::Explain(uuid)),
+        None => None,
+    }
+}
+
 /// The command of two words.
 #[tactic(auto, unfolding(crate::specs::Words::command_with))]
 fn command_with(word: &ArgText, second: &ArgText) -> Option<Command>
@@ -140,6 +152,8 @@ fn command_with(word: &ArgText, second: &ArgText) -> Option<Command>
         fmd_with(second)
     } else if is_word(word, "fmadm") {
         fmadm_with(second)
+    } else if is_word(word, "explain") {
+        explain_with(second)
     } else {
         None
     }

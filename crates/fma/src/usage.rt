@@ -10,7 +10,7 @@ struct CommandHelp {
 }
 
 /// The commands that are built.
-const COMMANDS: [CommandHelp; 14] = [
+const COMMANDS: [CommandHelp; 15] = [
     CommandHelp {
         words: "init NAMESPACE",
         does: "makes a store of dx0.esc and on, and of topology.txt; NAMESPACE is a UUID",
@@ -50,6 +50,10 @@ const COMMANDS: [CommandHelp; 14] = [
     CommandHelp {
         words: "fmdump [-e] [-V] [-c PATTERN] [-u UUID] [-t TIME] [-T TIME]",
         does: "tells what was said of cases, or with -e the reports since the last rotation",
+    },
+    CommandHelp {
+        words: "explain UUID",
+        does: "tells of the case UUID which events each of its suspects accounts for",
     },
     CommandHelp {
         words: "replay",

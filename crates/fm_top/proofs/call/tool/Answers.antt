@@ -1,10 +1,11 @@
 use Rattle.std.proofs.Common.{refl, rules, Some}
 use Rattle.fm_top.specs.Outside.{sink_at}
 use Rattle.fm_top.specs.declared.words.Command.TheVariants.{Accept, Fmd, Replay, Init, Esc}
-use Rattle.fm_top.specs.declared.words.Command.TheVariants.{EscInput, Admin, Repair}
+use Rattle.fm_top.specs.declared.words.Command.TheVariants.{EscInput, Admin, Repair, Explain}
 use Rattle.fm_top.proofs.AdminDoing.{does_tell}
 use Rattle.fm_top.proofs.Doing.{does_as, does_accept, does_replay}
 use Rattle.fm_top.proofs.Escs.{does_esc, does_input, esc_standing, input_standing}
+use Rattle.fm_top.proofs.ExplainDoing.{does_explain}
 use Rattle.fm_top.proofs.FmdDoing.{does_fmd}
 use Rattle.fm_top.proofs.Inits.{does_init, ends_standing}
 use Rattle.fm_top.proofs.RepairDoing.{does_repair}
@@ -65,6 +66,13 @@ returns-in-Some-Repair-clause-does g c =
     does_as _ (Some (Repair c.in-Some-Repair.request)) _ _ _ (search rules)
     (does_repair c.in-Some-Repair.request _ _ (sink_at g.K.Sink c.repair-ran.new.out)
     c.repair-ran.result _ c.repair-ran.ensures.ran c.end-in-Some-Repair.ensures refl refl refl)
+
+pub returns-in-Some-Explain-clause-does : goal.returns-in-Some-Explain-clause-does
+returns-in-Some-Explain-clause-does g c =
+    does_as _ (Some (Explain c.in-Some-Explain.uuid)) _ _ _ (search rules)
+    (does_explain c.in-Some-Explain.uuid _ _ (sink_at g.K.Sink c.explain-ran.new.out)
+    c.explain-ran.result _ c.explain-ran.ensures.ran c.end-in-Some-Explain.ensures
+    (record { rules = refl; topo = refl; acts = refl }) refl)
 
 pub returns-in-Err-clause-does : goal.returns-in-Err-clause-does
 returns-in-Err-clause-does g c =

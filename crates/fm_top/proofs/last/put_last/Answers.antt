@@ -14,3 +14,6 @@ returns-in-Differs-clause-err g c = rw c.in-Differs.is c.put_text-in-Differs.ens
 
 pub returns-in-NotFaulty-clause-err : goal.returns-in-NotFaulty-clause-err
 returns-in-NotFaulty-clause-err g c = rw c.in-NotFaulty.is c.put_text-in-NotFaulty.ensures.err
+
+pub returns-in-NotFound-clause-err : goal.returns-in-NotFound-clause-err
+returns-in-NotFound-clause-err g c = rw c.in-NotFound.is c.put_text-in-NotFound.ensures.err

@@ -1,6 +1,6 @@
 use Rattle.std.proofs.Common.{rules}
 use Rattle.fm_top.specs.Outside.{source_at, sink_at}
-use Rattle.fm_top.specs.declared.tasks.StoreTask.TheVariants.{Accept, Admin, Repair}
+use Rattle.fm_top.specs.declared.tasks.StoreTask.TheVariants.{Accept, Admin, Repair, Explain}
 use Rattle.fm_top.proofs.TasksDone.{does_task}
 use Rattle.fm_top.proofs.opened.do_task.Goals as goal
 
@@ -19,4 +19,10 @@ pub returns-in-Repair-clause-does : goal.returns-in-Repair-clause-does
 returns-in-Repair-clause-does g c =
     does_task g.D.Disk _ (Repair c.in-Repair.request) _ _ _ _ _ _ _ _ _ (search rules)
     (c.repair_store.ensures.does (source_at g.S.Source c.args.streams.now.input.now)
+    (sink_at g.K.Sink c.args.streams.now.out.now))
+
+pub returns-in-Explain-clause-does : goal.returns-in-Explain-clause-does
+returns-in-Explain-clause-does g c =
+    does_task g.D.Disk _ (Explain c.in-Explain.uuid) _ _ _ _ _ _ _ _ _ (search rules)
+    (c.explain_store.ensures.does (source_at g.S.Source c.args.streams.now.input.now)
     (sink_at g.K.Sink c.args.streams.now.out.now))
