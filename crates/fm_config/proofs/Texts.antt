@@ -1,13 +1,12 @@
 -- The texts of a configuration, one after another.
 use Rattle.std.proofs.Common.{◌≡◌, ℕ, ◌+◌, ◌<◌, List, [], ◌∷◌, ◌++◌, length, take, get_or}
-use Rattle.std.proofs.Common.{refl, sym, ap, ◌∙◌, subst, inr}
+use Rattle.std.proofs.Common.{refl, sym, ap, ◌∙◌, subst, inl, inr}
 use Rattle.std.proofs.lemmas.List.{take_more}
 use Rattle.std.proofs.lemmas.Option.{slice_get_read}
 use Rattle.fm_modules.specs.KeptTexts.{AreRefusedTexts, EachHas, IsRefusedConf, IsRefusedText}
-use Rattle.fm_modules.specs.KeptTexts.{IsTopologyText}
+use Rattle.fm_modules.specs.KeptTexts.{IsNoTopology, IsTopologyText}
 use Rattle.fm_saved.specs.declared.conf.Conf.{Conf}
-use Rattle.fm_topo.specs.Fault.{IsClean}
-use Rattle.fm_topo.specs.Topology.{Topology, topology_of}
+use Rattle.fm_topo.specs.Topology.{Topology}
 use Rattle.fm_config.specs.Sizes.{ConfCause}
 use Rattle.fm_config.specs.declared.fault.ConfFault.{ConfFault}
 use Rattle.fm_config.specs.declared.fault.ConfFault.TheVariants.{Refused, NoMemory}
@@ -40,14 +39,19 @@ one_refused topo texts i text NoMemory low is cause = tt
 
 -- the texts of a configuration, over its topology
 pub conf_refused : (conf : Conf) (topo : Topology) (texts : List (List ℕ)) (topo_text : List ℕ)
-    (fault : ConfFault) → texts ≡ conf.rules → topo_text ≡ conf.topo → IsClean topo_text
-    → topo ≡ topology_of topo_text → ConfCause (AreRefusedTexts topo texts) fault
+    (fault : ConfFault) → texts ≡ conf.rules → topo_text ≡ conf.topo
+    → IsTopologyText topo_text topo → ConfCause (AreRefusedTexts topo texts) fault
     → ConfCause (IsRefusedConf conf) fault
-conf_refused conf topo texts topo_text Refused same same_topo clean is cause =
+conf_refused conf topo texts topo_text Refused same same_topo is cause =
     inr (
       topo,
-      subst (λ text. IsTopologyText text topo) same_topo
-          (record { clean = clean; topology_is = is }),
+      subst (λ text. IsTopologyText text topo) same_topo is,
       subst (AreRefusedTexts topo) same cause,
     )
-conf_refused conf topo texts topo_text NoMemory same same_topo clean is cause = tt
+conf_refused conf topo texts topo_text NoMemory same same_topo is cause = tt
+
+-- its topology
+pub topo_refused : (conf : Conf) (topo_text : List ℕ) (fault : ConfFault) → topo_text ≡ conf.topo
+    → ConfCause (IsNoTopology topo_text) fault → ConfCause (IsRefusedConf conf) fault
+topo_refused conf topo_text Refused same cause = inl (subst IsNoTopology same cause)
+topo_refused conf topo_text NoMemory same cause = tt

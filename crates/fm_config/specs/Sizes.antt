@@ -1,24 +1,20 @@
 -- The text of a configuration: its namespace, and how large what its rule files come to is.
 use Rattle.std.specs.Prelude.{◌≡◌, ℕ, List}
-use Rattle.ev_check.specs.CheckedFile.{CheckedFile}
 use Rattle.ev_file.specs.declared.made.Made.{Made}
-use Rattle.ev_inst.specs.Instances.{IsMadeOf}
 use Rattle.ev_listing.specs.Listing.{sizes_of}
 use Rattle.fm_adm.specs.Config.{config_text}
 use Rattle.fm_adm.specs.declared.config.ModuleSizes.{ModuleSizes}
 use Rattle.fm_modules.specs.KeptTexts.{EachHas, IsTopologyText}
 use Rattle.fm_saved.specs.declared.conf.Conf.{Conf}
-use Rattle.fm_sources.specs.Rules.{IsRuleFile}
 use Rattle.fm_topo.specs.Topology.{Topology}
+use Rattle.fm_config.specs.Comes.{TextComesTo}
 use Rattle.fm_config.specs.declared.fault.ConfFault.{ConfFault}
 use Rattle.fm_config.specs.declared.fault.ConfFault.TheVariants.{Refused, NoMemory}
 
 -- the text is a rule file, and what it comes to over the topology is so large
 pub record TextHasSizes (topo : Topology) (text : List ℕ) (sizes : ModuleSizes) : Type 0 where
-  pub checked : CheckedFile
-  pub is_rules : IsRuleFile text checked
   pub made : Made
-  pub is_made : IsMadeOf checked topo made
+  pub comes : TextComesTo topo text made
   pub sizes_are : sizes ≡ sizes_of made
 
 -- over the topology of a configuration each of its rule files comes to something so large

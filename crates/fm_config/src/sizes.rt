@@ -6,14 +6,12 @@ ghost use Rattle.fm_modules.specs.KeptTexts.{AreRefusedTexts, EachHas, IsRefused
 ghost use Rattle.fm_config.specs.Sizes.{ConfCause, HaveSizes, IsConfText, TextHasSizes};
 
 use crate::fault::ConfFault;
-use ev_check::Checked;
-use ev_inst::{InstFault, instantiate};
+use crate::made::{text_made, text_topo};
 use ev_listing::sizes_of;
 use fm_adm::{ModuleSizes, write_config};
 use fm_bytes::NoMemory;
 use fm_saved::{Conf, ConfText};
-use fm_sources::{RulesFault, read_rules};
-use fm_topo::{Topo, TopoFault, read_topo};
+use fm_topo::Topo;
 use std::alloc::Global;
 
 /// How large what the text of a rule file comes to over a topology is.
@@ -21,17 +19,8 @@ fn text_sizes(alloc: Global, text: &[u8], topo: &Topo) -> Result<ModuleSizes, Co
     ensures sizes { IfOk result (TextHasSizes topo.now text.now) }
     ensures refused { IfErr result (ConfCause (IsRefusedText topo.now text.now)) }
 {
-    let checked: Checked = match read_rules(alloc, text) {
-        Ok(checked) => checked,
-        Err(RulesFault::At { place: _, kind: _ }) => return Err(ConfFault::Refused),
-        Err(RulesFault::NoMemory) => return Err(ConfFault::NoMemory),
-    };
-    match instantiate(alloc, &checked, topo) {
-        Ok(made) => Ok(sizes_of(&made)),
-        Err(InstFault::Nodes) => Err(ConfFault::Refused),
-        Err(InstFault::Links) => Err(ConfFault::Refused),
-        Err(InstFault::NoMemory) => Err(ConfFault::NoMemory),
-    }
+    let made = text_made(alloc, text, topo)?;
+    Ok(sizes_of(&made))
 }
 
 /// How large what each of some texts comes to is, up to the first that is refused.
@@ -52,11 +41,7 @@ fn conf_sizes(alloc: Global, conf: &Conf) -> Result<Vec<ModuleSizes>, ConfFault>
     ensures sizes { IfOk result (λ sizes. HaveSizes conf.now sizes.items) }
     ensures refused { IfErr result (ConfCause (IsRefusedConf conf.now)) }
 {
-    let topo = match read_topo(alloc, conf.topo.get()) {
-        Ok(topo) => topo,
-        Err(TopoFault::At { line: _, kind: _ }) => return Err(ConfFault::Refused),
-        Err(TopoFault::NoMemory) => return Err(ConfFault::NoMemory),
-    };
+    let topo = text_topo(alloc, conf.topo.get())?;
     all_sizes(alloc, conf.rules.as_slice(), &topo)
 }
 

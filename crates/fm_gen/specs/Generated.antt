@@ -1,7 +1,7 @@
 -- The entries that a number generates: the recurrence of its draws, and the reports and the tick
 -- that are made of them.
 use Rattle.std.specs.Prelude.{◌≡◌, ℕ, ◌+◌, ◌*◌, ◌/◌, ◌%◌, ◌^◌, zero, suc, Bool, true}
-use Rattle.std.specs.Prelude.{◌&&◌, nat_le, IsTrue, List, [], ◌∷◌, ◌++◌, length}
+use Rattle.std.specs.Prelude.{◌&&◌, nat_le, IsTrue, List, [], ◌∷◌, ◌++◌, length, codes, flat_map}
 use Rattle.std.specs.Prelude.{slice_get, Option, Some, None}
 use Rattle.std.specs.List.{list_all}
 use Rattle.fm_name.specs.Category.{is_ereport}
@@ -10,6 +10,7 @@ use Rattle.fm_nv.specs.Data.{no_pairs}
 use Rattle.fm_entry.specs.Entries.{moment_of}
 use Rattle.fm_entry.specs.declared.entry.Entry.{Entry}
 use Rattle.fm_entry.specs.declared.entry.Entry.TheVariants.{Report, Tick}
+use Rattle.fm_line.specs.Printed.{line_text}
 
 -- the state of the generator after a draw
 unfoldable pub drawn : ℕ → ℕ
@@ -62,3 +63,7 @@ rises_from moment (entry ∷ entries) =
 pub record IsGenerated (seed start : ℕ) (reports : List EventName) : Type 0 where
   pub as_many : length (generated seed start reports) ≡ turns_of reports + 1
   pub rises : IsTrue (rises_from start (generated seed start reports))
+
+-- the lines of entries, each with its newline
+unfoldable pub lines_text : List Entry → List ℕ
+lines_text entries = flat_map (λ entry. line_text entry ++ codes "\n") entries

@@ -1,9 +1,9 @@
 //! The generator: what it still has to give.
 
 ghost use Rattle.std.specs.Prelude.{◌≡◌, ◌<◌, ◌≤◌, ◌^◌, ◌++◌, [], length, IsTrue, IfOk, IfSome};
-ghost use Rattle.std.specs.Prelude.{IfNone, OnErr, option_to_list, Some};
+ghost use Rattle.std.specs.Prelude.{IfNone, OnErr, option_to_list, Some, false};
 ghost use Rattle.fm_nv.specs.Data.{no_pairs};
-ghost use Rattle.fm_entry.specs.Entries.{IsReport, IsSpelled};
+ghost use Rattle.fm_entry.specs.Entries.{IsReport, IsSpelled, is_reload};
 ghost use Rattle.fm_gen.specs.Generated.{generated, are_reports, picked};
 
 use crate::draws::{draw_of, drawn};
@@ -79,6 +79,7 @@ impl Gen {
         ensures ok { IfOk result (λ entry. self.old ≡ option_to_list entry ++ self.new) }
         ensures end { IfOk result (λ entry. IfNone entry (self.old ≡ [])) }
         ensures spelled { IfOk result (λ entry. IfSome entry IsSpelled) }
+        ensures no_reload { IfOk result (λ entry. IfSome entry (λ e. is_reload e ≡ false)) }
         ensures err { OnErr result (self.new ≡ self.old) }
     {
         if self.ended {

@@ -12,6 +12,8 @@ pub mod Esc
 pub mod Exact
 pub mod Fmd
 pub mod FmdStore
+pub mod Generate
+pub mod GenerateStart
 pub mod Halting
 pub mod Headline
 pub mod Init

@@ -18,6 +18,7 @@ use Rattle.fm_sources.specs.declared.faults.SourceFault.TheVariants as faults
 use Rattle.fm_sources.specs.declared.files.RuleFile.{RuleFile}
 use Rattle.fm_sources.specs.declared.sources.Sources.{Sources}
 use Rattle.fm_init.specs.Making.{HasStore}
+use Rattle.fm_journal.specs.declared.fault.FullKind.TheVariants.{Numbers}
 use Rattle.fm_topo.specs.Topology.{Topology as PartSet}
 use Rattle.fm_topo.specs.declared.faults.TopoKind.{TopoKind}
 use Rattle.fm_top.specs.declared.stops.Stop.{Stop}
@@ -26,7 +27,9 @@ use Rattle.fm_top.specs.declared.stops.Stop.TheVariants.{Disk, Memory, Full, Exi
 use Rattle.fm_top.specs.declared.stops.Stop.TheVariants.{Graph, DamagedInput, Differs, NotFaulty, Act}
 use Rattle.fm_top.specs.declared.words.Command.{Command}
 use Rattle.fm_top.specs.declared.words.Command.TheVariants.{Accept, Fmd, Replay, Init, Esc}
-use Rattle.fm_top.specs.declared.words.Command.TheVariants.{EscInput, Admin, Repair}
+use Rattle.fm_top.specs.declared.words.Command.TheVariants.{EscInput, Admin, Repair, Generate}
+use Rattle.fm_top.specs.declared.words.Command.TheVariants.{GeneratedLines}
+use Rattle.fm_top.specs.GenerateStart.{BeginsEarly, BeginsLate}
 use Rattle.fm_top.specs.Kept.{BookAt, FirstDamage, KeepsAsRead, KeepsOther}
 use Rattle.fm_top.specs.Outside.{Outside, SourceAt, disk_by_name, given_of, standing}
 use Rattle.fm_top.specs.RepairEntry.{MarksNothing, RepairAsked}
@@ -55,7 +58,8 @@ AreContents w told = (name : DiskName) → w.disks name ≡ Some (content_named 
 
 -- a look: at the rule files, at the topology, at what the files come to over it, at the compiled
 -- files of the input, whether there is a store, at the whole store, whether what it keeps is what
--- was read, and whether what an operator says marks a suspect
+-- was read, whether what an operator says marks a suspect, and whether entries can be generated
+-- from the greatest moment on
 pub data Look : Type 0 where
   at_rules : Look
   at_topology : Look
@@ -65,6 +69,7 @@ pub data Look : Type 0 where
   at_store : Look
   at_same : Look
   at_marked : RepairAsked → Look
+  at_early : Look
 
 -- THE ORDER OF REFUSALS, one line a command
 abbrev pub looks : Command → List Look
@@ -76,6 +81,8 @@ looks (Esc form) = at_rules ∷ at_topology ∷ at_graphs ∷ []
 looks EscInput = at_files ∷ []
 looks (Admin asked) = at_store ∷ []
 looks (Repair asked) = at_store ∷ at_marked asked ∷ []
+looks (Generate number) = at_store ∷ at_early ∷ []
+looks (GeneratedLines number) = at_store ∷ at_early ∷ []
 
 -- how a look ends the command
 abbrev pub Finds : World → Look → Stop → Type 0
@@ -101,6 +108,8 @@ Finds w at_same stop =
     × ((told : Contents) → AreContents w told → KeepsOther told got)
 Finds w (at_marked asked) stop =
     (stop ≡ NotFaulty) × ((told : Contents) → AreContents w told → MarksNothing asked told)
+Finds w at_early stop =
+    (stop ≡ Full Numbers) × ((told : Contents) → AreContents w told → BeginsLate told)
 
 -- What stands where the command goes on. Where the input has more bytes than are taken, it is not
 -- looked at as files. Whether something is marked is looked at in the drained book, and a limit may
@@ -122,6 +131,7 @@ Passes w at_same =
     (got : Sources) × ReadsSources standing w.sources w.sources_now (Ok got)
     × ((told : Contents) → AreContents w told → KeepsAsRead told got)
 Passes w (at_marked asked) = Unit {0}
+Passes w at_early = (told : Contents) → AreContents w told → BeginsEarly told
 
 -- the first look that ends the command ends it so
 abbrev pub FirstFinds : World → List Look → Stop → Type 0

@@ -12,6 +12,7 @@ ghost use Rattle.fm_top.specs.Tasks.{TaskDoes, TaskRan};
 use crate::accept::accept_lines;
 use crate::admin::tell_text;
 use crate::fmd::diagnose_lines;
+use crate::generating::{generate_entries, list_entries};
 use crate::lent::Lent;
 use crate::repairing::repair_store;
 use crate::stops::Stop;
@@ -51,6 +52,10 @@ fn do_task<S: Source, K: Sink, D: Disk>(
         StoreTask::Fmd(got) => diagnose_lines(streams, got, store, hands, conf),
         StoreTask::Admin(asked) => tell_text(streams.alloc, asked, store, hands, conf),
         StoreTask::Repair(request) => repair_store(streams.alloc, request, store, hands, conf),
+        StoreTask::Generate(number) => {
+            generate_entries(streams.alloc, *number, store, hands, conf)
+        }
+        StoreTask::GeneratedLines(number) => list_entries(streams.alloc, *number, store, conf),
     }
 }
 

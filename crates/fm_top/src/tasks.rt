@@ -17,6 +17,10 @@ pub(crate) enum StoreTask {
     Admin(AdminCommand),
     /// It is drained, and takes what an operator says, where that marks a suspect.
     Repair(RepairRequest),
+    /// It takes the entries that this number generates, and is then concluded.
+    Generate(u64),
+    /// The lines of the entries that this number generates are told.
+    GeneratedLines(u64),
 }
 
 /// What is left to do once the disks are back.

@@ -4,7 +4,8 @@ ghost use Rattle.std.specs.Str.{bytes_eq};
 ghost use Rattle.uuid.specs.Text.{parsed};
 ghost use Rattle.fm_top.specs.Words.{TakesMemory, command_about, command_in, command_of};
 ghost use Rattle.fm_top.specs.Words.{command_with, dump_with, esc_with, fmadm_with, fmd_with};
-ghost use Rattle.fm_top.specs.Words.{path_of, repair_with, short_command};
+ghost use Rattle.fm_top.specs.Words.{generate_with, lines_with, path_of, repair_with};
+ghost use Rattle.fm_top.specs.Words.{short_command};
 
 use crate::request::RepairRequest;
 use fm_admin::Repair;
@@ -12,7 +13,7 @@ use fm_bytes::NoMemory;
 use fm_dump::{DumpFault, DumpOptions, read_options};
 use fm_esc::GraphForm;
 use fm_name::{Fmri, read_fmri};
-use fm_text::ArgText;
+use fm_text::{ArgText, read_number};
 use std::alloc::Global;
 use uuid::Uuid;
 
@@ -51,6 +52,11 @@ pub enum Command {
     /// The store is drained, and takes what an operator says of repairs, where that marks a
     /// suspect.
     Repair(RepairRequest),
+    /// The store takes the entries that this number generates, is drained and its base moved, what
+    /// is faulty is taken out of use, and the summary is put.
+    Generate(u64),
+    /// The lines of the entries that this number generates are put.
+    GeneratedLines(u64),
 }
 
 /// Whether the word is this text.
@@ -124,6 +130,16 @@ fn fmadm_with(second: &ArgText) -> Option<Command>
     }
 }
 
+/// The command `gen` with a number.
+fn generate_with(second: &ArgText) -> Option<Command>
+    ensures { result ≡ generate_with second.now }
+{
+    match read_number(second.get()) {
+        Some(number) => Some(Command::Generate(number)),
+        None => None,
+    }
+}
+
 /// The command of two words.
 #[tactic(auto, unfolding(crate::specs::Words::command_with))]
 fn command_with(word: &ArgText, second: &ArgText) -> Option<Command>
@@ -140,6 +156,8 @@ fn command_with(word: &ArgText, second: &ArgText) -> Option<Command>
         fmd_with(second)
     } else if is_word(word, "fmadm") {
         fmadm_with(second)
+    } else if is_word(word, "gen") {
+        generate_with(second)
     } else {
         None
     }
@@ -177,6 +195,19 @@ fn repair_with(alloc: Global, word: &ArgText, third: &ArgText) -> Result<Option<
     }
 }
 
+/// The command `gen` with an option and a number.
+fn lines_with(option: &ArgText, third: &ArgText) -> Option<Command>
+    ensures { result ≡ lines_with option.now third.now }
+{
+    if !is_word(option, "-l") {
+        return None;
+    }
+    match read_number(third.get()) {
+        Some(number) => Some(Command::GeneratedLines(number)),
+        None => None,
+    }
+}
+
 /// The command of three words at a moment.
 #[tactic(auto, using(crate::proofs::Namespaces::repair_takes), unfolding(crate::specs::Words::command_about))]
 fn command_about(
@@ -192,6 +223,9 @@ fn command_about(
     ensures wanted { IfErr result
         (λ _. TakesMemory (command_about word.now second.now third.now now)) }
 {
+    if is_word(word, "gen") {
+        return Ok(lines_with(second, third));
+    }
     if !is_word(word, "fmadm") {
         return Ok(None);
     }
