@@ -12,11 +12,11 @@ use fm_line::print_line;
 use std::alloc::Global;
 
 /// Appends the line of the entry, with its newline.
-fn put_line(alloc: Global, entry: &Entry, out: &mut Vec<u8>) -> Result<(), NoMemory>
-    requires { is_reload entry.now ≡ false }
-    ensures { OnOk result (out.new.items ≡ out.old.items ++ (line_text entry.now ++ codes "\n")) }
+fn put_line(alloc: Global, entry: Entry, out: &mut Vec<u8>) -> Result<(), NoMemory>
+    requires { is_reload entry ≡ false }
+    ensures { OnOk result (out.new.items ≡ out.old.items ++ (line_text entry ++ codes "\n")) }
 {
-    print_line(alloc, entry, out)?;
+    print_line(alloc, &entry, out)?;
     out.push(b'\n')?;
     Ok(())
 }
@@ -26,8 +26,10 @@ pub fn generated_lines(alloc: Global, mut entries: Gen) -> Result<Vec<u8>, NoMem
     ensures { IfOk result (λ text. text.items ≡ lines_text entries) }
 {
     let mut text = Vec::new(alloc);
-    'entries: while let Some(entry) = entries.next()? {
-        put_line(alloc, &entry, &mut text)?;
+    'entries: loop {
+        match entries.next()? {
+            Some(entry) => put_line(alloc, entry, &mut text)?,
+            None => return Ok(text),
+        }
     }
-    Ok(text)
 }

@@ -82,10 +82,12 @@ fn take_all<T: Taker>(alloc: Global, mut entries: Gen, taker: &mut T) -> Result<
     ensures ready { OnOk result (T.ready taker.new) }
     ensures same_taker { T.name taker.new ≡ T.name taker.old }
 {
-    'entries: while let Some(entry) = entries.next()? {
-        taker.take(alloc, entry)?;
+    'entries: loop {
+        match entries.next()? {
+            Some(entry) => taker.take(alloc, entry)?,
+            None => return Ok(()),
+        };
     }
-    Ok(())
 }
 
 /// Has an open store that has this configuration in force take what the number generates, and
