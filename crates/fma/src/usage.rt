@@ -52,6 +52,14 @@ const COMMANDS: [CommandHelp; 14] = [
         does: "tells what was said of cases, or with -e the reports since the last rotation",
     },
     CommandHelp {
+        words: "gen N",
+        does: "makes 1,200 reports and a tick of the number N, and does with them as fmd -1",
+    },
+    CommandHelp {
+        words: "gen -l N",
+        does: "writes the lines of these, and keeps nothing",
+    },
+    CommandHelp {
         words: "replay",
         does: "counts the reports of standard input by class, and keeps nothing",
     },
