@@ -219,7 +219,7 @@ module _ {D : Type 0} (g : Ghosts D) (first between new : StoreOf D DiagnoserOf)
       conclusion.wanted)
   drained_from conclusion done book disks_now are told one =
       let left_of : (image : Contents) → Leaves (disks_at g disks_now) image
-          → StoreIsLeft g new image =
+      → StoreIsLeft g new image =
       λ image leaves name.
       subst (λ (d : D). g.images d (content_named name image)) (sym (are name))
       (images_all g disks_now image leaves name) in record {
