@@ -1,12 +1,18 @@
 -- Entries that are taken one after another, of which the first are taken so far.
 use Rattle.std.proofs.Common.{◌≡◌, ◌∙◌, List, [], ◌∷◌, ◌++◌, Option, None, Some, refl, sym, ap}
 use Rattle.std.proofs.Common.{subst, append_assoc, append-nil}
+use Rattle.std.specs.Prelude.{option_to_list}
 use Rattle.fm_entry.specs.declared.entry.Entry.{Entry}
 use Rattle.fm_top.specs.Generate.{TakingStops, TookFirst, TookUntil}
 use Rattle.fm_top.specs.Refusing.{TakeStops}
 use Rattle.fm_top.specs.Running.{Taken}
 use Rattle.fm_top.specs.declared.stops.Stop.{Stop}
 use Rattle.fm_top.specs.declared.stops.Stop.TheVariants.{Disk, Memory, Full}
+
+-- one more was given
+pub given_one : (o : Option Entry) (entry : Entry) (left rest : List Entry) → o ≡ Some entry
+    → left ≡ option_to_list o ++ rest → left ≡ entry ∷ rest
+given_one o entry left rest is given = given ∙ ap (λ p. option_to_list p ++ rest) is
 
 module _ {T : Type 0} (went : T → T → List Entry → Option (Stop × Entry) → Type 0)
     (stays : (a : T) → went a a [] None)
