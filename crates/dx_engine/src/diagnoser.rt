@@ -5,7 +5,7 @@ ghost use Rattle.dx_meaning.specs.Fresh.{first_of, fresh_of};
 ghost use Rattle.dx_rules.specs.Rulebooks.{rules_in};
 ghost use Rattle.dx_standing.specs.Rows.{row_of};
 ghost use Rattle.dx_standing.specs.Standing.{state_of};
-ghost use Rattle.dx_state.specs.Configured.{found_at};
+ghost use Rattle.dx_state.specs.Configured.{configuration_at, found_at};
 ghost use Rattle.dx_step.specs.Lawful.{are_rules, is_there};
 ghost use Rattle.dx_engine.specs.Diagnosers.{guarded_rules, single_rules};
 
@@ -99,6 +99,14 @@ impl Diagnoser {
             ruled,
         };
         Diagnoser::with_rules(alloc, Rulebook { own, configs })
+    }
+
+    /// The graph of the configuration that it works under.
+    pub fn graph(&self) -> &Graph
+        ensures { result.now ≡ (configuration_at (rules_in self.now.rules)
+            (state_of self.now.standing).conf).graph }
+    {
+        self.rules.graph(self.standing.conf())
     }
 
     /// The open cases, in order of number.
