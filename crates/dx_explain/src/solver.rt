@@ -14,7 +14,9 @@ ghost use Rattle.dx_explain.specs.Explaining.{may_stay, set_of, FitsGraph, AreMe
 ghost use Rattle.dx_explain.specs.Explaining.{IsExplanation, IsExplanationList};
 
 use dx_sets::{Sets, begin, fill};
-use ev_graph::{CutList, Graph, Link, NoMemory, Node, contains, is_report_node, is_root_node};
+use ev_graph::{
+    CutList, CutTest, Graph, Link, NoMemory, Node, contains, is_report_node, is_root_node,
+};
 use std::alloc::Global;
 use std::marker::Model;
 
@@ -74,8 +76,39 @@ fn withhold(nodes: &[Node], root: u32, allowed: &[u32], sets: &mut Sets)
     }
 }
 
-/// Finds the greatest set within what may stay, in the graph less these links, in which each member
-/// but the root is produced and each shows enough.
+/// No links, as a test of which links are cut that looks nowhere.
+#[derive(Drop)]
+struct NoLinks<'a> {
+    less: &'a [Link],
+    ghost none: { less.now ≡ [] },
+}
+
+impl CutTest for NoLinks<'_> {
+    ghost is_cut = { λ cuts. is_cut cuts.less.now };
+
+    fn has(&self, instance: u32, effect: u32) -> bool {
+        let _ = (instance, effect);
+        false
+    }
+}
+
+/// Finds the greatest set within what may stay, in the graph less the links that are cut, in which
+/// each member but the root is produced and each shows enough.
+fn solve_by<C: CutTest>(graph: &Graph, cuts: &C, root: u32, allowed: &[u32], sets: &mut Sets)
+    requires ascend { ascends allowed.now ≡ true }
+    requires root { is_root_node graph.now.nodes root ≡ true }
+    requires room { FitsGraph graph.now sets.old }
+    ensures greatest { IsGreatestFit (without (wiring graph.now.instances) (C.is_cut cuts.now)) root
+        (may_stay graph.now.nodes root (is_member allowed.now)) (set_of sets.new) }
+    ensures room { FitsGraph graph.now sets.new }
+{
+    let table = graph.incidence();
+    fill(table, cuts, sets);
+    withhold(graph.nodes(), root, allowed, sets);
+    begin(table, cuts, root, sets);
+}
+
+/// The same in the graph less these links.
 fn solve(graph: &Graph, less: &[Link], root: u32, allowed: &[u32], sets: &mut Sets)
     requires links { AreLinks (wiring graph.now.instances) less.now }
     requires ascend { ascends allowed.now ≡ true }
@@ -85,11 +118,13 @@ fn solve(graph: &Graph, less: &[Link], root: u32, allowed: &[u32], sets: &mut Se
         (may_stay graph.now.nodes root (is_member allowed.now)) (set_of sets.new) }
     ensures room { FitsGraph graph.now sets.new }
 {
-    let table = graph.incidence();
-    let cuts = CutList { less };
-    fill(table, &cuts, sets);
-    withhold(graph.nodes(), root, allowed, sets);
-    begin(table, &cuts, root, sets);
+    if less.is_empty() {
+        let cuts = NoLinks { less };
+        solve_by(graph, &cuts, root, allowed, sets);
+    } else {
+        let cuts = CutList { less };
+        solve_by(graph, &cuts, root, allowed, sets);
+    }
 }
 
 fn has_all(sets: &Sets, seen: &[u32]) -> bool

@@ -125,3 +125,20 @@ impl CutTest for LocalCuts<'_> {
             .is_cut(self.table.effects(instance), instance, effect)
     }
 }
+
+/// The same where none is cut, as a test that looks nowhere.
+#[derive(Drop)]
+pub struct NoneCut<'a> {
+    pub table: &'a Incidence,
+    pub cuts: &'a Cuts,
+    ghost none: { (e : ℕ) → has_mark cuts.now.marks e ≡ false },
+}
+
+impl CutTest for NoneCut<'_> {
+    ghost is_cut = { λ c. cut_at c.table.now.effects c.cuts.now };
+
+    fn has(&self, instance: u32, effect: u32) -> bool {
+        let _ = (instance, effect);
+        false
+    }
+}

@@ -8,12 +8,12 @@ ghost use Rattle.ev_graph.specs.Table.{row_at, IsIncidence};
 ghost use Rattle.ev_graph.specs.Lawful.{links};
 ghost use Rattle.dx_sets.specs.Sets.{removed};
 ghost use Rattle.dx_sets.specs.Engine.{CutsOf, IsSteady, SettlesTo, cost};
-ghost use Rattle.dx_live.specs.Cuts.{mark_place, cut_at, AreAscending, AreCutsOf, CutIsMade};
+ghost use Rattle.dx_live.specs.Cuts.{mark_place, cut_at, AreCutsOf, CutIsMade};
 ghost use Rattle.dx_live.specs.Region.{IsLinkOf, IsNoLinkOf};
 ghost use Rattle.dx_live.specs.Live.{live_root, live_set, live_cost, IsLiveOf, IsLiveBest, no_cut};
 ghost use Rattle.dx_live.specs.Live.{all_allowed, all_but, cut_with, IsWhole, BestIsGreatest};
 
-use crate::cuts::{Cuts, LocalCuts};
+use crate::cuts::{Cuts, LocalCuts, NoneCut};
 use crate::region::{Region, place_among};
 use dx_sets::{Sets, Steps, begin, fill, lose_link, settle};
 use ev_graph::{CutTest, Graph, Incidence, Link, NoMemory};
@@ -64,10 +64,10 @@ fn number_of_root(nodes: &[u32], root: u32) -> u32
     }
 }
 
-/// The greatest set of the nodes of a part in which each member but the root is produced and each
-/// shows enough.
+/// The greatest set of the nodes of a part, of which no link is cut, in which each member but the
+/// root is produced and each shows enough.
 fn first_sets(alloc: Global, table: &Incidence, cuts: &Cuts, here: u32) -> Result<Sets, NoMemory>
-    requires ascending { AreAscending table.now.effects }
+    requires none { (e : ℕ) → has_mark cuts.now.marks e ≡ false }
     requires incidence { IsIncidence table.now }
     ensures steady { IfOk result
         (λ sets. IsSteady table.now (cut_at table.now.effects cuts.now) here sets) }
@@ -76,7 +76,7 @@ fn first_sets(alloc: Global, table: &Incidence, cuts: &Cuts, here: u32) -> Resul
         (λ sets. IsWhole table.now (cut_at table.now.effects cuts.now) here sets) }
 {
     let mut sets = Sets::new(alloc, table.nodes(), table.count())?;
-    let local = LocalCuts { table, cuts };
+    let local = NoneCut { table, cuts };
     fill(table, &local, &mut sets);
     begin(table, &local, here, &mut sets);
     Ok(sets)

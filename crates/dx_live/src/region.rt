@@ -1,7 +1,7 @@
 //! The part of a graph that one root reaches, with numbers of its own.
 
 ghost use Rattle.std.specs.Prelude.{◌≡◌, ◌<◌, ◌≤◌, ◌^◌, ℕ, true, map, length, slice_index, IfOk};
-ghost use Rattle.std.specs.Prelude.{◌==◌, ◌&&◌, IfSome, None, false, nat_lt};
+ghost use Rattle.std.specs.Prelude.{◌==◌, ◌&&◌, IfSome, None, OnOk, false, nat_lt};
 ghost use Rattle.ev_graph.specs.Sets.{is_member, ascends};
 ghost use Rattle.ev_graph.specs.Table.{IsIncidence, wiring_of};
 ghost use Rattle.dx_live.specs.Region.{IsLocalRow, AreLocalRows, IsLocalTable, IsRegionOf};
@@ -129,24 +129,24 @@ fn place_noted(noted: &[u32], nodes: &[u32], node: u32) -> Option<u32>
     }
 }
 
-/// The members that are among the nodes, by their places there.
+/// Leaves in the row just the members that are among the nodes, by their places there.
 fn local_row(
-    alloc: Global,
     noted: &[u32],
     nodes: &[u32],
     members: &[u32],
-) -> Result<Vec<u32>, NoMemory>
+    row: &mut Vec<u32>,
+) -> Result<(), NoMemory>
     requires { ArePlacesOf (length nodes.now) nodes.now noted.now }
-    ensures { IfOk result (λ row. IsLocalRow nodes.now members.now row.items) }
+    ensures { OnOk result (IsLocalRow nodes.now members.now row.new.items) }
 {
-    let mut row = Vec::new(alloc);
+    row.clear();
     for member in members {
         match place_noted(noted, nodes, *member) {
             Some(at) => row.push(at)?,
             None => {}
         }
     }
-    Ok(row)
+    Ok(())
 }
 
 fn local_causes(
@@ -161,8 +161,9 @@ fn local_causes(
         AreLocalRows (length places.now) table.now.causes nodes.now places.now rows) }
 {
     let mut rows = Rows::new(alloc)?;
+    let mut row = Vec::new(alloc);
     for place in places {
-        let row = local_row(alloc, noted, nodes, table.causes(*place))?;
+        local_row(noted, nodes, table.causes(*place), &mut row)?;
         rows.push(row.as_slice())?;
     }
     Ok(rows)
@@ -180,8 +181,9 @@ fn local_effects(
         AreLocalRows (length places.now) table.now.effects nodes.now places.now rows) }
 {
     let mut rows = Rows::new(alloc)?;
+    let mut row = Vec::new(alloc);
     for place in places {
-        let row = local_row(alloc, noted, nodes, table.effects(*place))?;
+        local_row(noted, nodes, table.effects(*place), &mut row)?;
         rows.push(row.as_slice())?;
     }
     Ok(rows)

@@ -16,6 +16,7 @@ use Rattle.dx_sets.specs.Fit.{IsFit, IsGreatestFit}
 use Rattle.dx_sets.specs.Sets.{SetsValue, weight, sum_below}
 use Rattle.dx_sets.specs.Engine.{CutsOf, uncut, wiring_cut, AreSized, AreExact}
 use Rattle.dx_sets.specs.Engine.{KeepsFit, HaveCounts, AreFilled, is_giver, IsSteady}
+use Rattle.dx_sets.specs.Engine.{has_enough, HaveEnough}
 use Rattle.dx_sets.proofs.Sums.{sum_below_same, sum_below_change, positive_term}
 use Rattle.dx_sets.proofs.Leaving.{marked_below}
 
@@ -108,6 +109,23 @@ all_count X (x ∷ xs) h =
       cond-true {A = ℕ} (X x) 1 0 (h x (or_left (eqb x x) (is_member xs x) (eq-eqb x x refl))),
     )
 
+-- two tests that agree on the members of a list count the same of it
+same_count : (p q : ℕ → Bool) (xs : List ℕ) → ((x : ℕ) → is_member xs x ≡ true → p x ≡ q x)
+    → count_by p xs ≡ count_by q xs
+same_count p q [] h = refl
+same_count p q (x ∷ xs) h =
+    omega (
+      arith,
+      sum_by-cons (λ y. cond (p y) 1 0) x xs,
+      sum_by-cons (λ y. cond (q y) 1 0) x xs,
+      same_count p q xs (λ y i. h y (or_right (eqb x y) (is_member xs y) i)),
+      ap {B = ℕ} (λ (b : Bool). cond b 1 0) (h x (or_left (eqb x x) (is_member xs x) (eq-eqb x x refl))),
+    )
+
+and_true : (a b : Bool) → b ≡ true → a ≡ (a && b)
+and_true true b t = sym t
+and_true false b t = refl
+
 both : (a b c2 : Bool) (m n : ℕ) → c2 ≡ b → n ≡ cond a m 0 → cond (a && b) m 0 ≡ cond c2 n 0
 both true true c2 m n e2 f = rw e2 (sym f)
 both true false c2 m n e2 f = rw e2 refl
@@ -125,6 +143,17 @@ module _ (v : IncidenceValue) (cut : CutsOf) (inc : IsIncidence v) where
         row_in_range v.gets x j (in_transposed v.effects v.gets x j inc.gets_is h),
         inc.nodes_count,
       )
+
+  -- where each instance has K causes, those that give a node are those by links that are not cut
+  pub all_give : (e : ℕ) → HaveEnough v (length v.causes)
+      → count_by (λ j. not (cut j e)) (row_at v.gets e)
+      ≡ count_by (is_giver v cut e) (row_at v.gets e)
+  all_give e h = same_count (λ j. not (cut j e)) (is_giver v cut e) (row_at v.gets e)
+      (λ j i. and_true (not (cut j e)) (has_enough v j) (h.each j (omega (
+        arith,
+        row_in_range v.effects j e (transposed_in v.effects v.gets e j inc.gets_is i),
+        inc.effects_count,
+      ))))
 
   -- the counters of a full set are right
   pub filled_exact : (s : SetsValue) → AreSized v s → AreFilled v s

@@ -145,9 +145,16 @@ pub record IsSteady (v : IncidenceValue) (cut : CutsOf) (root : ℕ) (s : SetsVa
   pub given : AreGiven root s
   pub met : AreMet v s
 
+-- the instance j has K causes; each of the first n instances has
+abbrev pub has_enough : IncidenceValue → ℕ → Bool
+has_enough v j = nat_le (slice_index v.k j) (length (row_at v.causes j))
+
+pub record HaveEnough (v : IncidenceValue) (n : ℕ) : Type 0 where
+  pub each : (j : ℕ) → j < n → has_enough v j ≡ true
+
 -- the instance j gives e at the beginning, when all causes are there
 abbrev pub is_giver : IncidenceValue → CutsOf → ℕ → ℕ → Bool
-is_giver v cut e j = not (cut j e) && nat_le (slice_index v.k j) (length (row_at v.causes j))
+is_giver v cut e j = not (cut j e) && has_enough v j
 
 -- the first instances have their counts of all causes and of all effects that are not cut
 pub record HaveCounts (v : IncidenceValue) (cut : CutsOf) (n : ℕ) (s : SetsValue) : Type 0 where

@@ -1,10 +1,12 @@
 //! The beginning: all nodes are in the set, and then those leave that nothing gives or that don't
 //! show enough.
 
-ghost use Rattle.std.specs.Prelude.{◌≡◌, ◌<◌, [], length};
+ghost use Rattle.std.specs.Prelude.{◌≡◌, ◌<◌, [], length, not};
+ghost use Rattle.std.specs.Bool.{OnTrue};
 ghost use Rattle.std.specs.List.{count_by};
 ghost use Rattle.ev_graph.specs.Table.{row_at, IsIncidence};
 ghost use Rattle.dx_sets.specs.Engine.{uncut, AreSized, AreExact, AreGiven, IsOnWay, IsSteady};
+ghost use Rattle.dx_sets.specs.Engine.{has_enough, HaveEnough};
 ghost use Rattle.dx_sets.specs.Engine.{SettlesTo, is_giver, AreFilled, HaveCounts, is_ungiven};
 
 use crate::engine::{remove_causes_of, settle};
@@ -25,17 +27,54 @@ fn count_uncut<C: CutTest>(table: &Incidence, cuts: &C, place: u32) -> u32
         .count() as u32
 }
 
+/// Whether the instance has K causes.
+fn has_enough(table: &Incidence, place: u32) -> bool
+    ensures { result ≡ has_enough table.now place }
+{
+    table.k(place) as usize <= table.causes(place).len()
+}
+
+/// Whether each instance has K causes.
+fn all_have_enough(table: &Incidence) -> bool
+    ensures { OnTrue result (HaveEnough table.now (length table.now.causes)) }
+{
+    let count = table.count() as u32;
+    for place in 0..count {
+        if !has_enough(table, place) {
+            return false;
+        }
+    }
+    true
+}
+
 /// Whether the instance gives the node at the beginning.
 fn is_giver<C: CutTest>(table: &Incidence, cuts: &C, node: u32, place: u32) -> bool
     ensures { result ≡ is_giver table.now (C.is_cut cuts.now) node place }
 {
-    !cuts.has(place, node) && table.k(place) as usize <= table.causes(place).len()
+    !cuts.has(place, node) && has_enough(table, place)
 }
 
-fn count_givers<C: CutTest>(table: &Incidence, cuts: &C, node: u32) -> u32
+/// How many instances have the node as an effect by a link that is not cut.
+fn count_uncut_gets<C: CutTest>(table: &Incidence, cuts: &C, node: u32) -> u32
+    ensures { result ≡ count_by (λ j. not (C.is_cut cuts.now j node)) (row_at table.now.gets node) }
+{
+    let places = table.gets(node);
+    places
+        .iter()
+        .filter(|place| !cuts.has(**place, node))
+        .count() as u32
+}
+
+/// How many instances give the node at the beginning; where all have K causes, none is asked again.
+fn count_givers<C: CutTest>(table: &Incidence, cuts: &C, all: bool, node: u32) -> u32
+    requires incidence { IsIncidence table.now }
+    requires all { OnTrue all (HaveEnough table.now (length table.now.causes)) }
     ensures { result ≡ count_by (is_giver table.now (C.is_cut cuts.now) node)
         (row_at table.now.gets node) }
 {
+    if all {
+        return count_uncut_gets(table, cuts, node);
+    }
     let places = table.gets(node);
     places
         .iter()
@@ -69,9 +108,10 @@ pub fn fill<C: CutTest>(table: &Incidence, cuts: &C, sets: &mut Sets)
 {
     sets.mark_all();
     fill_instances(table, cuts, sets);
+    let all = all_have_enough(table);
     let count = table.nodes() as u32;
     for node in 0..count {
-        sets.set_support(node, count_givers(table, cuts, node));
+        sets.set_support(node, count_givers(table, cuts, all, node));
     }
 }
 

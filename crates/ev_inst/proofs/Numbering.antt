@@ -13,7 +13,7 @@ use Rattle.std.specs.Cmp.{tied_itself}
 use Rattle.std.proofs.lemmas.Bool.{cases_Bool, eq-eqb, eqb-true, false≢true, and_parts}
 use Rattle.std.proofs.lemmas.Bool.Decides.{nat_tests}
 use Rattle.std.proofs.lemmas.List.Folds.{list_any_more, list_any-append}
-use Rattle.std.proofs.lemmas.Option.{get_or_from_slice_get}
+use Rattle.std.proofs.lemmas.Option.{get_or_from_slice_get, slice_get-get_or}
 use Rattle.fm_bytes.proofs.Booleans.{and_true}
 use Rattle.fm_name.specs.Path.{names_of}
 use Rattle.fm_name.specs.Events.{event_cmp, event_cmp_total}
@@ -286,6 +286,16 @@ pub named_at : (nodes : List Node) (at : ℕ) (name : EventName)
 named_at [] at name h = none_is_not name h
 named_at (node ∷ nodes) zero name h = h
 named_at (node ∷ nodes) (suc at) name h = named_at nodes at name h
+
+-- the node of a place is the event of its class at its path
+pub event_at : (nodes : List Node) (at : ℕ) (other : Node) (class path : List ℕ)
+    → at < length nodes → (get_or nodes at other).name.class ≡ class
+    → (get_or nodes at other).name.path ≡ path
+    → slice_get (map node_name nodes) at ≡ Some (record { class = class; path = path })
+event_at nodes at other class path h c d =
+    named_at nodes at (record { class = class; path = path })
+    (ap name_in (slice_get-get_or nodes at other h)
+    ∙ ap Some (λ i. record { class = c i; path = d i }))
 
 pub name_there : (nodes : List Node) (at : ℕ) (name : EventName)
     → slice_get (map node_name nodes) at ≡ Some name → name_in (slice_get nodes at) ≡ Some name

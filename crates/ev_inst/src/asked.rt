@@ -13,6 +13,7 @@ ghost use Rattle.ev_inst.specs.Guarding as guarding;
 ghost use Rattle.ev_inst.specs.Outcomes.{is_event_of};
 
 use crate::guards::Question;
+use crate::index::NodeIndex;
 use crate::numbers::{add_numbers, set_of};
 use ev_events::{Binding, asks_payload, condition_names, places_of};
 use ev_graph::{Node, contains};
@@ -79,18 +80,18 @@ fn ask(
 fn pattern_events(
     alloc: Global,
     binding: &Binding,
-    nodes: &[Node],
+    index: &NodeIndex,
     pattern: &SidePattern,
     table: &Table,
 ) -> Result<Vec<u32>, NoMemory>
-    requires { IsSideReady binding.now.topo.now nodes.now binding.now.names.now
+    requires { IsSideReady binding.now.topo.now index.now.nodes.now binding.now.names.now
         binding.now.instances.now (view_pattern pattern.now ∷ []) (table.now ∷ []) }
-    ensures { IfOk result (λ found. AreEventsOf binding.now.topo.now nodes.now
+    ensures { IfOk result (λ found. AreEventsOf binding.now.topo.now index.now.nodes.now
         binding.now.names.now binding.now.instances.now (view_pattern pattern.now) found.items) }
 {
     let places = places_of(alloc, binding, pattern, table)?;
     let mut numbers = Vec::new(alloc);
-    add_numbers(binding.topo, nodes, &pattern.class, &places, &mut numbers)?;
+    add_numbers(binding.topo, index, &pattern.class, &places, &mut numbers)?;
     Ok(set_of(numbers))
 }
 
@@ -99,13 +100,13 @@ fn pattern_events(
 pub(crate) fn events_of_each(
     alloc: Global,
     binding: &Binding,
-    nodes: &[Node],
+    index: &NodeIndex,
     patterns: &[SidePattern],
     tables: &[Table],
 ) -> Result<Vec<Items<u32>>, NoMemory>
-    requires { IsSideReady binding.now.topo.now nodes.now binding.now.names.now
+    requires { IsSideReady binding.now.topo.now index.now.nodes.now binding.now.names.now
         binding.now.instances.now (map view_pattern patterns.now) tables.now }
-    ensures { IfOk result (λ given. AreEventsOfAll binding.now.topo.now nodes.now
+    ensures { IfOk result (λ given. AreEventsOfAll binding.now.topo.now index.now.nodes.now
         binding.now.names.now binding.now.instances.now (map view_pattern patterns.now)
         given.items) }
 {
@@ -114,7 +115,7 @@ pub(crate) fn events_of_each(
         if at >= tables.len() {
             unreachable!()
         }
-        let numbers = pattern_events(alloc, binding, nodes, &patterns[at], &tables[at])?;
+        let numbers = pattern_events(alloc, binding, index, &patterns[at], &tables[at])?;
         given.push(Items::new(numbers))?;
     }
     Ok(given)

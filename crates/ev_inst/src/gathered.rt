@@ -11,6 +11,7 @@ ghost use Rattle.ev_inst.specs.Gathering.{AddsCandidates, AddsOutcome, ArePropsK
 ghost use Rattle.ev_inst.specs.Gathering.{AreOrderedNodes, IsGathered, IsReady};
 ghost use Rattle.ev_inst.specs.Instances.{HaveMoreLinks};
 
+use crate::index::{NodeIndex, first_nodes};
 use crate::outcomes::{Outcome, outcome_of};
 use ev_check::PropSpec;
 use ev_events::Binding;
@@ -53,17 +54,17 @@ fn add_outcome(gathered: &mut Gathered, outcome: Outcome) -> Result<(), NoMemory
 fn add_candidates(
     alloc: Global,
     topo: &Topo,
-    nodes: &[Node],
+    index: &NodeIndex,
     prop: &PropSpec,
     candidates: &Candidates,
     gathered: &mut Gathered,
 ) -> Result<(), NoMemory>
-    requires ready { IsReady topo.now nodes.now (view_prop prop.now)
+    requires ready { IsReady topo.now index.now.nodes.now (view_prop prop.now)
         candidates.now.tables.items }
     requires names { candidates.now.names ≡ iterators (view_prop prop.now) }
     requires full { (i : ℕ) (b : List ℕ) → slice_get candidates.now.bindings i ≡ Some b
         → length b ≡ length (iterators (view_prop prop.now)) }
-    ensures { OnOk result (AddsCandidates topo.now nodes.now (view_prop prop.now)
+    ensures { OnOk result (AddsCandidates topo.now index.now.nodes.now (view_prop prop.now)
         candidates.now.bindings gathered.old gathered.new) }
 {
     let bindings = candidates.bindings.as_slice();
@@ -73,7 +74,7 @@ fn add_candidates(
             names: &candidates.names,
             instances: bindings[at].as_slice(),
         };
-        let outcome = outcome_of(alloc, &binding, nodes, prop, &candidates.tables)?;
+        let outcome = outcome_of(alloc, &binding, index, prop, &candidates.tables)?;
         add_outcome(gathered, outcome)?;
     }
     Ok(())
@@ -99,6 +100,11 @@ pub(crate) fn gather_all(
         instances: Vec::new(alloc),
         skipped: 0,
     };
+    let firsts = first_nodes(alloc, topo, nodes)?;
+    let index = NodeIndex {
+        nodes,
+        firsts: &firsts,
+    };
     let mut left = MOST_LINKS;
     'props: for at in 0..props.len() {
         let prop = &props[at];
@@ -107,7 +113,7 @@ pub(crate) fn gather_all(
             Err(fault) => return Err(fault),
         };
         left = candidates.left;
-        add_candidates(alloc, topo, nodes, prop, &candidates, &mut gathered)?;
+        add_candidates(alloc, topo, &index, prop, &candidates, &mut gathered)?;
     }
     Ok(gathered)
 }

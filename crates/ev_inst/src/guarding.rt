@@ -16,6 +16,7 @@ ghost use Rattle.ev_inst.specs.Outcomes.{instance_of};
 
 use crate::asked::{any_asks, events_of_each, questions_of};
 use crate::guards::{Guard, GuardedNode, Guards};
+use crate::index::{NodeIndex, first_nodes};
 use crate::outcomes::{Outcome, outcome_of};
 use ev_check::{Checked, PropSpec};
 use ev_events::Binding;
@@ -134,19 +135,20 @@ fn count_instance(all: &mut AllGuards) -> Result<(), NoMemory>
 fn add_instance(
     alloc: Global,
     binding: &Binding,
-    nodes: &[Node],
+    index: &NodeIndex,
     prop: &PropSpec,
     tables: &[Table],
     effects: &[u32],
     all: &mut AllGuards,
 ) -> Result<(), NoMemory>
-    requires ready { IsReady binding.now.topo.now nodes.now (view_prop prop.now) tables.now }
+    requires ready { IsReady binding.now.topo.now index.now.nodes.now (view_prop prop.now)
+        tables.now }
     requires names { binding.now.names.now ≡ iterators (view_prop prop.now) }
     requires full { length binding.now.instances.now ≡ length binding.now.names.now }
-    requires effects { effects.now ≡ (instance_of binding.now.topo.now nodes.now
+    requires effects { effects.now ≡ (instance_of binding.now.topo.now index.now.nodes.now
         (view_prop prop.now) binding.now.instances.now).effects }
-    requires long { length all.old.nodes.items ≡ length nodes.now }
-    ensures { OnOk result (AddsDerivations binding.now.topo.now nodes.now
+    requires long { length all.old.nodes.items ≡ length index.now.nodes.now }
+    ensures { OnOk result (AddsDerivations binding.now.topo.now index.now.nodes.now
         (derivation (view_prop prop.now) binding.now.instances.now ∷ []) all.old all.new) }
 {
     let left = prop.left.as_slice();
@@ -156,10 +158,10 @@ fn add_instance(
         return Ok(());
     }
     let (_, others) = tables.split_at(left.len());
-    let given = events_of_each(alloc, binding, nodes, right, others)?;
+    let given = events_of_each(alloc, binding, index, right, others)?;
     let side = RightSide {
         binding,
-        nodes,
+        nodes: index.nodes,
         patterns: right,
         given: &given,
         instance: all.count,
@@ -173,23 +175,24 @@ fn add_instance(
 fn add_candidate(
     alloc: Global,
     binding: &Binding,
-    nodes: &[Node],
+    index: &NodeIndex,
     prop: &PropSpec,
     tables: &[Table],
     all: &mut AllGuards,
 ) -> Result<(), NoMemory>
-    requires ready { IsReady binding.now.topo.now nodes.now (view_prop prop.now) tables.now }
+    requires ready { IsReady binding.now.topo.now index.now.nodes.now (view_prop prop.now)
+        tables.now }
     requires names { binding.now.names.now ≡ iterators (view_prop prop.now) }
     requires full { length binding.now.instances.now ≡ length binding.now.names.now }
-    requires long { length all.old.nodes.items ≡ length nodes.now }
-    ensures { OnOk result (AddsDerivations binding.now.topo.now nodes.now
-        (made_of binding.now.topo.now nodes.now (view_prop prop.now)
+    requires long { length all.old.nodes.items ≡ length index.now.nodes.now }
+    ensures { OnOk result (AddsDerivations binding.now.topo.now index.now.nodes.now
+        (made_of binding.now.topo.now index.now.nodes.now (view_prop prop.now)
         (binding.now.instances.now ∷ [])) all.old all.new) }
 {
-    match outcome_of(alloc, binding, nodes, prop, tables)? {
+    match outcome_of(alloc, binding, index, prop, tables)? {
         Outcome::Made(made) => {
             let effects = made.effects.as_slice();
-            add_instance(alloc, binding, nodes, prop, tables, effects, all)
+            add_instance(alloc, binding, index, prop, tables, effects, all)
         }
         Outcome::Dropped => Ok(()),
         Outcome::Skipped => Ok(()),
@@ -200,19 +203,20 @@ fn add_candidate(
 fn add_prop(
     alloc: Global,
     topo: &Topo,
-    nodes: &[Node],
+    index: &NodeIndex,
     prop: &PropSpec,
     candidates: &Candidates,
     all: &mut AllGuards,
 ) -> Result<(), NoMemory>
-    requires ready { IsReady topo.now nodes.now (view_prop prop.now)
+    requires ready { IsReady topo.now index.now.nodes.now (view_prop prop.now)
         candidates.now.tables.items }
     requires names { candidates.now.names ≡ iterators (view_prop prop.now) }
     requires full { (i : ℕ) (b : List ℕ) → slice_get candidates.now.bindings i ≡ Some b
         → length b ≡ length (iterators (view_prop prop.now)) }
-    requires long { length all.old.nodes.items ≡ length nodes.now }
-    ensures { OnOk result (AddsDerivations topo.now nodes.now (made_of topo.now nodes.now
-        (view_prop prop.now) candidates.now.bindings) all.old all.new) }
+    requires long { length all.old.nodes.items ≡ length index.now.nodes.now }
+    ensures { OnOk result (AddsDerivations topo.now index.now.nodes.now
+        (made_of topo.now index.now.nodes.now (view_prop prop.now) candidates.now.bindings)
+        all.old all.new) }
 {
     let bindings = candidates.bindings.as_slice();
     'bindings: for at in 0..bindings.len() {
@@ -221,7 +225,7 @@ fn add_prop(
             names: &candidates.names,
             instances: bindings[at].as_slice(),
         };
-        add_candidate(alloc, &binding, nodes, prop, &candidates.tables, all)?;
+        add_candidate(alloc, &binding, index, prop, &candidates.tables, all)?;
     }
     Ok(())
 }
@@ -245,13 +249,18 @@ fn guards_of_all(
         nodes: nodes_bare,
         count: 0,
     };
+    let firsts = first_nodes(alloc, topo, nodes)?;
+    let index = NodeIndex {
+        nodes,
+        firsts: &firsts,
+    };
     'props: for at in 0..props.len() {
         let prop = &props[at];
         let candidates = match candidates_of(alloc, topo, groups, prop, u64::MAX) {
             Ok(candidates) => candidates,
             Err(_) => return Err(NoMemory),
         };
-        add_prop(alloc, topo, nodes, prop, &candidates, &mut all)?;
+        add_prop(alloc, topo, &index, prop, &candidates, &mut all)?;
     }
     Ok(all)
 }

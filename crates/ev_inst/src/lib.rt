@@ -24,6 +24,7 @@ mod few;
 mod gathered;
 mod guarding;
 mod guards;
+mod index;
 mod making;
 mod numbers;
 mod outcomes;

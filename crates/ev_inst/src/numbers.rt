@@ -1,7 +1,7 @@
 //! The numbers of the nodes that patterns give.
 
-ghost use Rattle.std.specs.Prelude.{◌≡◌, ◌+◌, ◌≤◌, ◌||◌, ℕ, Some, length, map, slice_get, true};
-ghost use Rattle.std.specs.Prelude.{false, not, ◌&&◌, ◌==◌, IfOk, MatchOption, OnOk};
+ghost use Rattle.std.specs.Prelude.{◌≡◌, ◌+◌, ◌≤◌, ◌<◌, ◌||◌, ℕ, Some, length, map, slice_get};
+ghost use Rattle.std.specs.Prelude.{true, false, not, ◌&&◌, ◌==◌, IfOk, IfSome, MatchOption, OnOk};
 ghost use Rattle.ev_join.specs.Tables.{RisesFrom};
 ghost use Rattle.ev_graph.specs.Lawful.{is_before_node};
 ghost use Rattle.std.specs.List.{list_any};
@@ -13,6 +13,7 @@ ghost use Rattle.ev_inst.specs.Gathering.{AreEventNumbers, AreOnPaths, AreOrdere
 ghost use Rattle.ev_inst.specs.Gathering.{IsSideReady, is_node_on, fitting_links};
 ghost use Rattle.ev_inst.specs.Outcomes as outcomes;
 
+use crate::index::{NodeIndex, first_at};
 use ev_events::{Binding, places_of};
 use ev_graph::Node;
 use ev_join::Table;
@@ -37,8 +38,26 @@ fn find_node(nodes: &[Node], class: &Class, path: &Fmri) -> Option<usize>
     }
 }
 
-/// The number of the node of a class at a path, which is there.
-pub(crate) fn node_number(nodes: &[Node], class: &Class, path: &Fmri) -> u32
+/// The place of the node of a class at a path, sought from a place on while the path is that one.
+fn find_from(nodes: &[Node], from: usize, class: &Class, path: &Fmri) -> Option<usize>
+    ensures bound { IfSome result (λ at. at < length nodes.now) }
+    ensures event { IfSome result (λ at. slice_get (map node_name nodes.now) at
+        ≡ Some (record { class = class.now; path = path.now })) }
+{
+    for at in from..nodes.len() {
+        let name = &nodes[at].name;
+        if name.path != *path {
+            return None;
+        }
+        if name.class == *class {
+            return Some(at);
+        }
+    }
+    None
+}
+
+/// The number of the node of a class at a path, which is there. It is sought at a place first.
+pub(crate) fn node_number(nodes: &[Node], first: usize, class: &Class, path: &Fmri) -> u32
     requires order { ascends_by is_before_node nodes.now ≡ true }
     requires few { length nodes.now ≤ 65536 }
     requires there { IsAmongNames (map node_name nodes.now)
@@ -46,6 +65,9 @@ pub(crate) fn node_number(nodes: &[Node], class: &Class, path: &Fmri) -> u32
     ensures { slice_get (map node_name nodes.now) result
         ≡ Some (record { class = class.now; path = path.now }) }
 {
+    if let Some(at) = find_from(nodes, first, class, path) {
+        return at as u32;
+    }
     let Some(at) = find_node(nodes, class, path) else {
         unreachable!()
     };
@@ -55,20 +77,22 @@ pub(crate) fn node_number(nodes: &[Node], class: &Class, path: &Fmri) -> u32
 /// Adds the numbers of the nodes of a class at the paths of these numbers.
 pub(crate) fn add_numbers(
     topo: &Topo,
-    nodes: &[Node],
+    index: &NodeIndex,
     class: &Class,
     ats: &[u32],
     found: &mut Vec<u32>,
 ) -> Result<(), NoMemory>
-    requires order { AreOrderedNodes topo.now nodes.now }
-    requires there { AreOnPaths topo.now nodes.now class.now ats.now }
+    requires order { AreOrderedNodes topo.now index.now.nodes.now }
+    requires there { AreOnPaths topo.now index.now.nodes.now class.now ats.now }
     ensures members { OnOk result ((n : ℕ) → is_member found.new.items n
-        ≡ (is_member found.old.items n || is_node_on topo.now nodes.now class.now ats.now n)) }
+        ≡ (is_member found.old.items n
+        || is_node_on topo.now index.now.nodes.now class.now ats.now n)) }
     ensures count { OnOk result (length found.new.items ≡ length found.old.items
         + length ats.now) }
 {
     'ats: for at in ats {
-        found.push(node_number(nodes, class, topo.path(*at as usize)))?;
+        let first = first_at(index, *at);
+        found.push(node_number(index.nodes, first, class, topo.path(*at as usize)))?;
     }
     Ok(())
 }
@@ -110,18 +134,18 @@ pub(crate) fn set_of(numbers: Vec<u32>) -> Vec<u32>
 fn gather(
     alloc: Global,
     binding: &Binding,
-    nodes: &[Node],
+    index: &NodeIndex,
     patterns: &[SidePattern],
     tables: &[Table],
 ) -> Result<Option<Vec<u32>>, NoMemory>
-    requires { IsSideReady binding.now.topo.now nodes.now binding.now.names.now
+    requires { IsSideReady binding.now.topo.now index.now.nodes.now binding.now.names.now
         binding.now.instances.now (map view_pattern patterns.now) tables.now }
     ensures { IfOk result (λ found. MatchOption found
         (list_any (outcomes.is_bare binding.now.topo.now binding.now.names.now
         binding.now.instances.now) (map view_pattern patterns.now) ≡ true)
         (λ numbers. (list_any (outcomes.is_bare binding.now.topo.now binding.now.names.now
         binding.now.instances.now) (map view_pattern patterns.now) ≡ false)
-        × AreEventNumbers binding.now.topo.now nodes.now binding.now.names.now
+        × AreEventNumbers binding.now.topo.now index.now.nodes.now binding.now.names.now
         binding.now.instances.now (map view_pattern patterns.now) numbers.items)) }
 {
     let mut found = Vec::new(alloc);
@@ -134,7 +158,7 @@ fn gather(
         if is_bare(pattern, &places) {
             return Ok(None);
         }
-        add_numbers(binding.topo, nodes, &pattern.class, &places, &mut found)?;
+        add_numbers(binding.topo, index, &pattern.class, &places, &mut found)?;
     }
     Ok(Some(found))
 }
@@ -144,23 +168,23 @@ fn gather(
 pub(crate) fn side_events(
     alloc: Global,
     binding: &Binding,
-    nodes: &[Node],
+    index: &NodeIndex,
     patterns: &[SidePattern],
     tables: &[Table],
 ) -> Result<Option<Vec<u32>>, NoMemory>
-    requires { IsSideReady binding.now.topo.now nodes.now binding.now.names.now
+    requires { IsSideReady binding.now.topo.now index.now.nodes.now binding.now.names.now
         binding.now.instances.now (map view_pattern patterns.now) tables.now }
     ensures { IfOk result (λ found. MatchOption found
         (list_any (outcomes.is_bare binding.now.topo.now binding.now.names.now
         binding.now.instances.now) (map view_pattern patterns.now) ≡ true)
         (λ numbers. (list_any (outcomes.is_bare binding.now.topo.now binding.now.names.now
         binding.now.instances.now) (map view_pattern patterns.now) ≡ false)
-        × ((numbers.items ≡ outcomes.events_of binding.now.topo.now nodes.now
+        × ((numbers.items ≡ outcomes.events_of binding.now.topo.now index.now.nodes.now
         binding.now.names.now binding.now.instances.now (map view_pattern patterns.now))
         × (length numbers.items ≤ fitting_links binding.now.topo.now binding.now.names.now
         binding.now.instances.now (map view_pattern patterns.now))))) }
 {
-    match gather(alloc, binding, nodes, patterns, tables)? {
+    match gather(alloc, binding, index, patterns, tables)? {
         Some(numbers) => Ok(Some(set_of(numbers))),
         None => Ok(None),
     }

@@ -8,6 +8,7 @@ ghost use Rattle.ev_fit.specs.Bindings.{candidate_links};
 ghost use Rattle.ev_inst.specs.Gathering.{IsOutcome, IsReady, outcome_links};
 ghost use Rattle.ev_inst.specs.Outcomes as made;
 
+use crate::index::NodeIndex;
 use crate::numbers::side_events;
 use ev_check::PropSpec;
 use ev_events::Binding;
@@ -72,25 +73,26 @@ fn complete(causes: Vec<u32>, effects: Vec<u32>, n: Count, k: Count) -> Option<I
 pub(crate) fn outcome_of(
     alloc: Global,
     binding: &Binding,
-    nodes: &[Node],
+    index: &NodeIndex,
     prop: &PropSpec,
     tables: &[Table],
 ) -> Result<Outcome, NoMemory>
-    requires ready { IsReady binding.now.topo.now nodes.now (view_prop prop.now) tables.now }
+    requires ready { IsReady binding.now.topo.now index.now.nodes.now (view_prop prop.now)
+        tables.now }
     requires names { binding.now.names.now ≡ iterators (view_prop prop.now) }
     requires full { length binding.now.instances.now ≡ length binding.now.names.now }
-    ensures outcome { IfOk result (IsOutcome binding.now.topo.now nodes.now (view_prop prop.now)
-        binding.now.instances.now) }
+    ensures outcome { IfOk result (IsOutcome binding.now.topo.now index.now.nodes.now
+        (view_prop prop.now) binding.now.instances.now) }
     ensures few { IfOk result (λ outcome. outcome_links outcome
         ≤ candidate_links binding.now.topo.now (view_prop prop.now) binding.now.instances.now) }
 {
     let left = prop.left.as_slice();
     let right = prop.right.as_slice();
     let (own, others) = tables.split_at(left.len());
-    let Some(causes) = side_events(alloc, binding, nodes, left, own)? else {
+    let Some(causes) = side_events(alloc, binding, index, left, own)? else {
         return Ok(Outcome::Dropped);
     };
-    let Some(effects) = side_events(alloc, binding, nodes, right, others)? else {
+    let Some(effects) = side_events(alloc, binding, index, right, others)? else {
         return Ok(Outcome::Dropped);
     };
     match complete(causes, effects, prop.n, prop.k) {

@@ -1,8 +1,11 @@
 -- Rows that stand in any order, and the map of their places.
 use Rattle.std.proofs.Common.{◌≡◌, ◌⊎◌, inl, inr, ◌<◌, ℕ, zero, suc, Bool, true, false, cond}
 use Rattle.std.proofs.Common.{List, [], ◌∷◌, ◌++◌, length, map, refl, sym, ap, ◌∙◌, subst}
-use Rattle.std.proofs.Common.{Option, Some, None, slice_get, append_assoc}
-use Rattle.std.specs.Prelude.{flat_map}
+use Rattle.std.proofs.Common.{Option, Some, None, slice_get}
+use Rattle.std.specs.Prelude.{flat_map, nat_eq}
+use Rattle.std.specs.Cmp.Lexicographic.{pointwise}
+use Rattle.std.proofs.lemmas.List.Sums.{fold-append}
+use Rattle.indexmap.specs.IndexSet.{insert_all, insert_key}
 use Rattle.std.proofs.Math.ListN.{set}
 use Rattle.std.proofs.lemmas.Option.{slice_get_within}
 use Rattle.std.specs.Option.{unwrap_or}
@@ -443,18 +446,22 @@ none_more found all rows left ps p h e f =
     ap (λ z. found ++ z) (sym (rows_next rows left ps p None e f)) ∙ h
 
 -- the same of the paths that rows want
-pub paths_more : (paths new all : List (List ℕ)) (r : ListEvent) (rows : List ListEvent)
-    (left ps : List ℕ) (p : ℕ) → new ≡ paths ++ row_paths r
-    → paths ++ flat_map row_paths (placed_rows rows left) ≡ all → left ≡ p ∷ ps
-    → Some r ≡ slice_get rows p → new ++ flat_map row_paths (placed_rows rows ps) ≡ all
-paths_more paths new all r rows left ps p g h e f =
+pub paths_more : (met new all : List (List ℕ)) (r : ListEvent) (rows : List ListEvent)
+    (left ps : List ℕ) (p : ℕ) → new ≡ insert_all (pointwise nat_eq) met (row_paths r)
+    → insert_all (pointwise nat_eq) met (flat_map row_paths (placed_rows rows left)) ≡ all
+    → left ≡ p ∷ ps → Some r ≡ slice_get rows p
+    → insert_all (pointwise nat_eq) new (flat_map row_paths (placed_rows rows ps)) ≡ all
+paths_more met new all r rows left ps p g h e f =
     let rest = flat_map row_paths (placed_rows rows ps) in
-    ap (λ z. z ++ rest) g
-    ∙ (append_assoc paths (row_paths r) rest
-    ∙ (ap (λ z. paths ++ flat_map row_paths z) (sym (rows_next rows left ps p (Some r) e f)) ∙ h))
+    ap (λ z. insert_all (pointwise nat_eq) z rest) g
+    ∙ (sym (fold-append (insert_key (pointwise nat_eq)) met (row_paths r) rest)
+    ∙ (ap (λ z. insert_all (pointwise nat_eq) met (flat_map row_paths z))
+    (sym (rows_next rows left ps p (Some r) e f)) ∙ h))
 
-pub no_paths_more : (paths all : List (List ℕ)) (rows : List ListEvent) (left ps : List ℕ) (p : ℕ)
-    → paths ++ flat_map row_paths (placed_rows rows left) ≡ all → left ≡ p ∷ ps
-    → None ≡ slice_get rows p → paths ++ flat_map row_paths (placed_rows rows ps) ≡ all
-no_paths_more paths all rows left ps p h e f =
-    ap (λ z. paths ++ flat_map row_paths z) (sym (rows_next rows left ps p None e f)) ∙ h
+pub no_paths_more : (met all : List (List ℕ)) (rows : List ListEvent) (left ps : List ℕ) (p : ℕ)
+    → insert_all (pointwise nat_eq) met (flat_map row_paths (placed_rows rows left)) ≡ all
+    → left ≡ p ∷ ps → None ≡ slice_get rows p
+    → insert_all (pointwise nat_eq) met (flat_map row_paths (placed_rows rows ps)) ≡ all
+no_paths_more met all rows left ps p h e f =
+    ap (λ z. insert_all (pointwise nat_eq) met (flat_map row_paths z))
+    (sym (rows_next rows left ps p None e f)) ∙ h

@@ -10,6 +10,7 @@ ghost use Rattle.fm_status.specs.Wanted.{IsWantedOf};
 use crate::wanted::{Wanted, put_paths};
 use fm_bytes::{Copies, NoMemory};
 use fm_entry::{CaseName, ListEvent, Spoken};
+use indexmap::IndexSet;
 use std::alloc::Global;
 use std::collections::BTreeMap;
 use std::marker::Model;
@@ -63,20 +64,19 @@ impl Status {
     }
 
     /// Takes one word: it is the row of its case from now on.
-    fn put(&mut self, alloc: Global, word: &ListEvent) -> Result<(), NoMemory>
-        ensures ok { OnOk result (self.new ≡ put_row self.old word.now) }
+    fn put(&mut self, word: ListEvent) -> Result<(), NoMemory>
+        ensures ok { OnOk result (self.new ≡ put_row self.old word) }
         ensures err { OnErr result (self.new ≡ self.old) }
     {
-        let row = word.copy(alloc)?;
         let key = case_key(&word.case);
         match self.places.get(&key) {
-            Some(place) => self.rows[*place] = row,
+            Some(place) => self.rows[*place] = word,
             None => {
                 // first room for the row, so that none is left without its place or a place
                 // without its row
                 self.rows.reserve(1)?;
                 self.places.insert(key, self.rows.len())?;
-                self.rows.push_reserved(row);
+                self.rows.push_reserved(word);
             }
         }
         Ok(())
@@ -93,7 +93,7 @@ impl Status {
             × (self.new ≡ put_rows self.old (take n spoken.now.events))) }
     {
         'words: for word in spoken.events.as_slice() {
-            self.put(alloc, word)?;
+            self.put(word.copy(alloc)?)?;
         }
         Ok(())
     }
@@ -127,12 +127,12 @@ impl Status {
     pub fn wanted(&self, alloc: Global) -> Result<Wanted, NoMemory>
         ensures { IfOk result (IsWantedOf self.now) }
     {
-        let mut paths = Vec::new(alloc);
+        let mut met = IndexSet::new(alloc);
         'places: for place in self.places.values() {
             if let Some(row) = row_at(self.rows.as_slice(), *place) {
-                put_paths(row, &mut paths)?;
+                put_paths(row, &mut met)?;
             }
         }
-        Ok(Wanted::of(paths))
+        Wanted::of(alloc, met)
     }
 }

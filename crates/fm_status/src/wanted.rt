@@ -1,14 +1,19 @@
 //! The resources that are wanted out of use.
 
-ghost use Rattle.std.specs.Prelude.{◌≡◌, ◌++◌, ℕ, List, ◌↔◌, OnOk};
-ghost use Rattle.std.specs.List.{Contains};
+ghost use Rattle.std.specs.Prelude.{◌≡◌, List, [], flat_map, IfOk, OnOk, nat_eq};
 ghost use Rattle.std.specs.List.Sorted.{IsStrictlySortedBy};
+ghost use Rattle.std.specs.Cmp.Lexicographic.{pointwise};
+ghost use Rattle.indexmap.specs.IndexSet.{insert_all, insert_key};
 ghost use Rattle.fm_name.specs.Order.{path_cmp};
+ghost use Rattle.fm_entry.specs.declared.list_event.ListEvent.{ListEvent};
 ghost use Rattle.fm_status.specs.Wanted.{is_solved, is_present, is_out, out_paths, row_paths};
+ghost use Rattle.fm_status.specs.Wanted.{IsWantedOf};
 
 use fm_bytes::NoMemory;
 use fm_entry::{ListEvent, ListKind, Mark, Suspect};
 use fm_name::Fmri;
+use indexmap::IndexSet;
+use std::alloc::Global;
 use std::marker::Model;
 
 /// Paths of resources that are wanted out of use. Contracts see the list of the paths, which
@@ -39,14 +44,18 @@ impl Wanted {
         self.paths.as_slice()
     }
 
-    /// Some paths, each once and in path order.
-    pub(crate) fn of(mut paths: Vec<Fmri>) -> Wanted
-        ensures ascend { IsStrictlySortedBy path_cmp result }
-        ensures same { (path : List ℕ) → Contains result path ↔ Contains paths.items path }
+    /// The paths that rows want, which were met row by row. They are sorted when each stands there
+    /// once, so that many suspects of few resources take few comparisons.
+    pub(crate) fn of(alloc: Global, met: IndexSet<Fmri>) -> Result<Wanted, NoMemory>
+        ensures { (rows : List ListEvent)
+            → met.keys ≡ insert_all (pointwise nat_eq) [] (flat_map row_paths rows)
+            → IfOk result (IsWantedOf rows) }
     {
+        let mut paths: Vec<Fmri> = Vec::from_iter(alloc, met)?;
         paths.sort_unstable();
+        // drops none, since a set holds no path twice; the proof takes the strict order from it
         paths.dedup();
-        Wanted { paths }
+        Ok(Wanted { paths })
     }
 }
 
@@ -71,16 +80,28 @@ fn is_out(suspect: &Suspect) -> bool
     }
 }
 
+/// Puts a path, unless it stands there.
+fn put_path(path: &Fmri, met: &mut IndexSet<Fmri>) -> Result<(), NoMemory>
+    ensures { OnOk result
+        (met.new.keys ≡ insert_key (pointwise nat_eq) met.old.keys path.now) }
+{
+    if !met.contains(path) {
+        met.insert(path.copy()?)?;
+    }
+    Ok(())
+}
+
 /// Puts the paths of the suspects of a row whose resources are to be out of use.
-pub(crate) fn put_paths(row: &ListEvent, paths: &mut Vec<Fmri>) -> Result<(), NoMemory>
-    ensures { OnOk result (paths.new.items ≡ paths.old.items ++ row_paths row.now) }
+pub(crate) fn put_paths(row: &ListEvent, met: &mut IndexSet<Fmri>) -> Result<(), NoMemory>
+    ensures { OnOk result (met.new.keys
+        ≡ insert_all (pointwise nat_eq) met.old.keys (row_paths row.now)) }
 {
     if !is_solved(&row.kind) {
         return Ok(());
     }
     'suspects: for suspect in row.suspects.as_slice() {
         if is_out(suspect) {
-            paths.push(suspect.path.copy()?)?;
+            put_path(&suspect.path, met)?;
         }
     }
     Ok(())

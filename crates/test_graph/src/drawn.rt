@@ -115,7 +115,9 @@ pub fn drawn_graph(rt: &impl Abort, alloc: Global, draws: &mut Draws) -> Graph {
     graph_of(rt, alloc, &kinds, instances)
 }
 
-fn is_story_less(graph: &Graph, less: &[Link], root: u32, seen: &[u32], story: &[u32]) -> bool {
+/// Whether these are links of the graph, in order, and without them it is a story of the root with
+/// just these reports.
+pub fn is_story_less(graph: &Graph, less: &[Link], root: u32, seen: &[u32], story: &[u32]) -> bool {
     are_links(graph, less) && check_story_less(graph, less, root, seen, story)
 }
 

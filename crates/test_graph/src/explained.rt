@@ -1,6 +1,8 @@
 //! Which roots are possible, and by what story.
 
-use crate::drawn::{Draws, REPORTS, bits_of, drawn_graph, numbers_of, stories_of, union_of};
+use crate::drawn::{
+    Draws, REPORTS, bits_of, drawn_graph, is_story_less, numbers_of, stories_of, union_of,
+};
 use crate::made::{cpu_graph, fan_graph, fan_graph_with, put};
 use dx_explain::{Scratch, explain, explain_in};
 use dx_story::{are_links, check_story};
@@ -22,7 +24,7 @@ fn explained(
     }
     match explain(alloc, graph, root, seen, allowed) {
         Ok(Some(story)) => {
-            is_story(rt, alloc, graph, root, story.as_slice());
+            is_story(rt, alloc, graph, &[], root, story.as_slice());
             Some(story)
         }
         Ok(None) => None,
@@ -30,8 +32,15 @@ fn explained(
     }
 }
 
-/// Asserts that it is a story of the root, where it has some report.
-pub fn is_story(rt: &impl Abort, alloc: Global, graph: &Graph, root: u32, story: &[u32]) {
+/// Asserts that it is a story of the root less these links, where it has some report.
+pub fn is_story(
+    rt: &impl Abort,
+    alloc: Global,
+    graph: &Graph,
+    less: &[Link],
+    root: u32,
+    story: &[u32],
+) {
     let mut reports = Vec::new(alloc);
     for node in story {
         if is_report_node(graph.nodes(), *node) {
@@ -40,6 +49,7 @@ pub fn is_story(rt: &impl Abort, alloc: Global, graph: &Graph, root: u32, story:
     }
     if !reports.is_empty() {
         assert!(rt; check_story(graph, root, reports.as_slice(), story));
+        assert!(rt; is_story_less(graph, less, root, reports.as_slice(), story));
     }
 }
 
@@ -81,6 +91,17 @@ fn of_the_fans(rt: HostRuntime) {
     tells(&rt, alloc, &warm, 4, &[1], &[1], &[]);
 }
 
+/// The nodes of the set that was found last, of eight.
+pub fn members_in(rt: &impl Abort, alloc: Global, room: &Scratch) -> Vec<u32> {
+    let mut story = Vec::new(alloc);
+    for node in 0..8 {
+        if room.has(node) {
+            put(rt, &mut story, node);
+        }
+    }
+    story
+}
+
 /// Whether the fault dead of a fan is possible for the report stop less these links, none where
 /// they are no links of the graph; then its story is that of a `Scratch`.
 fn possible_less(rt: &impl Abort, alloc: Global, graph: &Graph, less: &[Link]) -> Option<bool> {
@@ -93,6 +114,10 @@ fn possible_less(rt: &impl Abort, alloc: Global, graph: &Graph, less: &[Link]) -
     let possible = explain_in(graph, less, 4, &[0], &[0], &mut room);
     assert!(rt; possible == room.has(4));
     assert!(rt; !room.has(1));
+    if possible {
+        let story = members_in(rt, alloc, &room);
+        is_story(rt, alloc, graph, less, 4, story.as_slice());
+    }
     Some(possible)
 }
 

@@ -5,7 +5,7 @@ ghost use Rattle.ev_graph.specs.Kinds.{is_root_node};
 ghost use Rattle.dx_live.specs.Live.{IsLiveOf};
 
 use crate::drawn::{Draws, REPORTS, bits_of, drawn_graph, numbers_of, stories_of, union_of};
-use crate::explained::is_story;
+use crate::explained::{is_story, members_in};
 use crate::made::{cpu_graph, fan_graph, fan_graph_with, put};
 use dx_explain::{Scratch, explain_in};
 use dx_live::{Live, Steps};
@@ -52,11 +52,11 @@ fn bits_in(rt: &impl Abort, alloc: Global, graph: &Graph, root: u32, live: &Live
             put(rt, &mut story, node);
         }
     }
-    is_story(rt, alloc, graph, root, story.as_slice());
+    is_story(rt, alloc, graph, &[], root, story.as_slice());
     bits_of(story.as_slice())
 }
 
-/// The greatest story less these links, with these reports allowed, found afresh.
+/// The greatest story less these links, with these reports allowed, found afresh. Each is checked.
 fn found(
     rt: &impl Abort,
     alloc: Global,
@@ -75,12 +75,8 @@ fn found(
     if !explain_in(graph, less, root, &[], allowed.as_slice(), &mut room) {
         return 0;
     }
-    let mut story = Vec::new(alloc);
-    for node in 0..8 {
-        if room.has(node) {
-            put(rt, &mut story, node);
-        }
-    }
+    let story = members_in(rt, alloc, &room);
+    is_story(rt, alloc, graph, less, root, story.as_slice());
     bits_of(story.as_slice())
 }
 

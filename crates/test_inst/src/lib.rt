@@ -11,3 +11,5 @@ mod drawn;
 mod guarded;
 #[cfg(test)]
 mod instances;
+#[cfg(test)]
+mod orders;

@@ -8,5 +8,5 @@ loop-place-init c = rw c.in_ok-rows.ensures
 pub loop-place-preserved : goal.loop-place-preserved
 loop-place-preserved c = rw (c.in_ok-push.ensures.ok, c.as_slice.ensures.value) (rows_push
     c.loop-place.place-index c.args.table.now.causes c.args.nodes.now c.args.places.now
-    c.loop-place.rows c.in_ok-row.row.items c.loop-place.invariant
-    (rw c.causes.ensures.causes at c.in_ok-row.ensures))
+    c.loop-place.rows c.local_row.new.row.items c.loop-place.invariant
+    (rw c.causes.ensures.causes at c.in_ok-local_row.ensures))

@@ -3,7 +3,7 @@ use Rattle.dx_live.proofs.region.local_row.Goals as goal
 use Rattle.dx_live.proofs.region.local_row.Goals.{in-Some+in_ok-push-in-Some, in-None}
 
 pub loop-member-init : goal.loop-member-init
-loop-member-init c = rw c.new-row.ensures.items (row_none c.args.nodes.now)
+loop-member-init c = rw c.clear.ensures.items (row_none c.args.nodes.now)
 
 pub loop-member-preserved : goal.loop-member-preserved
 loop-member-preserved c =

@@ -16,14 +16,14 @@ unreachable-requires c =
 pub pattern_events-requires : goal.pattern_events-requires
 pattern_events-requires c =
     let b = c.args.binding.now in
-    side_one b.topo.now c.args.nodes.now b.names.now b.instances.now c.args.patterns.now
+    side_one b.topo.now c.args.index.now.nodes.now b.names.now b.instances.now c.args.patterns.now
     c.args.tables.now c.patterns.at c.index-patterns-at.result c.index-tables-at.result c.requires
     c.patterns-test.true c.index-patterns-at.is (omega arith) c.index-tables-at.is
 
 pub patterns-preserved : goal.patterns-preserved
 patterns-preserved c =
     let b = c.args.binding.now in
-    given_step b.topo.now c.args.nodes.now b.names.now b.instances.now c.args.patterns.now
+    given_step b.topo.now c.args.index.now.nodes.now b.names.now b.instances.now c.args.patterns.now
     c.patterns.at c.index-patterns-at.result c.patterns-test.true c.index-patterns-at.is
     c.patterns.given.items c.push.new.self.items c.in_ok-numbers.numbers.items
     c.patterns.invariant c.in_ok-numbers.ensures

@@ -5,5 +5,5 @@ use Rattle.ev_inst.specs.Gathering.{AddsCandidates}
 use Rattle.ev_inst.proofs.gathered.add_candidates.Given as goal
 
 abbrev pub invariant-bindings : goal.invariant-bindings
-invariant-bindings l = AddsCandidates l.topo l.nodes (view_prop l.prop)
+invariant-bindings l = AddsCandidates l.topo l.index.nodes.now (view_prop l.prop)
     (take l.at l.candidates.bindings) l.initial.gathered l.gathered

@@ -6,7 +6,7 @@ use Rattle.ev_inst.proofs.numbers.add_numbers.Goals as goal
 pub ats-preserved : goal.ats-preserved
 ats-preserved c =
     let long = ap (λ (xs : List ℕ). length xs) c.in_ok-push.ensures.items in (
-      numbers_added c.args.topo.now c.args.nodes.now c.requires.order c.args.class.now
+      numbers_added c.args.topo.now c.args.index.now.nodes.now c.requires.order c.args.class.now
           c.args.ats.now
           c.ats.at-index c.node_number.result c.path.result.now c.args.found.now.items
           c.ats.found.items c.push.new.self.items c.ats-test.true c.path.ensures.path

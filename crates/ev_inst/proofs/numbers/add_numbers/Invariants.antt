@@ -7,5 +7,5 @@ use Rattle.ev_inst.proofs.numbers.add_numbers.Given as goal
 abbrev pub invariant-ats : goal.invariant-ats
 invariant-ats l = ((n : ℕ) → is_member l.found.items n
     ≡ (is_member l.initial.found.items n
-    || is_node_on l.topo l.nodes l.class (take l.at-index l.ats) n))
+    || is_node_on l.topo l.index.nodes.now l.class (take l.at-index l.ats) n))
     × (length l.found.items ≡ length l.initial.found.items + l.at-index)

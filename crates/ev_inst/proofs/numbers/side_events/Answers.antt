@@ -11,7 +11,7 @@ returns-in-Some c =
     let few = told.1.few in (
       told.0,
       (
-        set_is b.topo.now c.args.nodes.now b.names.now b.instances.now
+        set_is b.topo.now c.args.index.now.nodes.now b.names.now b.instances.now
             (map view_pattern c.args.patterns.now) c.in-Some.numbers.items c.set_of.result.items
             told.1 c.set_of.ensures.rises c.set_of.ensures.members,
         omega (arith, few, c.set_of.ensures.few),

@@ -7,14 +7,14 @@ use Rattle.ev_inst.proofs.outcomes.outcome_of.Goals as goal
 
 pub split_at-requires : goal.split_at-requires
 split_at-requires c =
-    left_within c.args.binding.now.topo.now c.args.nodes.now (view_prop c.args.prop.now)
+    left_within c.args.binding.now.topo.now c.args.index.now.nodes.now (view_prop c.args.prop.now)
     c.args.tables.now c.requires.ready c.as_slice-left.result.now
     (ap (map view_pattern) c.as_slice-left.ensures)
 
 pub side_events-requires : goal.side_events-requires
 side_events-requires c =
     let b = c.args.binding.now in
-    side_left b.topo.now c.args.nodes.now (view_prop c.args.prop.now) c.args.tables.now
+    side_left b.topo.now c.args.index.now.nodes.now (view_prop c.args.prop.now) c.args.tables.now
     c.split_at.result.0.now c.requires.ready b.names.now b.instances.now
     c.as_slice-left.result.now c.requires.names c.requires.full
     (ap (map view_pattern) c.as_slice-left.ensures) c.split_at.ensures.front
@@ -22,7 +22,7 @@ side_events-requires c =
 pub side_events-requires-2 : goal.side_events-requires-2
 side_events-requires-2 c =
     let b = c.args.binding.now in
-    side_right b.topo.now c.args.nodes.now (view_prop c.args.prop.now) c.args.tables.now
+    side_right b.topo.now c.args.index.now.nodes.now (view_prop c.args.prop.now) c.args.tables.now
     c.split_at.result.1.now c.requires.ready b.names.now b.instances.now
     c.as_slice-right.result.now c.as_slice-left.result.now c.requires.names c.requires.full
     (ap (map view_pattern) c.as_slice-right.ensures)
@@ -32,7 +32,7 @@ pub complete-requires-clause-causes : goal.complete-requires-clause-causes
 complete-requires-clause-causes c =
     let b = c.args.binding.now in
     let told = rw c.in-Some.is at c.in_ok-causes.ensures in
-    few_events b.topo.now c.args.nodes.now b.names.now b.instances.now
+    few_events b.topo.now c.args.index.now.nodes.now b.names.now b.instances.now
     (map view_pattern c.as_slice-left.result.now) c.in-Some.causes.items
     c.requires.ready.nodes_are.few told.1.0
 
@@ -40,7 +40,7 @@ pub complete-requires-clause-effects : goal.complete-requires-clause-effects
 complete-requires-clause-effects c =
     let b = c.args.binding.now in
     let told = rw c.in-Some-2.is at c.in_ok-effects.ensures in
-    few_events b.topo.now c.args.nodes.now b.names.now b.instances.now
+    few_events b.topo.now c.args.index.now.nodes.now b.names.now b.instances.now
     (map view_pattern c.as_slice-right.result.now) c.in-Some-2.effects.items
     c.requires.ready.nodes_are.few told.1.0
 

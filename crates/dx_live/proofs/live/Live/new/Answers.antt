@@ -19,15 +19,6 @@ pub number_of_root-here-requires-clause-there : goal.number_of_root-here-require
 number_of_root-here-requires-clause-there c =
     rw c.nodes.ensures.nodes c.in_ok-region.ensures.region.root_in
 
-pub first_sets-requires-clause-ascending : goal.first_sets-requires-clause-ascending
-first_sets-requires-clause-ascending c =
-    let g = c.args.graph.now in
-    let P : Wiring → Type 0 = λ w. IsRegionOf w c.args.root c.in_ok-region.region in
-    rw c.table-local.ensures (region_ascends g c.incidence.ensures.graph c.args.root
-    c.in_ok-region.region
-    (subst P (wiring_same (length g.nodes) g.instances c.incidence.result.now
-    c.incidence.ensures.incidence) c.in_ok-region.ensures.region))
-
 pub returns-clause-live : goal.returns-clause-live
 returns-clause-live c =
     let l : LiveValue = record {

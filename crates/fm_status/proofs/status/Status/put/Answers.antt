@@ -12,33 +12,33 @@ index_mut-requires c =
 pub invariant_of-self : goal.invariant_of-self
 invariant_of-self c =
     (is_replaced c.self.inside.rows.items _ c.self.inside.places.entries c.case_key-key.result
-    c.in-Some.place.now c.in_ok-row.row c.args.word.now c.self.invariant c.case_key-key.ensures
-    c.in_ok-row.ensures (sym c.in-Some.ensures.value) refl).placed
+    c.in-Some.place.now c.args.word c.args.word c.self.invariant c.case_key-key.ensures
+    refl (sym c.in-Some.ensures.value) refl).placed
 
 pub returns-in-Some-clause-ok : goal.returns-in-Some-clause-ok
 returns-in-Some-clause-ok c =
     (is_replaced c.self.inside.rows.items _ c.self.inside.places.entries c.case_key-key.result
-    c.in-Some.place.now c.in_ok-row.row c.args.word.now c.self.invariant c.case_key-key.ensures
-    c.in_ok-row.ensures (sym c.in-Some.ensures.value) refl).values
-    ∙ ap (λ z. put_row z c.args.word.now) c.self.view_is
+    c.in-Some.place.now c.args.word c.args.word c.self.invariant c.case_key-key.ensures
+    refl (sym c.in-Some.ensures.value) refl).values
+    ∙ ap (λ z. put_row z c.args.word) c.self.view_is
 
 pub invariant_of-self-in-None : goal.invariant_of-self-in-None
 invariant_of-self-in-None c =
     (is_added c.self.inside.rows.items c.push_reserved.new.self.items
     c.self.inside.places.entries c.insert.new.self.entries c.case_key-key.result c.len.result
-    c.in_ok-row.row c.args.word.now c.self.invariant c.case_key-key.ensures c.in_ok-row.ensures
+    c.args.word c.args.word c.self.invariant c.case_key-key.ensures refl
     (c.len.ensures ∙ (c.reserve.ensures.len ∙ c.self.inside.rows.ok.0))
     (c.push_reserved.ensures.items
-    ∙ ap (λ z. z ++ (c.in_ok-row.row ∷ [])) c.reserve.ensures.items)
+    ∙ ap (λ z. z ++ (c.args.word ∷ [])) c.reserve.ensures.items)
     c.in_ok-insert-in-None.ensures.entries c.insert.ensures.ordered).placed
 
 pub returns-in_ok-insert-in-None-clause-ok : goal.returns-in_ok-insert-in-None-clause-ok
 returns-in_ok-insert-in-None-clause-ok c =
     (is_added c.self.inside.rows.items c.push_reserved.new.self.items
     c.self.inside.places.entries c.insert.new.self.entries c.case_key-key.result c.len.result
-    c.in_ok-row.row c.args.word.now c.self.invariant c.case_key-key.ensures c.in_ok-row.ensures
+    c.args.word c.args.word c.self.invariant c.case_key-key.ensures refl
     (c.len.ensures ∙ (c.reserve.ensures.len ∙ c.self.inside.rows.ok.0))
     (c.push_reserved.ensures.items
-    ∙ ap (λ z. z ++ (c.in_ok-row.row ∷ [])) c.reserve.ensures.items)
+    ∙ ap (λ z. z ++ (c.args.word ∷ [])) c.reserve.ensures.items)
     c.in_ok-insert-in-None.ensures.entries c.insert.ensures.ordered).values
-    ∙ ap (λ z. put_row z c.args.word.now) c.self.view_is
+    ∙ ap (λ z. put_row z c.args.word) c.self.view_is

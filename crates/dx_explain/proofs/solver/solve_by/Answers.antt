@@ -1,12 +1,11 @@
 use Rattle.ev_graph.specs.Sets.{is_member}
-use Rattle.ev_graph.specs.Cutting.{is_cut}
 use Rattle.dx_explain.proofs.Greatest.{solved}
-use Rattle.dx_explain.proofs.solver.solve.Goals as goal
+use Rattle.dx_explain.proofs.solver.solve_by.Goals as goal
 
 pub returns-clause-greatest : goal.returns-clause-greatest
-returns-clause-greatest c =
+returns-clause-greatest g c =
     let left = rw c.nodes.ensures.nodes at c.withhold.ensures in
     solved c.args.graph.now c.incidence-table.result.now c.incidence-table.ensures.incidence
-    (is_cut c.args.less.now) c.args.root (is_member c.args.allowed.now) c.fill.new.sets
+    (g.C.CutTest.is_cut c.args.cuts.now) c.args.root (is_member c.args.allowed.now) c.fill.new.sets
     c.withhold.new.sets c.begin.new.sets c.requires.root c.fill.ensures.exact c.fill.ensures.all
     left c.begin.ensures.steady c.begin.ensures.over c.begin.ensures.settles
