@@ -123,13 +123,12 @@ module _ (number : ℕ) (before after : DisksAt) where
   MayHaveFirst told stood = LikeBook told after stood ⊎ HasFirst number told after stood
 
   -- each image has the first of what is generated, so many or one more
-  first_held : (entries front more : List Entry) (last : List Entry) (told : Contents)
-      → entries ≡ front ++ last ++ more → Generates number before entries
-      → Tells before told → (one : BookAt told)
+  first_held : (entries front rest : List Entry) (told : Contents) → entries ≡ front ++ rest
+      → Generates number before entries → Tells before told → (one : BookAt told)
       → ((image : Contents) → Leaves after image → ReadsLikeEither one.fresh
       (store_with one.book front) (store_with one.book (take (length front + 1) entries)) image)
       → HoldsOfBook told (MayHaveFirst told)
-  first_held entries front more last told is are tells one left = record {
+  first_held entries front rest told is are tells one left = record {
     stood = one;
     each = λ book. inr (record {
       entries = entries;
@@ -140,7 +139,7 @@ module _ (number : ℕ) (before after : DisksAt) where
           (take (length front + 1) entries) image
           (subst (λ es. ReadsLikeEither one.fresh (store_with one.book es)
           (store_with one.book (take (length front + 1) entries)) image)
-          (sym (ap (take (length front)) is ∙ take-append_seam front (last ++ more)))
+          (sym (ap (take (length front)) is ∙ take-append_seam front rest))
           (left image leaves));
     });
   }
@@ -151,7 +150,7 @@ module _ (number : ℕ) (before after : DisksAt) where
       → ReadsLike one.fresh (store_with one.book front) image)
       → HoldsOfBook told (MayHaveFirst told)
   plain_held entries front rest told is are tells one left =
-      first_held entries front rest [] told is are tells one
+      first_held entries front rest told is are tells one
       (λ image leaves. inl (left image leaves))
 
   -- the next one may be there too
@@ -162,7 +161,7 @@ module _ (number : ℕ) (before after : DisksAt) where
       (store_with one.book front) (store_with one.book (front ++ entry ∷ [])) image)
       → HoldsOfBook told (MayHaveFirst told)
   next_held entries front more entry told is are tells one left =
-      first_held entries front more (entry ∷ []) told is are tells one
+      first_held entries front (entry ∷ more) told is are tells one
       (λ image leaves. subst (λ es. ReadsLikeEither one.fresh (store_with one.book front)
       (store_with one.book es) image)
       (sym (ap (take (length front + 1)) is ∙ take-append-add front (entry ∷ more) 1))

@@ -1,7 +1,7 @@
 -- From an open store that takes what a number generates, or of which its lines are told, to what
 -- its disks hold.
-use Rattle.std.proofs.Common.{◌≡◌, ◌∙◌, inl, inr, ℕ, ◌≤◌, ◌<◌, ◌^◌, List, None, Some, Result, Ok}
-use Rattle.std.proofs.Common.{Err, refl, sym, subst}
+use Rattle.std.proofs.Common.{◌≡◌, ◌∙◌, ◌+◌, inl, inr, ℕ, ◌≤◌, ◌<◌, ◌^◌, List, None, Some, Result}
+use Rattle.std.proofs.Common.{Ok, Err, length, refl, sym, subst}
 use Rattle.std.specs.Global.{Vec}
 use Rattle.std.specs.Prelude.{MatchResult}
 use Rattle.dx_engine.specs.Diagnosers.{DiagnoserOf}
@@ -138,14 +138,14 @@ module _ {D : Type 0} (g : Ghosts D) (disks disks_now : Disks D)
 
   -- ---- lines
 
-  lines_account : {T : Type 0} (stop : Stop) → StartStops (greatest_at first) stop
+  lines_account : (T : Type 0) (stop : Stop) → StartStops (greatest_at first) stop
       → DisksAccount {T = T} (disks_at g disks) (disks_at g disks_now) (Err stop)
-  lines_account Disk why = absurd why
-  lines_account _ why = tt
+  lines_account T Disk why = absurd why
+  lines_account T _ why = tt
 
   pub lines_tried : (text : Vec ℕ) → ListsGenerated number first new conf (Ok text)
       → LinesTried number (disks_at g disks) (disks_at g disks_now) (Ok text.items)
-  lines_tried text (same, (entries, (so, text_is))) = record {
+  lines_tried text (same, (entries, so, text_is)) = record {
     went = record {
       entries = entries;
       are = generates entries so;
@@ -162,7 +162,7 @@ module _ {D : Type 0} (g : Ghosts D) (disks disks_now : Disks D)
       → LinesTried number (disks_at g disks) (disks_at g disks_now) (Err stop)
   lines_halted stop (same, why) = record {
     went = inr (unbegun stop same why);
-    counts = lines_account stop why;
+    counts = lines_account (List ℕ) stop why;
   }
 
   -- ---- entries
@@ -247,7 +247,7 @@ module _ {D : Type 0} (g : Ghosts D) (disks disks_now : Disks D)
   halts_account : (stop : Stop) → GenerateHalts g number first new hands conf stop
       → DisksAccount {T = Conclusion} (disks_at g disks) (disks_at g disks_now) (Err stop)
   halts_account Disk (inl (same, why)) = absurd why
-  halts_account Disk (inr (inl (entries, (so, until)))) =
+  halts_account Disk (inr (inl (entries, so, until))) =
       let (entry, more, is, took) = until.stops in rose_now took.counts
   halts_account Disk (inr (inr (fault, is, finished))) = rose_now (some_failed fault is finished)
   halts_account _ halts = tt
@@ -269,7 +269,7 @@ module _ {D : Type 0} (g : Ghosts D) (disks disks_now : Disks D)
     halts_went : (stop : Stop) → GenerateHalts g number first new hands conf stop
         → GenerateStops number (disks_at g disks) (disks_at g disks_now) stop
     halts_went stop (inl (same, why)) = inr (inl (unbegun stop same why))
-    halts_went stop (inr (inl (entries, (so, until)))) = inr (inr (inl (record {
+    halts_went stop (inr (inl (entries, so, until))) = inr (inr (inl (record {
       entries = entries;
       are = generates entries so;
       next = next_entry first.logs;

@@ -59,3 +59,8 @@ returns-in-Err-conclude-clause-same_disks g c name =
     c.conclude.ensures.same_disks name
     ∙ six_of_paired (λ n. g.D.Disk.name (store_disk n c.take_all.new.taker))
     (λ n. g.D.Disk.name (store_disk n c.args.store.now)) c.take_all.ensures.same_taker name
+
+pub returns-in-Err-clause-same_disks : goal.returns-in-Err-clause-same_disks
+returns-in-Err-clause-same_disks g c =
+    six_of_paired (λ n. g.D.Disk.name (store_disk n c.take_all.new.taker))
+    (λ n. g.D.Disk.name (store_disk n c.args.store.now)) c.take_all.ensures.same_taker

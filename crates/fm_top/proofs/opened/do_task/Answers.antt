@@ -30,13 +30,13 @@ returns-in-Explain-clause-does g c =
 
 pub returns-in-Generate-clause-does : goal.returns-in-Generate-clause-does
 returns-in-Generate-clause-does g c =
-    does_task g.D.Disk _ (Generate c.in-Generate.number.now) _ _ _ _ _ _ _ _ _ (search rules)
+    does_task g.D.Disk _ (Generate c.in-Generate.number) _ _ _ _ _ _ _ _ _ (search rules)
     (c.generate_entries.ensures.does (source_at g.S.Source c.args.streams.now.input.now)
     (sink_at g.K.Sink c.args.streams.now.out.now))
 
 pub returns-in-GeneratedLines-clause-does : goal.returns-in-GeneratedLines-clause-does
 returns-in-GeneratedLines-clause-does g c =
-    does_task g.D.Disk _ (GeneratedLines c.in-GeneratedLines.number.now) _ _ _ _ _ _ _ _ _
+    does_task g.D.Disk _ (GeneratedLines c.in-GeneratedLines.number) _ _ _ _ _ _ _ _ _
     (search rules)
     (c.list_entries.ensures.does c.args.hands.items
     (source_at g.S.Source c.args.streams.now.input.now)
