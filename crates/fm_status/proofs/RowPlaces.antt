@@ -2,18 +2,20 @@
 use Rattle.std.proofs.Common.{◌≡◌, ◌⊎◌, inl, inr, ◌<◌, ℕ, zero, suc, Bool, true, false, cond}
 use Rattle.std.proofs.Common.{List, [], ◌∷◌, ◌++◌, length, map, refl, sym, ap, ◌∙◌, subst}
 use Rattle.std.proofs.Common.{Option, Some, None, slice_get}
-use Rattle.std.specs.Prelude.{flat_map, nat_eq}
-use Rattle.std.specs.Cmp.Lexicographic.{pointwise}
-use Rattle.std.proofs.lemmas.List.Sums.{fold-append}
-use Rattle.indexmap.specs.IndexSet.{insert_all, insert_key}
+use Rattle.std.proofs.Common.{⊎_elim, arith}
 use Rattle.std.proofs.Math.ListN.{set}
+use Rattle.std.proofs.lemmas.Bool.{cases_eq}
+use Rattle.std.proofs.lemmas.List.{length_push, length-set}
+use Rattle.std.proofs.lemmas.List.Elements.{Contains-append_left, Contains-append_right}
+use Rattle.std.proofs.lemmas.List.Elements.{Contains-append_cases, Contains-push}
+use Rattle.std.proofs.lemmas.List.Elements.{Contains-push_cases}
 use Rattle.std.proofs.lemmas.Option.{slice_get_within}
 use Rattle.std.specs.Option.{unwrap_or}
 use Rattle.std.specs.declared.cmp.Ordering.{Ordering}
 use Rattle.std.specs.declared.cmp.Ordering.TheVariants.{Less, Equal, Greater}
 use Rattle.std.specs.Ordering.{match_ordering, is_eq}
 use Rattle.std.specs.Cmp.{tied_itself}
-use Rattle.std.specs.List.{AllByRecursion}
+use Rattle.std.specs.List.{AllByRecursion, Contains}
 use Rattle.std.specs.List.Sorted.{IsStrictlySortedBy}
 use Rattle.std.specs.Map.{keys_of, values_of, lookup}
 use Rattle.std.specs.BTreeMap.{insert_entry, is_at}
@@ -21,7 +23,6 @@ use Rattle.fm_entry.specs.declared.case_name.CaseName.{CaseName}
 use Rattle.fm_entry.specs.declared.list_event.ListEvent.{ListEvent}
 use Rattle.fm_status.specs.Rows.{case_cmp, case_key, case_row, key_cmp, put_row, AreRowsAt}
 use Rattle.fm_status.specs.Rows.{ArePlacedRows, with_found, placed_rows}
-use Rattle.fm_status.specs.Wanted.{row_paths}
 use Rattle.fm_status.proofs.CaseOrder.{key_tie, key_total}
 use Rattle.fm_status.proofs.RowMap.{AreKeyed, values_put, row_found, rows_ascend}
 
@@ -357,6 +358,79 @@ replaced rows p k w (e ∷ es) i a s l =
       are_at = done.are_at;
     }
 
+-- ---- each row has its place
+
+there_first : (x : ℕ) (xs : List ℕ) → Contains (x ∷ xs) x
+there_first x xs = Contains-append_left (x ∷ []) xs x (Contains-push [] x)
+
+there_later : (y : ℕ) (xs : List ℕ) (x : ℕ) → Contains xs x → Contains (y ∷ xs) x
+there_later y xs x c = Contains-append_right (y ∷ []) xs x c
+
+pub nothing_there : {A : Type 0} (x : ℕ) → Contains [] x → A
+nothing_there x c = absurd (omega (arith, c.1))
+
+pub first_or_later : (y : ℕ) (xs : List ℕ) (x : ℕ) → Contains (y ∷ xs) x → (y ≡ x) ⊎ Contains xs x
+first_or_later y xs x c =
+    ⊎_elim (λ one. ⊎_elim (λ none. nothing_there x none) (λ e. inl e) (Contains-push_cases [] y x one))
+    (λ later. inr later)
+    (Contains-append_cases (y ∷ []) xs x c)
+
+put_there : (o : Ordering) (e : (ℕ × ℕ) × ℕ) (es : List ((ℕ × ℕ) × ℕ)) (k : ℕ × ℕ) (p : ℕ)
+    → Contains (values_of (insert_entry key_cmp es k p)) p
+    → Contains (values_of (match_ordering o ((k, p) ∷ e ∷ es) ((e.0, p) ∷ es)
+    (e ∷ insert_entry key_cmp es k p))) p
+put_there Less e es k p h = there_first p (e.1 ∷ values_of es)
+put_there Equal e es k p h = there_first p (values_of es)
+put_there Greater e es k p h = there_later e.1 (values_of (insert_entry key_cmp es k p)) p h
+
+-- a place that is put stands there
+place_put : (es : List ((ℕ × ℕ) × ℕ)) (k : ℕ × ℕ) (p : ℕ)
+    → Contains (values_of (insert_entry key_cmp es k p)) p
+place_put [] k p = there_first p []
+place_put (e ∷ es) k p = put_there (key_cmp k e.0) e es k p (place_put es k p)
+
+stays_there : (o : Ordering) (e : (ℕ × ℕ) × ℕ) (es : List ((ℕ × ℕ) × ℕ)) (k : ℕ × ℕ) (p q : ℕ)
+    → cond (is_eq o) (Some e.1) (lookup (is_at (key_cmp k)) es) ≡ None
+    → Contains (e.1 ∷ values_of es) q
+    → (lookup (is_at (key_cmp k)) es ≡ None → Contains (values_of es) q
+    → Contains (values_of (insert_entry key_cmp es k p)) q)
+    → Contains (values_of (match_ordering o ((k, p) ∷ e ∷ es) ((e.0, p) ∷ es)
+    (e ∷ insert_entry key_cmp es k p))) q
+stays_there Less e es k p q l c more = there_later p (e.1 ∷ values_of es) q c
+stays_there Equal e es k p q l c more = cc
+stays_there Greater e es k p q l c more =
+    let rest = values_of (insert_entry key_cmp es k p) in
+    ⊎_elim (λ first. subst (Contains (e.1 ∷ rest)) first (there_first e.1 rest))
+    (λ later. there_later e.1 rest q (more l later))
+    (first_or_later e.1 (values_of es) q c)
+
+-- the places of before stay where a key is new
+place_stays : (es : List ((ℕ × ℕ) × ℕ)) (k : ℕ × ℕ) (p q : ℕ)
+    → lookup (is_at (key_cmp k)) es ≡ None → Contains (values_of es) q
+    → Contains (values_of (insert_entry key_cmp es k p)) q
+place_stays [] k p q l c = nothing_there q c
+place_stays (e ∷ es) k p q l c =
+    stays_there (key_cmp k e.0) e es k p q l c (place_stays es k p q)
+
+have_more : (rows : List ListEvent) (w : ListEvent) (es : List ((ℕ × ℕ) × ℕ)) (k : ℕ × ℕ)
+    → lookup (is_at (key_cmp k)) es ≡ None
+    → ((q : ℕ) → q < length rows → Contains (values_of es) q)
+    → (q : ℕ) → q < length (rows ++ (w ∷ [])) → Contains (values_of (with_last rows es k)) q
+have_more rows w es k l all q lt =
+    let long = length_push rows w in
+    ⊎_elim (λ e. subst (Contains (values_of (with_last rows es k))) (sym e)
+    (place_put es k (length rows)))
+    (λ other. place_stays es k (length rows) q l (all q (omega (arith, lt, long, other))))
+    (cases_eq q (length rows))
+
+pub no_rows : ArePlacedRows [] []
+unfolding IsStrictlySortedBy
+no_rows = record {
+  ascend = tt;
+  are_at = tt;
+  have_places = λ q lt. absurd (omega (arith, lt));
+}
+
 -- ---- a word that is put
 
 -- rows and places with a word more
@@ -387,17 +461,22 @@ is_replaced rows new es k p v w a e f l g =
     a.are_at a.ascend l in
     subst (λ z. IsRowPut rows es z es w) (sym at_word)
     (record {
-      placed = record { ascend = a.ascend; are_at = done.are_at };
+      placed = record {
+        ascend = a.ascend;
+        are_at = done.are_at;
+        have_places = λ q lt. a.have_places q (subst (λ n. q < n) (length-set rows p w) lt);
+      };
       values = put_values rows es (set rows p w) es w a.are_at
           (done.same ∙ ap (λ z. insert_entry key_cmp (row_entries rows es) z w) e);
     })
 
 -- a word of a case that is not among the rows comes behind them
 pub is_added : (rows new : List ListEvent) (es places : List ((ℕ × ℕ) × ℕ)) (k : ℕ × ℕ) (n : ℕ)
-    (v w : ListEvent) → ArePlacedRows rows es → k ≡ case_key w.case → v ≡ w → n ≡ length rows
+    (v w : ListEvent) → ArePlacedRows rows es → k ≡ case_key w.case → v ≡ w
+    → lookup (is_at (key_cmp k)) es ≡ None → n ≡ length rows
     → new ≡ rows ++ (v ∷ []) → places ≡ insert_entry key_cmp es k n
     → IsStrictlySortedBy key_cmp (keys_of places) → IsRowPut rows es new places w
-is_added rows new es places k n v w a e f h g m s =
+is_added rows new es places k n v w a e f l h g m s =
     let rows_is : new ≡ rows ++ (w ∷ []) = g ∙ ap (λ z. rows ++ (z ∷ [])) f in
     let places_is : places ≡ with_last rows es (case_key w.case) =
     m ∙ (ap (λ z. insert_entry key_cmp es z n) e
@@ -408,6 +487,10 @@ is_added rows new es places k n v w a e f h g m s =
         are_at = subst (λ z. AreRowsAt z places) (sym rows_is)
             (subst (AreRowsAt (rows ++ (w ∷ []))) (sym places_is)
             (rows_added rows w es a.are_at));
+        have_places = λ q lt. subst (λ z. Contains (values_of z) q) (sym places_is)
+            (have_more rows w es (case_key w.case)
+            (subst (λ z. lookup (is_at (key_cmp z)) es ≡ None) e l) a.have_places q
+            (subst (λ z. q < length z) rows_is lt));
       };
       values = put_values rows es new places w a.are_at
           (ap (λ z. row_entries z places) rows_is
@@ -444,24 +527,3 @@ pub none_more : (found all : List ListEvent) (rows : List ListEvent) (left ps : 
     → found ++ placed_rows rows ps ≡ all
 none_more found all rows left ps p h e f =
     ap (λ z. found ++ z) (sym (rows_next rows left ps p None e f)) ∙ h
-
--- the same of the paths that rows want
-pub paths_more : (met new all : List (List ℕ)) (r : ListEvent) (rows : List ListEvent)
-    (left ps : List ℕ) (p : ℕ) → new ≡ insert_all (pointwise nat_eq) met (row_paths r)
-    → insert_all (pointwise nat_eq) met (flat_map row_paths (placed_rows rows left)) ≡ all
-    → left ≡ p ∷ ps → Some r ≡ slice_get rows p
-    → insert_all (pointwise nat_eq) new (flat_map row_paths (placed_rows rows ps)) ≡ all
-paths_more met new all r rows left ps p g h e f =
-    let rest = flat_map row_paths (placed_rows rows ps) in
-    ap (λ z. insert_all (pointwise nat_eq) z rest) g
-    ∙ (sym (fold-append (insert_key (pointwise nat_eq)) met (row_paths r) rest)
-    ∙ (ap (λ z. insert_all (pointwise nat_eq) met (flat_map row_paths z))
-    (sym (rows_next rows left ps p (Some r) e f)) ∙ h))
-
-pub no_paths_more : (met all : List (List ℕ)) (rows : List ListEvent) (left ps : List ℕ) (p : ℕ)
-    → insert_all (pointwise nat_eq) met (flat_map row_paths (placed_rows rows left)) ≡ all
-    → left ≡ p ∷ ps → None ≡ slice_get rows p
-    → insert_all (pointwise nat_eq) met (flat_map row_paths (placed_rows rows ps)) ≡ all
-no_paths_more met all rows left ps p h e f =
-    ap (λ z. insert_all (pointwise nat_eq) met (flat_map row_paths z))
-    (sym (rows_next rows left ps p None e f)) ∙ h

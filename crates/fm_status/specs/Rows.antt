@@ -1,11 +1,11 @@
 -- The rows of a status: the last word of each case spoken of, in the order of cases.
-use Rattle.std.specs.Prelude.{◌≡◌, ℕ, List, [], ◌∷◌, map, cond, Option, Some, None}
+use Rattle.std.specs.Prelude.{◌≡◌, ◌<◌, ℕ, List, [], ◌∷◌, length, map, cond, Option, Some, None}
 use Rattle.std.specs.Option.{option_or}
 use Rattle.std.specs.declared.cmp.Ordering.{Ordering}
 use Rattle.std.specs.Ordering.{nat_cmp, ordering_then, match_ordering, is_eq}
-use Rattle.std.specs.List.{slice_get}
+use Rattle.std.specs.List.{slice_get, Contains}
 use Rattle.std.specs.List.Sorted.{IsStrictlySortedBy}
-use Rattle.std.specs.Map.{keys_of}
+use Rattle.std.specs.Map.{keys_of, values_of}
 use Rattle.fm_entry.specs.declared.case_name.CaseName.{CaseName}
 use Rattle.fm_entry.specs.declared.list_event.ListEvent.{ListEvent}
 
@@ -27,10 +27,11 @@ AreRowsAt rows (entry ∷ entries) =
     ((row : ListEvent) × ((slice_get rows entry.1 ≡ Some row) × (entry.0 ≡ case_key row.case)))
     × AreRowsAt rows entries
 
--- rows in any order, with the places of their keys, which ascend
+-- rows in any order, each with the place of its key, and the keys ascend
 pub record ArePlacedRows (rows : List ListEvent) (entries : List ((ℕ × ℕ) × ℕ)) : Type 0 where
   pub ascend : IsStrictlySortedBy key_cmp (keys_of entries)
   pub are_at : AreRowsAt rows entries
+  pub have_places : (place : ℕ) → place < length rows → Contains (values_of entries) place
 
 -- a row where one was found, before others
 abbrev pub with_found : Option ListEvent → List ListEvent → List ListEvent

@@ -54,6 +54,7 @@ fn row_at(rows: &[ListEvent], place: usize) -> Option<&ListEvent>
 
 impl Status {
     /// No case was spoken of.
+    #[tactic(auto, using(crate::proofs::RowPlaces::no_rows))]
     pub fn new(alloc: Global) -> Status
         ensures { result ≡ [] }
     {
@@ -124,14 +125,14 @@ impl Status {
     }
 
     /// The resources that are wanted out of use.
+    #[tactic(auto, using(crate::proofs::WantedRows::paths_taken))]
     pub fn wanted(&self, alloc: Global) -> Result<Wanted, NoMemory>
         ensures { IfOk result (IsWantedOf self.now) }
     {
         let mut met = IndexSet::new(alloc);
-        'places: for place in self.places.values() {
-            if let Some(row) = row_at(self.rows.as_slice(), *place) {
-                put_paths(row, &mut met)?;
-            }
+        // as they stand, since their places in the order of cases lie all over the memory
+        'rows: for row in self.rows.as_slice() {
+            put_paths(row, &mut met)?;
         }
         Wanted::of(alloc, met)
     }
