@@ -1,12 +1,14 @@
 //! The program `bench_store`: a store over disks in memory with a given number of entries past its
-//! base, for the script bench/store.
+//! base, or a journal in a file, for the script bench/store.
 //!
 //! Its words are a step and the number: `open` opens the store with two modules that count reports;
 //! `drain` also lets both take all entries; `checkpoint` then moves the base, and `rotate` begins
-//! another error journal. It ends with status 0 where the store then tells what it should, with 1
-//! where not, and with 2 where the words are others.
+//! another error journal; `journal` opens the file `journal`, which has so many payloads. It ends
+//! with status 0 where the store, or the journal, then tells what it should, with 1 where not, and
+//! with 2 where the words are others.
 #![tactic(auto)]
 
+mod files;
 mod journals;
 mod stores;
 
@@ -55,6 +57,9 @@ fn run(rt: &HostRuntime) -> Result<Option<bool>, AllocError> {
     let Ok(count) = size.as_str().parse::<u32>() else {
         return Ok(None);
     };
+    if step.as_str() == "journal" {
+        return Ok(Some(files::is_opened(rt, count)));
+    }
     match told_after(rt.alloc(), step.as_str(), count)? {
         Some((found, wanted)) => Ok(Some(found == Some(wanted))),
         None => Ok(None),
