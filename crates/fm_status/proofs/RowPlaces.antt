@@ -371,7 +371,8 @@ nothing_there x c = absurd (omega (arith, c.1))
 
 pub first_or_later : (y : ℕ) (xs : List ℕ) (x : ℕ) → Contains (y ∷ xs) x → (y ≡ x) ⊎ Contains xs x
 first_or_later y xs x c =
-    ⊎_elim (λ one. ⊎_elim (λ none. nothing_there x none) (λ e. inl e) (Contains-push_cases [] y x one))
+    ⊎_elim (λ one. ⊎_elim (λ none. nothing_there x none) (λ e. inl e)
+    (Contains-push_cases [] y x one))
     (λ later. inr later)
     (Contains-append_cases (y ∷ []) xs x c)
 

@@ -27,7 +27,8 @@ invariant_of-self-in-None c =
     (is_added c.self.inside.rows.items c.push_reserved.new.self.items
     c.self.inside.places.entries c.insert.new.self.entries c.case_key-key.result c.len.result
     c.args.word c.args.word c.self.invariant c.case_key-key.ensures refl
-    (sym c.in-None.ensures.value) (c.len.ensures ∙ (c.reserve.ensures.len ∙ c.self.inside.rows.ok.0))
+    (sym c.in-None.ensures.value)
+    (c.len.ensures ∙ (c.reserve.ensures.len ∙ c.self.inside.rows.ok.0))
     (c.push_reserved.ensures.items
     ∙ ap (λ z. z ++ (c.args.word ∷ [])) c.reserve.ensures.items)
     c.in_ok-insert-in-None.ensures.entries c.insert.ensures.ordered).placed
@@ -37,7 +38,8 @@ returns-in_ok-insert-in-None-clause-ok c =
     (is_added c.self.inside.rows.items c.push_reserved.new.self.items
     c.self.inside.places.entries c.insert.new.self.entries c.case_key-key.result c.len.result
     c.args.word c.args.word c.self.invariant c.case_key-key.ensures refl
-    (sym c.in-None.ensures.value) (c.len.ensures ∙ (c.reserve.ensures.len ∙ c.self.inside.rows.ok.0))
+    (sym c.in-None.ensures.value)
+    (c.len.ensures ∙ (c.reserve.ensures.len ∙ c.self.inside.rows.ok.0))
     (c.push_reserved.ensures.items
     ∙ ap (λ z. z ++ (c.args.word ∷ [])) c.reserve.ensures.items)
     c.in_ok-insert-in-None.ensures.entries c.insert.ensures.ordered).values
