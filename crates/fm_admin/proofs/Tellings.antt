@@ -169,6 +169,7 @@ module _ {D M : Type 0} (g : Ghosts D) (m : ModuleGhosts M) where
     is_open = is;
     only = drain.only;
     no_failure = flt_stays g old mid drain.answer.open_still;
+    first_same = drain.first_same;
     at_end = drain.answer.at_end;
   }
 
@@ -182,6 +183,7 @@ module _ {D M : Type 0} (g : Ghosts D) (m : ModuleGhosts M) where
     is_open = ap (λ (l : LogsOf D). l.closed) reads.logs_are ∙ are.was_open;
     only = only_then old mid new drain.only (only_read g mid new reads same);
     no_failure = are.no_failure ∙ flt_stays g old mid drain.answer.open_still;
+    first_same = ap (λ (l : LogsOf D). l.flt.first) reads.logs_are ∙ drain.first_same;
     at_end = subst (λ (l : LogsOf D). AreAtEnd l) (sym reads.logs_are) drain.answer.at_end;
   }
 
