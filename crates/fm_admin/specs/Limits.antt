@@ -1,6 +1,6 @@
 -- The limits at which what an operator asks of a store stops, by the book of before.
-use Rattle.std.specs.Prelude.{◌≡◌, ◌⊎◌, ℕ, ◌<◌, ◌≤◌, ◌^◌, not, Some}
-use Rattle.fm_core.specs.Book.{Book, next_number}
+use Rattle.std.specs.Prelude.{◌≡◌, ◌⊎◌, ◌<◌, ◌≤◌, ◌^◌, not, Some}
+use Rattle.fm_core.specs.Book.{next_number}
 use Rattle.fm_core.specs.Drained.{drained}
 use Rattle.fm_drain.specs.DrainLimits.{DrainIsFull}
 use Rattle.fm_entry.specs.Entries.{entry_bytes}
@@ -42,8 +42,8 @@ abbrev pub TakeLimit : {D M : Type 0} → StoreOf D M → StoreBook → Entry �
 TakeLimit store k e (Full kind) = TakeIsFull store k e kind
 TakeLimit _ _ _ _ = Unit {0}
 
--- The entry that an operator's word comes to, by the drained book, reaches this limit as it is taken
--- by a book that the one of before comes to by draining.
+-- The entry that an operator's word comes to, by the drained book, reaches this limit as it is
+-- taken by a book that the one of before comes to by draining.
 pub record RepairEntryIsFull {D M : Type 0} (store : StoreOf D M) (k : StoreBook)
     (order : RepairOrder) (kind : FullKind) : Type 0 where
   pub entry : Entry
@@ -53,7 +53,8 @@ pub record RepairEntryIsFull {D M : Type 0} (store : StoreOf D M) (k : StoreBook
   pub full : TakeIsFull store now entry kind
 
 -- where a repair stops at a limit, the drain before it reaches it, or else its entry does
-abbrev pub RepairLimit : {D M : Type 0} → StoreOf D M → StoreBook → RepairOrder → StoreFault → Type 0
+abbrev pub RepairLimit : {D M : Type 0} → StoreOf D M → StoreBook → RepairOrder → StoreFault
+    → Type 0
 RepairLimit store k order (Full kind) =
     DrainIsFull store.logs.flt.first k.book kind ⊎ RepairEntryIsFull store k order kind
 RepairLimit _ _ _ _ = Unit {0}

@@ -72,10 +72,11 @@ pub record StandsRotated {D M : Type 0} (g : Ghosts D) (fresh : List ModuleState
   pub stands : StoreStandsFor g fresh new based
   pub based_is : IsBasedOf k based
 
--- What becomes of a book that the hands follow; a limit that is told is one of the book. Each crash,
--- now or at a moment since, leaves contents that read like the book, whatever is answered: first
--- while the fault log's disk alone is worked on, which is that of `after_drain` then, next while the
--- disk of the other error journal is, up to `after_making`, and at last while a slot's is.
+-- What becomes of a book that the hands follow. A limit that is told is one of the book. Each
+-- crash, now or at a moment since, leaves contents that read like the book, whatever is answered:
+-- first while the fault log's disk alone is worked on, which is that of `after_drain` then, next
+-- while the disk of the other error journal is, up to `after_making`, and at last while a slot's
+-- is.
 pub record RotatesDrained {D M : Type 0} (g : Ghosts D) (fresh : List ModuleState)
     (old new : StoreOf D M) (k : StoreBook) (result : Result ℕ StoreFault) : Type 0 where
   pub done : OnOk result (StandsRotated g fresh new k)

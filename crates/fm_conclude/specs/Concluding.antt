@@ -86,10 +86,10 @@ pub record StandsConcluded {D M : Type 0} (g : Ghosts D) (fresh : List ModuleSta
   pub based_is : IsBasedOf k based
   pub tells : TellsOf (drained k.book) told
 
--- What becomes of a book that the hands follow; a limit that is told is one of the book. Each crash,
--- now or at a moment since, leaves contents that read like the book, whatever is answered: first
--- while the fault log's disk alone is worked on, which is that of `after_drain` then, next while a
--- slot's alone is, up to `after_base`, and at last while the fault log's disk is read.
+-- What becomes of a book that the hands follow. A limit that is told is one of the book. Each
+-- crash, now or at a moment since, leaves contents that read like the book, whatever is answered:
+-- first while the fault log's disk alone is worked on, which is that of `after_drain` then, next
+-- while a slot's alone is, up to `after_base`, and at last while the fault log's disk is read.
 pub record ConcludesBook {D M : Type 0} (g : Ghosts D) (fresh : List ModuleState)
     (old new : StoreOf D M) (k : StoreBook) (result : Result Conclusion StoreFault) : Type 0 where
   pub done : IfOk result (StandsConcluded g fresh new k)

@@ -1,7 +1,7 @@
 -- A step that has no room in the fault log, as a step of the book.
 use Rattle.std.proofs.Common.{◌≡◌, inl, inr, ℕ, ◌+◌, ◌-◌, ◌<◌, ◌≤◌, ◌^◌, List, [], ◌∷◌, ◌++◌}
-use Rattle.std.proofs.Common.{length, map, Option, Some, None, Err, refl, sym, ◌∙◌, ap, subst, arith}
-use Rattle.std.proofs.Common.{length-append}
+use Rattle.std.proofs.Common.{length, map, Option, Some, None, Err, refl, sym, ◌∙◌, ap, subst}
+use Rattle.std.proofs.Common.{arith, length-append}
 use Rattle.std.specs.List.{slice_get}
 use Rattle.fm_bytes.specs.Numbers.{u32_bytes, u64_bytes, counted_bytes}
 use Rattle.fm_outer.specs.declared.disk.Disk.{Ghosts}
@@ -11,12 +11,11 @@ use Rattle.fm_entry.specs.declared.entry.Entry.{Entry}
 use Rattle.fm_entry.specs.declared.list_event.ListEvent.{ListEvent}
 use Rattle.fm_entry.specs.declared.spoken.Spoken.{Spoken}
 use Rattle.fm_core.specs.Book.{Book, ModuleState, worked}
-use Rattle.fm_core.specs.Hands.{HandOf, shown, stepped, spoken_at}
+use Rattle.fm_core.specs.Hands.{HandOf, shown, spoken_at}
 use Rattle.fm_core.specs.Outcome.{kept_of, kept_record}
 use Rattle.fm_core.specs.Seen.{FollowsAs}
 use Rattle.fm_core.specs.declared.module.Module.{Ghosts as ModuleGhosts}
 use Rattle.fm_journal.specs.Causes.{refused}
-use Rattle.fm_journal.specs.Format.{end_of}
 use Rattle.fm_journal.specs.JournalOf.{JournalOf}
 use Rattle.fm_journal.specs.Keeps.{Keeps}
 use Rattle.fm_journal.specs.declared.fault.FullKind.{FullKind}

@@ -1,11 +1,10 @@
 -- The limits of a drain and of the checkpoint that follows it, from those of the store.
-use Rattle.std.proofs.Common.{◌≡◌, inl, inr, ℕ, ◌+◌, ◌<◌, ◌≤◌, ◌^◌, Bool, List, length, map, Option}
-use Rattle.std.proofs.Common.{Some, Result, Ok, Err, IfErr, refl, sym, ◌∙◌, ap, subst, arith}
-use Rattle.std.specs.List.{slice_get}
+use Rattle.std.proofs.Common.{◌≡◌, inl, inr, ℕ, ◌+◌, ◌<◌, ◌^◌, Bool, List, length, map, Some}
+use Rattle.std.proofs.Common.{Result, Ok, Err, IfErr, sym, ◌∙◌, ap, subst, arith}
 use Rattle.std.proofs.lemmas.List.{length-map}
 use Rattle.std.proofs.lemmas.Option.{slice_get_within}
 use Rattle.fm_outer.specs.declared.disk.Disk.{Ghosts}
-use Rattle.fm_core.specs.Book.{Book, ModuleState, next_number, greatest_from, state_at}
+use Rattle.fm_core.specs.Book.{Book, ModuleState, next_number, greatest_from}
 use Rattle.fm_core.specs.Drained.{ended}
 use Rattle.fm_core.specs.Folds.{state_along}
 use Rattle.fm_core.specs.Hands.{HandOf, shown}
@@ -15,7 +14,6 @@ use Rattle.fm_core.specs.declared.module.Module.{Ghosts as ModuleGhosts}
 use Rattle.fm_core.proofs.Lists.{map_get, map_got, same_list}
 use Rattle.fm_entry.specs.declared.entry.Entry.{Entry}
 use Rattle.fm_journal.specs.declared.fault.FullKind.{FullKind}
-use Rattle.fm_journal.specs.declared.fault.FullKind.TheVariants.{Payload}
 use Rattle.fm_logs.specs.StoreBook.{StoreBook, force_along}
 use Rattle.fm_logs.specs.declared.fault.StoreFault.{StoreFault}
 use Rattle.fm_logs.specs.declared.fault.StoreFault.TheVariants.{Disk, Full, Closed, NoMemory}
@@ -101,7 +99,8 @@ module _ {D M : Type 0} (g : Ghosts D) (m : ModuleGhosts M) where
       (greatest_from mid.base.moment mid.logs.entries)
       (force_along mid.base.in_force mid.logs.entries) (saves_of m now)) base
       ∙ ap (λ (es : List Entry). checkpoint_of second (k.book.base + length es)
-      (greatest_from mid.base.moment es) (force_along mid.base.in_force es) (saves_of m now)) entries
+      (greatest_from mid.base.moment es) (force_along mid.base.in_force es) (saves_of m now))
+      entries
       ∙ ap (λ (n : ℕ). checkpoint_of second (k.book.base + length k.book.entries)
       (greatest_from n k.book.entries) (force_along mid.base.in_force k.book.entries)
       (saves_of m now)) moment

@@ -107,10 +107,10 @@ pub record StandsAtBase {D M : Type 0} (g : Ghosts D) (m : ModuleGhosts M)
 
 -- What becomes of a book that the hands follow: modules are worked, and after Ok the store stands
 -- for the book after these works with its base at its end, where the hands are done. After a
--- refusal it stands for the book after the works, unless it was closed since; a limit that is told
--- is one of the book. Each crash, now or at a moment since, leaves contents that read like the book:
--- first while the fault log's disk alone is worked on, which is that of `after_drain` then, and then
--- while a slot's alone is.
+-- refusal it stands for the book after the works, unless it was closed since. A limit that is told
+-- is one of the book. Each crash, now or at a moment since, leaves contents that read like the
+-- book: first while the fault log's disk alone is worked on, which is that of `after_drain` then,
+-- and then while a slot's alone is.
 pub record ToBaseOnBook {D M : Type 0} (g : Ghosts D) (m : ModuleGhosts M)
     (fresh : List ModuleState) (old new : StoreOf D M) (k : StoreBook) (now : List (HandOf M))
     (result : Result Unit StoreFault) : Type 0 where
