@@ -285,24 +285,24 @@ module _ {D M : Type 0} (g : Ghosts D) (m : ModuleGhosts M) where
       (fault : StoreFault) → WasDrained g old mid → IsDrainedOf k w
       → IsEntryBy order.namespace order.moment order.repair (drained k.book) (Some e)
       → TakeLimit mid w e fault → RepairLimit old k order fault
-  take_limit old mid k w order e (Full kind) drained is entry limit =
+  take_limit old mid k w order e (Full kind) was is found limit =
       inr (record {
         entry = e;
-        entry_is = entry;
+        entry_is = found;
         now = w;
         drained_is = is;
         full = elim limit [
           | inl journal ↦ inl (subst (λ (j : JournalOf D). CannotTake j (entry_bytes e) kind)
-              (ap (λ (s : StoreOf D M). s.logs.active) drained.only) journal)
+              (ap (λ (s : StoreOf D M). s.logs.active) was.only) journal)
           | inr log ↦ inr (subst (λ (n : ℕ). DrainIsFull n (store_accepted w e).book kind)
-              drained.first_same log)
+              was.first_same log)
         ];
       })
-  take_limit old mid k w order e (Closed name failures) drained is entry limit = tt
-  take_limit old mid k w order e Disk drained is entry limit = tt
-  take_limit old mid k w order e NoMemory drained is entry limit = tt
-  take_limit old mid k w order e (Damaged name place) drained is entry limit = tt
-  take_limit old mid k w order e Exists drained is entry limit = tt
+  take_limit old mid k w order e (Closed name failures) was is found limit = tt
+  take_limit old mid k w order e Disk was is found limit = tt
+  take_limit old mid k w order e NoMemory was is found limit = tt
+  take_limit old mid k w order e (Damaged name place) was is found limit = tt
+  take_limit old mid k w order e Exists was is found limit = tt
 
   -- the look for an entry was refused
   pub look_refused : {X : Type 0} (fresh : List ModuleState) (old mid : StoreOf D M)
