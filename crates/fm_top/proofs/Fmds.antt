@@ -6,7 +6,7 @@ use Rattle.std.specs.List.{slice_get}
 use Rattle.std.specs.Prelude.{MatchResult}
 use Rattle.std.proofs.lemmas.List.{length-map}
 use Rattle.dx_engine.specs.Diagnosers.{DiagnoserOf}
-use Rattle.fm_conclude.specs.Concluding.{ConcludesBook}
+use Rattle.fm_conclude.specs.Concluding.{ConcludesBook, IsConcluded}
 use Rattle.fm_conclude.specs.declared.concluding.Conclusion.{Conclusion}
 use Rattle.fm_core.specs.Book.{ModuleState}
 use Rattle.fm_core.specs.Hands.{HandOf, shown}
@@ -48,9 +48,10 @@ use Rattle.fm_summary.specs.DrainedSummary.{diagnosers}
 use Rattle.fm_top.specs.Accepting.{AcceptedAll, DisksAccount}
 use Rattle.fm_top.specs.Accounts.{Accounts}
 use Rattle.fm_top.specs.Answers.{entries_of}
-use Rattle.fm_top.specs.Fmd.{ConcludingStops, KeepSame, StoreConcluded}
+use Rattle.fm_top.specs.Fmd.{ConcludingStops, DrainedFrom, KeepSame, StoreConcluded}
 use Rattle.fm_top.specs.Fmd.{StoreDiffers, StoreRan, StoreStops}
 use Rattle.fm_top.specs.FmdStore.{StoreFinished, StoreHalts, StoreIsOther, StoreWorks}
+use Rattle.fm_top.specs.Headline.{HoldsOfBook}
 use Rattle.fm_top.specs.Kept.{BookAt, IsAsRead}
 use Rattle.fm_top.specs.Outside.{SourceAt, SinkAt, Tells, Leaves, disks_at}
 use Rattle.fm_top.specs.Recording.{store_with, Recorded}
@@ -190,6 +191,67 @@ unopened_ran g disks disks_now got input out fault refused read = record {
   counts_disks = opening_account g Conclusion disks disks_now fault refused;
 }
 
+-- ---- a store that took entries and was concluded
+
+-- what a conclusion makes of each book that the store stood for then
+abbrev pub ConcludesSo : {D : Type 0} → Ghosts D → StoreOf D DiagnoserOf → StoreOf D DiagnoserOf
+    → List (HandOf DiagnoserOf) → Result Conclusion StoreFault → Type 0
+ConcludesSo g between new hands answer = (fresh : List ModuleState) (k : StoreBook)
+    → StoreStandsFor g fresh between k → AllFollow diagnosers k.book hands
+    → ConcludesBook g fresh between new k answer
+
+module _ {D : Type 0} (g : Ghosts D) (first between new : StoreOf D DiagnoserOf)
+    (hands : List (HandOf DiagnoserOf)) (conf : Conf) (entries : List Entry)
+    (took : Recorded g first between entries None) where
+  pub took_concludes : (answer : Result Conclusion StoreFault)
+      → ConcludesSo g between new hands answer → (told : Contents)
+      → (at : OpenAt g first hands conf told)
+      → ConcludesBook g at.stood.fresh between new (store_with at.stood.book entries) answer
+  took_concludes answer book told at =
+      book at.stood.fresh (store_with at.stood.book entries)
+      (took.book at.stood.fresh at.stood.book at.stands)
+      (follow_with at.stood.book entries hands at.follow)
+
+  pub drained_from : (conclusion : Conclusion) → IsConcluded between new
+      → ConcludesSo g between new hands (Ok conclusion) → (disks_now : Disks D)
+      → AreDisksOf new disks_now → (told : Contents) → OpenAt g first hands conf told
+      → HoldsOfBook told (DrainedFrom told (disks_at g disks_now) entries conclusion.summary.items
+      conclusion.wanted)
+  drained_from conclusion done book disks_now are told one =
+      let left_of : (image : Contents) → Leaves (disks_at g disks_now) image
+      → StoreIsLeft g new image =
+      λ image leaves name.
+      subst (λ (d : D). g.images d (content_named name image)) (sym (are name))
+      (images_all g disks_now image leaves name) in record {
+        stood = one.stood;
+        each = λ stood.
+            let same : (one.stood.fresh ≡ stood.fresh) × (one.stood.book ≡ stood.book) =
+            same_book told one.stood stood in
+            let at : OpenAt g first hands conf told = record {
+              stood = stood;
+              stands = subst (λ (ms : List ModuleState). StoreStandsFor g ms first stood.book) same.0
+                  (subst (λ (k : StoreBook). StoreStandsFor g one.stood.fresh first k) same.1
+                  one.stands);
+              follow = subst (λ (k : StoreBook). AllFollow diagnosers k.book hands) same.1
+                  one.follow;
+              in_force = subst
+                  (λ (k : StoreBook). slice_get k.confs (force_now k) ≡ Some conf) same.1
+                  one.in_force;
+            } in
+            let ends = (took_concludes (Ok conclusion) book told at).done in record {
+              left = λ image leaves. record {
+                read = store_floored ends.based;
+                reads = reads_floored g stood.fresh new ends.based ends.stands image
+                    (left_of image leaves);
+                based_is = floored_based (store_with stood.book entries) ends.based ends.based_is;
+              };
+              exact = exact_with g told stood between new entries
+                  (took.book stood.fresh stood.book at.stands) done;
+              summary_is = ends.tells.summary;
+              wanted_are = ends.tells.wanted;
+            };
+      }
+
 -- ---- the whole work on a store
 
 module _ {D : Type 0} (g : Ghosts D)
@@ -221,10 +283,8 @@ module _ {D : Type 0} (g : Ghosts D)
         → ConcludesBook g at.stood.fresh finished.between new
         (store_with at.stood.book (entries_of (lines_of finished.ran.read))) answer
     concludes told at =
-        finished.book at.stood.fresh
-        (store_with at.stood.book (entries_of (lines_of finished.ran.read)))
-        (finished.ran.took.book at.stood.fresh at.stood.book at.stands)
-        (follow_with at.stood.book (entries_of (lines_of finished.ran.read)) hands at.follow)
+        took_concludes g first finished.between new hands conf
+        (entries_of (lines_of finished.ran.read)) finished.ran.took answer finished.book told at
 
     accepted_all : AcceptedAll input input_now out out_now (disks_at g disks) (disks_at g disks_now)
     accepted_all = record {
@@ -252,37 +312,10 @@ module _ {D : Type 0} (g : Ghosts D)
   concluded conclusion same finished = record {
     same = as_kept same;
     accepted = accepted_all (Ok conclusion) finished;
-    drains = λ told tells. let one = at_told told tells in record {
-      stood = one.stood;
-      each = λ book.
-          let same : (one.stood.fresh ≡ book.fresh) × (one.stood.book ≡ book.book) =
-          same_book told one.stood book in
-          let at : OpenAt g first hands conf told = record {
-            stood = book;
-            stands = subst (λ (ms : List ModuleState). StoreStandsFor g ms first book.book) same.0
-                (subst (λ (k : StoreBook). StoreStandsFor g one.stood.fresh first k) same.1
-                one.stands);
-            follow = subst (λ (k : StoreBook). AllFollow diagnosers k.book hands) same.1 one.follow;
-            in_force = subst
-                (λ (k : StoreBook). slice_get k.confs (force_now k) ≡ Some conf) same.1
-                one.in_force;
-          } in
-          let done = (concludes (Ok conclusion) finished told at).done in record {
-            left = λ image leaves. record {
-              read = store_floored done.based;
-              reads = reads_floored g book.fresh new done.based done.stands image
-                  (left_of image leaves);
-              based_is = floored_based
-                  (store_with book.book (entries_of (lines_of finished.ran.read))) done.based
-                  done.based_is;
-            };
-            exact = exact_with g told book finished.between new
-                (entries_of (lines_of finished.ran.read))
-                (finished.ran.took.book book.fresh book.book at.stands) finished.concluded;
-            summary_is = done.tells.summary;
-            wanted_are = done.tells.wanted;
-          };
-    };
+    drains = λ told tells.
+        drained_from g first finished.between new hands conf
+        (entries_of (lines_of finished.ran.read)) finished.ran.took conclusion finished.concluded
+        finished.book disks_now are told (at_told told tells);
   }
 
   -- why the store was not concluded

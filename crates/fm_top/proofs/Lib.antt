@@ -15,6 +15,8 @@ pub mod Explains
 pub mod FmdDoing
 pub mod Fmds
 pub mod Feeding
+pub mod GenerateDoing
+pub mod Generates
 pub mod Halts
 pub mod Headlines
 pub mod Inits
@@ -36,6 +38,7 @@ pub mod Standing
 pub mod Stopping
 pub mod Summaries
 pub mod Tallies
+pub mod Taking
 pub mod TasksDone
 pub mod Texts
 pub mod Wanting

@@ -1,5 +1,6 @@
 -- From an open store that a task is done with to what its disks hold.
 use Rattle.std.proofs.Common.{◌≡◌, ℕ, List, Some, Result, Ok, Err, refl, subst}
+use Rattle.std.specs.Global.{Vec}
 use Rattle.std.proofs.Common.{sym}
 use Rattle.dx_engine.specs.Diagnosers.{DiagnoserOf}
 use Rattle.fm_admin.specs.declared.repairing.Repaired.{Repaired as RepairedEntry}
@@ -19,6 +20,7 @@ use Rattle.fm_store.specs.StoreOf.{StoreOf}
 use Rattle.fm_top.specs.Accepting.{AcceptRan}
 use Rattle.fm_top.specs.Accounts.{Accounts}
 use Rattle.fm_top.specs.Fmd.{StoreRan}
+use Rattle.fm_top.specs.Generate.{GenerateTried, LinesTried}
 use Rattle.fm_top.specs.Outside.{SourceAt, SinkAt, DisksAt, disks_at}
 use Rattle.fm_top.specs.Repair.{RepairTried}
 use Rattle.fm_top.specs.RepairEntry.{RepairAsked}
@@ -28,11 +30,14 @@ use Rattle.fm_top.specs.declared.stops.Stop.{Stop}
 use Rattle.fm_top.specs.declared.stops.Stop.TheVariants.{Read, Write}
 use Rattle.fm_top.specs.declared.tasks.StoreTask.{StoreTask}
 use Rattle.fm_top.specs.declared.tasks.StoreTask.TheVariants.{Accept, Fmd, Admin, Repair, Explain}
+use Rattle.fm_top.specs.declared.tasks.StoreTask.TheVariants.{Generate, GeneratedLines}
 use Rattle.fm_top.specs.declared.tasks.TaskDone.{TaskDone}
 use Rattle.fm_top.specs.declared.tasks.TaskDone.TheVariants.{Nothing, Concluded, Text, Repaired}
 use Rattle.fm_top.proofs.Accepts.{not_opened, opened_ran}
 use Rattle.fm_top.proofs.Explains.{explain_halted, explain_tried, explain_unopened}
 use Rattle.fm_top.proofs.Fmds.{OpenAt, unopened_ran, worked_ran}
+use Rattle.fm_top.proofs.Generates.{generate_halted, generate_tried, generate_unopened}
+use Rattle.fm_top.proofs.Generates.{lines_halted, lines_tried, lines_unopened}
 use Rattle.fm_top.proofs.Repairs.{repair_halted, repair_tried, repair_unopened}
 use Rattle.fm_top.proofs.Texts.{asked_told, asked_untold, unopened_asked}
 
@@ -60,6 +65,10 @@ task_unopened g disks disks_now (Repair asked) input out fault refused read =
     (refl, repair_unopened g disks disks_now asked fault refused read)
 task_unopened g disks disks_now (Explain uuid) input out fault refused read =
     (refl, explain_unopened g disks disks_now uuid fault refused read)
+task_unopened g disks disks_now (Generate number) input out fault refused read =
+    (refl, generate_unopened g disks disks_now number fault refused read)
+task_unopened g disks disks_now (GeneratedLines number) input out fault refused read =
+    (refl, lines_unopened g disks disks_now number fault refused read)
 
 module _ {D : Type 0} (g : Ghosts D)
     (seen_is_image : (disk : D) (c : List ℕ) → g.seen disk ≡ Some c → g.images disk c)
@@ -112,6 +121,19 @@ module _ {D : Type 0} (g : Ghosts D)
     does.1,
     explain_halted g disks disks_now first new hands conf uuid kept opened are stop does.2,
   )
+  task_ran (Generate number) (Ok (Concluded conclusion)) does counts_input counts_out = (
+    does.1,
+    generate_tried g disks disks_now first new hands conf number kept opened are conclusion does.2,
+  )
+  task_ran (Generate number) (Err stop) does counts_input counts_out = (
+    does.1,
+    generate_halted g disks disks_now first new hands conf number kept opened are seen_is_image
+        read stop does.2,
+  )
+  task_ran (GeneratedLines number) (Ok (Text text)) does counts_input counts_out =
+      (does.1, lines_tried g disks disks_now first new hands conf number kept opened are text does.2)
+  task_ran (GeneratedLines number) (Err stop) does counts_input counts_out =
+      (does.1, lines_halted g disks disks_now first new hands conf number kept opened are stop does.2)
   task_ran _ _ does counts_input counts_out = absurd does
 
 -- ---- what a command takes of it
@@ -147,3 +169,32 @@ repair_did asked (Concluded conclusion) one input input_now out out_now disks di
 repair_did asked (Repaired found) one input input_now out out_now disks disks_now is ran =
     subst (λ done. TaskRan (Repair asked) input input_now out out_now disks disks_now (Ok done)) is
     ran
+
+pub generate_did : (number : ℕ) (done : TaskDone) (conclusion : Conclusion)
+    (input input_now : SourceAt) (out out_now : SinkAt) (disks disks_now : DisksAt)
+    → done ≡ Concluded conclusion
+    → TaskRan (Generate number) input input_now out out_now disks disks_now (Ok done)
+    → (out_now ≡ out) × GenerateTried number disks disks_now (Ok conclusion)
+generate_did number Nothing conclusion input input_now out out_now disks disks_now is ran =
+    absurd ran
+generate_did number (Text text) conclusion input input_now out out_now disks disks_now is ran =
+    absurd ran
+generate_did number (Repaired one) conclusion input input_now out out_now disks disks_now is ran =
+    absurd ran
+generate_did number (Concluded found) conclusion input input_now out out_now disks disks_now is ran =
+    subst (λ done. TaskRan (Generate number) input input_now out out_now disks disks_now (Ok done))
+    is ran
+
+pub lines_did : (number : ℕ) (done : TaskDone) (text : Vec ℕ)
+    (input input_now : SourceAt) (out out_now : SinkAt) (disks disks_now : DisksAt)
+    → done ≡ Text text
+    → TaskRan (GeneratedLines number) input input_now out out_now disks disks_now (Ok done)
+    → (out_now ≡ out) × LinesTried number disks disks_now (Ok text.items)
+lines_did number Nothing text input input_now out out_now disks disks_now is ran = absurd ran
+lines_did number (Concluded one) text input input_now out out_now disks disks_now is ran =
+    absurd ran
+lines_did number (Repaired one) text input input_now out out_now disks disks_now is ran = absurd ran
+lines_did number (Text found) text input input_now out out_now disks disks_now is ran =
+    subst
+    (λ done. TaskRan (GeneratedLines number) input input_now out out_now disks disks_now (Ok done))
+    is ran

@@ -7,6 +7,7 @@ use Rattle.fm_top.specs.Ending.{EndsAs}
 use Rattle.fm_top.specs.Esc.{EscEnds, EscInputEnds}
 use Rattle.fm_top.specs.Explain.{ExplainRan}
 use Rattle.fm_top.specs.Fmd.{FmdRan}
+use Rattle.fm_top.specs.Generate.{GenerateRan, LinesRan}
 use Rattle.fm_top.specs.Order.{Goes, looks, world_of}
 use Rattle.fm_top.specs.Headline.{Headline}
 use Rattle.fm_top.specs.Init.{InitRan}
@@ -21,6 +22,7 @@ use Rattle.fm_top.specs.declared.stops.Stop.TheVariants.{Usage, Read, Write, Dis
 use Rattle.fm_top.specs.declared.words.Command.{Command}
 use Rattle.fm_top.specs.declared.words.Command.TheVariants.{Accept, Fmd, Replay, Init, Esc}
 use Rattle.fm_top.specs.declared.words.Command.TheVariants.{EscInput, Admin, Repair, Explain}
+use Rattle.fm_top.specs.declared.words.Command.TheVariants.{Generate, GeneratedLines}
 
 -- EACH FAULT OF THE OUTSIDE, one line a fault: it comes only where a count of that kind rose
 abbrev pub IsCaused : Outside → Outside → Stop → Type 0
@@ -48,6 +50,10 @@ Did (Repair asked) before after ran =
     RepairRan asked before.acts after.acts before.out after.out before.disks after.disks ran
 Did (Explain uuid) before after ran =
     ExplainRan uuid before.out after.out before.disks after.disks ran
+Did (Generate number) before after ran =
+    GenerateRan number before.acts after.acts before.out after.out before.disks after.disks ran
+Did (GeneratedLines number) before after ran =
+    LinesRan number before.out after.out before.disks after.disks ran
 
 -- a command ran, up to its last line
 pub record Ran (command : Command) (before after : Outside) (ran : Result (Unit {0}) Stop) : Type 0
@@ -90,6 +96,8 @@ WorksOn (Some EscInput) old new = new ≡ record old { input = new.input }
 WorksOn (Some (Admin asked)) old new = new ≡ record old { disks = new.disks }
 WorksOn (Some (Repair asked)) old new = new ≡ record old { disks = new.disks; acts = new.acts }
 WorksOn (Some (Explain uuid)) old new = new ≡ record old { disks = new.disks }
+WorksOn (Some (Generate number)) old new = new ≡ record old { disks = new.disks; acts = new.acts }
+WorksOn (Some (GeneratedLines number)) old new = new ≡ record old { disks = new.disks }
 WorksOn (Some (Init namespace)) old new =
     new ≡ record old {
       rules = new.rules;

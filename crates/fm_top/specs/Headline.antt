@@ -1,12 +1,15 @@
 -- The headline at the top call: what a crash leaves of a store, whatever a call ends with.
-use Rattle.std.specs.Prelude.{◌≡◌, ◌⊎◌, ℕ, ◌≤◌, List, ◌++◌, true, length, take, Result, MatchResult}
+use Rattle.std.specs.Prelude.{◌≡◌, ◌⊎◌, ℕ, ◌+◌, ◌≤◌, List, ◌++◌, true, length, take, Result}
+use Rattle.std.specs.Prelude.{MatchResult}
 use Rattle.std.specs.Prelude.{OnOk, Ok, Err}
 use Rattle.std.specs.Io.KnownBytes.{Appends, Consumes, IsAtEnd}
 use Rattle.fm_core.specs.Book.{next_number}
+use Rattle.fm_entry.specs.declared.entry.Entry.{Entry}
 use Rattle.fm_line.specs.Lines.{lines_of}
 use Rattle.fm_logs.specs.Contents.{Contents}
-use Rattle.fm_store.specs.StoreLeft.{ReadsLike}
+use Rattle.fm_store.specs.StoreLeft.{ReadsLike, ReadsLikeEither}
 use Rattle.fm_top.specs.Answers.{answers, entries_of}
+use Rattle.fm_top.specs.GenerateStart.{AreGeneratedAt}
 use Rattle.fm_top.specs.Kept.{BookAt}
 use Rattle.fm_top.specs.Outside.{Outside, DisksAt, Tells, Leaves}
 use Rattle.fm_top.specs.Recording.{store_with}
@@ -16,7 +19,7 @@ use Rattle.fm_top.specs.declared.stops.Stop.{Stop}
 use Rattle.fm_top.specs.declared.words.Command.{Command}
 use Rattle.fm_top.specs.declared.stops.Stop.TheVariants.{Act, NotFaulty}
 use Rattle.fm_top.specs.declared.words.Command.TheVariants.{Accept, Fmd, Init, Admin, Repair}
-use Rattle.fm_top.specs.declared.words.Command.TheVariants.{Explain}
+use Rattle.fm_top.specs.declared.words.Command.TheVariants.{Explain, Generate, GeneratedLines}
 
 -- Of these lines all but the last one at most were answered whole, and what was put is a front of
 -- their answers: so whoever was told `ok` has the entry among theirs. `next` is the number of the
@@ -124,6 +127,33 @@ pub record HeldRepair (before after : Outside) (asked : RepairAsked) (told : Con
   pub left : (image : Contents) → Leaves after.disks image
       → HasRepaired before after asked told stood image ran
 
+-- each image has all that a number generates
+pub record HasGenerated (number : ℕ) (told : Contents) (after : DisksAt) (stood : BookAt told)
+    : Type 0 where
+  pub entries : List Entry
+  pub are : AreGeneratedAt number stood entries
+  pub left : (image : Contents) → Leaves after image
+      → ReadsLike stood.fresh (store_with stood.book entries) image
+
+-- each image has the first of it: so many, or one more
+pub record HasFirst (number : ℕ) (told : Contents) (after : DisksAt) (stood : BookAt told)
+    : Type 0 where
+  pub entries : List Entry
+  pub are : AreGeneratedAt number stood entries
+  pub count : ℕ
+  pub left : (image : Contents) → Leaves after image
+      → ReadsLikeEither stood.fresh (store_with stood.book (take count entries))
+      (store_with stood.book (take (count + 1) entries)) image
+
+-- Of a run on generated entries: where all is done, or an actuator failed at the end, with all of
+-- them; else like the book, or with the first of them.
+abbrev pub HeldGenerated : ℕ → (told : Contents) → DisksAt → Result (Unit {0}) Stop → BookAt told
+    → Type 0
+HeldGenerated number told after (Ok done) stood = HasGenerated number told after stood
+HeldGenerated number told after (Err (Act index)) stood = HasGenerated number told after stood
+HeldGenerated number told after (Err _) stood =
+    LikeBook told after stood ⊎ HasFirst number told after stood
+
 -- THE HEADLINE, one line a command
 abbrev pub Headline : Command → Outside → Outside → Result (Unit {0}) Stop → Type 0
 Headline Accept before after ran =
@@ -141,7 +171,14 @@ Headline (Repair asked) before after ran =
     Unopened before after ran
     ⊎ ((told : Contents) → Tells before.disks told
     → HoldsOfBook told (HeldRepair before after asked told ran))
+Headline (Generate number) before after ran =
+    Unopened before after ran
+    ⊎ ((told : Contents) → Tells before.disks told
+    → HoldsOfBook told (HeldGenerated number told after.disks ran))
 Headline (Explain uuid) before after ran =
+    Unopened before after ran
+    ⊎ ((told : Contents) → Tells before.disks told → HoldsOfBook told (LikeBook told after.disks))
+Headline (GeneratedLines number) before after ran =
     Unopened before after ran
     ⊎ ((told : Contents) → Tells before.disks told → HoldsOfBook told (LikeBook told after.disks))
 Headline (Init namespace) before after ran =

@@ -14,6 +14,8 @@ pub mod Explain
 pub mod ExplainedRow
 pub mod Fmd
 pub mod FmdStore
+pub mod Generate
+pub mod GenerateStart
 pub mod Halting
 pub mod Headline
 pub mod Init

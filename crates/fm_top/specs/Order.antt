@@ -18,6 +18,7 @@ use Rattle.fm_sources.specs.declared.faults.SourceFault.TheVariants as faults
 use Rattle.fm_sources.specs.declared.files.RuleFile.{RuleFile}
 use Rattle.fm_sources.specs.declared.sources.Sources.{Sources}
 use Rattle.fm_init.specs.Making.{HasStore}
+use Rattle.fm_journal.specs.declared.fault.FullKind.TheVariants.{Numbers}
 use Rattle.fm_topo.specs.Topology.{Topology as PartSet}
 use Rattle.fm_topo.specs.declared.faults.TopoKind.{TopoKind}
 use Rattle.fm_top.specs.declared.stops.Stop.{Stop}
@@ -28,7 +29,9 @@ use Rattle.fm_top.specs.declared.stops.Stop.TheVariants.{NotFound}
 use Rattle.fm_top.specs.declared.words.Command.{Command}
 use Rattle.fm_top.specs.declared.words.Command.TheVariants.{Accept, Fmd, Replay, Init, Esc}
 use Rattle.fm_top.specs.declared.words.Command.TheVariants.{EscInput, Admin, Repair, Explain}
+use Rattle.fm_top.specs.declared.words.Command.TheVariants.{Generate, GeneratedLines}
 use Rattle.fm_top.specs.ExplainedRow.{HasNoRow}
+use Rattle.fm_top.specs.GenerateStart.{BeginsEarly, BeginsLate}
 use Rattle.fm_top.specs.Kept.{BookAt, FirstDamage, KeepsAsRead, KeepsOther}
 use Rattle.fm_top.specs.Outside.{Outside, SourceAt, disk_by_name, given_of, standing}
 use Rattle.fm_top.specs.RepairEntry.{MarksNothing, RepairAsked}
@@ -57,7 +60,8 @@ AreContents w told = (name : DiskName) → w.disks name ≡ Some (content_named 
 
 -- a look: at the rule files, at the topology, at what the files come to over it, at the compiled
 -- files of the input, whether there is a store, at the whole store, whether what it keeps is what
--- was read, whether what an operator says marks a suspect, and whether a case has a UUID
+-- was read, whether what an operator says marks a suspect, whether a case has a UUID, and whether
+-- entries can be generated from the greatest moment on
 pub data Look : Type 0 where
   at_rules : Look
   at_topology : Look
@@ -68,6 +72,7 @@ pub data Look : Type 0 where
   at_same : Look
   at_marked : RepairAsked → Look
   at_row : List ℕ → Look
+  at_early : Look
 
 -- THE ORDER OF REFUSALS, one line a command
 abbrev pub looks : Command → List Look
@@ -80,6 +85,8 @@ looks EscInput = at_files ∷ []
 looks (Admin asked) = at_store ∷ []
 looks (Repair asked) = at_store ∷ at_marked asked ∷ []
 looks (Explain uuid) = at_store ∷ at_row uuid ∷ []
+looks (Generate number) = at_store ∷ at_early ∷ []
+looks (GeneratedLines number) = at_store ∷ at_early ∷ []
 
 -- how a look ends the command
 abbrev pub Finds : World → Look → Stop → Type 0
@@ -107,6 +114,8 @@ Finds w (at_marked asked) stop =
     (stop ≡ NotFaulty) × ((told : Contents) → AreContents w told → MarksNothing asked told)
 Finds w (at_row uuid) stop =
     (stop ≡ NotFound) × ((told : Contents) → AreContents w told → HasNoRow uuid told)
+Finds w at_early stop =
+    (stop ≡ Full Numbers) × ((told : Contents) → AreContents w told → BeginsLate told)
 
 -- What stands where the command goes on. Where the input has more bytes than are taken, it is not
 -- looked at as files. Whether something is marked, or a case has a UUID, is looked at in the
@@ -130,6 +139,7 @@ Passes w at_same =
     × ((told : Contents) → AreContents w told → KeepsAsRead told got)
 Passes w (at_marked asked) = Unit {0}
 Passes w (at_row uuid) = Unit {0}
+Passes w at_early = (told : Contents) → AreContents w told → BeginsEarly told
 
 -- the first look that ends the command ends it so
 abbrev pub FirstFinds : World → List Look → Stop → Type 0

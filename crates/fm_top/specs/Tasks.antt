@@ -12,6 +12,8 @@ use Rattle.fm_top.specs.Admin.{AdminDone, TextAsked}
 use Rattle.fm_top.specs.Explain.{ExplainDone, ExplainHalts, ExplainTried}
 use Rattle.fm_top.specs.Fmd.{StoreRan}
 use Rattle.fm_top.specs.FmdStore.{StoreWorks}
+use Rattle.fm_top.specs.Generate.{GenerateFinished, GenerateHalts, GenerateTried, LinesTried}
+use Rattle.fm_top.specs.Generate.{ListsGenerated}
 use Rattle.fm_top.specs.Outside.{SourceAt, SinkAt, DisksAt}
 use Rattle.fm_top.specs.Recording.{Recorded}
 use Rattle.fm_top.specs.Repair.{RepairDone, RepairHalts, RepairTried}
@@ -21,6 +23,7 @@ use Rattle.fm_top.specs.Stops.{of_store}
 use Rattle.fm_top.specs.declared.stops.Stop.{Stop}
 use Rattle.fm_top.specs.declared.tasks.StoreTask.{StoreTask}
 use Rattle.fm_top.specs.declared.tasks.StoreTask.TheVariants.{Accept, Fmd, Admin, Repair, Explain}
+use Rattle.fm_top.specs.declared.tasks.StoreTask.TheVariants.{Generate, GeneratedLines}
 use Rattle.fm_top.specs.declared.tasks.TaskDone.{TaskDone}
 use Rattle.fm_top.specs.declared.tasks.TaskDone.TheVariants.{Nothing, Concluded, Text, Repaired}
 
@@ -51,6 +54,14 @@ TaskDoes g (Explain uuid) old new hands conf input input_now out out_now (Ok (Te
     (input_now ≡ input) × (out_now ≡ out) × ExplainDone g uuid old new hands conf (Ok (Some text))
 TaskDoes g (Explain uuid) old new hands conf input input_now out out_now (Err stop) =
     (input_now ≡ input) × (out_now ≡ out) × ExplainHalts g uuid old new hands conf stop
+TaskDoes g (Generate number) old new hands conf input input_now out out_now (Ok (Concluded one)) =
+    (input_now ≡ input) × (out_now ≡ out) × GenerateFinished g number old new hands conf (Ok one)
+TaskDoes g (Generate number) old new hands conf input input_now out out_now (Err stop) =
+    (input_now ≡ input) × (out_now ≡ out) × GenerateHalts g number old new hands conf stop
+TaskDoes g (GeneratedLines number) old new hands conf input input_now out out_now (Ok (Text text)) =
+    (input_now ≡ input) × (out_now ≡ out) × ListsGenerated number old new conf (Ok text)
+TaskDoes g (GeneratedLines number) old new hands conf input input_now out out_now (Err stop) =
+    (input_now ≡ input) × (out_now ≡ out) × ListsGenerated number old new conf (Err stop)
 TaskDoes _ _ _ _ _ _ _ _ _ _ _ = ⊥
 
 -- WHAT WAS DONE WITH THE STORE ON SIX DISKS, two lines a task: it was opened, or not
@@ -76,4 +87,12 @@ TaskRan (Explain uuid) input input_now out out_now disks disks_now (Ok (Text tex
     (out_now ≡ out) × ExplainTried uuid disks disks_now (Ok text.items)
 TaskRan (Explain uuid) input input_now out out_now disks disks_now (Err stop) =
     (out_now ≡ out) × ExplainTried uuid disks disks_now (Err stop)
+TaskRan (Generate number) input input_now out out_now disks disks_now (Ok (Concluded one)) =
+    (out_now ≡ out) × GenerateTried number disks disks_now (Ok one)
+TaskRan (Generate number) input input_now out out_now disks disks_now (Err stop) =
+    (out_now ≡ out) × GenerateTried number disks disks_now (Err stop)
+TaskRan (GeneratedLines number) input input_now out out_now disks disks_now (Ok (Text text)) =
+    (out_now ≡ out) × LinesTried number disks disks_now (Ok text.items)
+TaskRan (GeneratedLines number) input input_now out out_now disks disks_now (Err stop) =
+    (out_now ≡ out) × LinesTried number disks disks_now (Err stop)
 TaskRan _ _ _ _ _ _ _ _ = ⊥

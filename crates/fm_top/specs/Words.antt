@@ -1,8 +1,10 @@
 -- Which words are which command.
-use Rattle.std.specs.Prelude.{ℕ, List, [], ◌∷◌, Option, Some, None, codes, if◌then◌else◌}
+use Rattle.std.specs.Prelude.{ℕ, ◌-◌, ◌^◌, List, [], ◌∷◌, Option, Some, None, codes}
+use Rattle.std.specs.Prelude.{if◌then◌else◌}
 use Rattle.std.specs.Option.{option_map}
 use Rattle.std.specs.Str.{bytes_eq}
 use Rattle.uuid.specs.Text.{parsed}
+use Rattle.fm_bytes.specs.Decimals.{digits_within}
 use Rattle.fm_admin.specs.declared.marking.Repair.{Repair as Said}
 use Rattle.fm_admin.specs.declared.marking.Repair.TheVariants.{Repaired, Replaced, Acquit}
 use Rattle.fm_dump.specs.Options.{dump_options}
@@ -11,6 +13,7 @@ use Rattle.fm_top.specs.declared.words.Command.{Command}
 use Rattle.fm_esc.specs.declared.graphs.GraphForm.TheVariants.{Listed, Compiled}
 use Rattle.fm_top.specs.declared.words.Command.TheVariants.{Accept, Fmd, Replay, Init, Esc}
 use Rattle.fm_top.specs.declared.words.Command.TheVariants.{EscInput, Admin, Repair, Explain}
+use Rattle.fm_top.specs.declared.words.Command.TheVariants.{Generate, GeneratedLines}
 use Rattle.fm_top.specs.declared.words.AdminCommand.TheVariants.{Config, Dump, Faulty, Rotate}
 
 -- the command of one word
@@ -41,15 +44,24 @@ fmadm_with second =
 abbrev pub explain_with : List ℕ → Option Command
 explain_with second = option_map Explain (parsed second)
 
+-- the number below 2^64 that a word is
+abbrev pub number_of : List ℕ → Option ℕ
+number_of word = digits_within (2 ^ 64 - 1) word
+
+-- the command `gen` and a number
+abbrev pub generate_with : List ℕ → Option Command
+generate_with second = option_map Generate (number_of second)
+
 -- the command of two words: `init` and a namespace, `esc` or `fmd` and an option, `fmadm` and what
--- is asked for, or `explain` and a UUID
+-- is asked for, `explain` and a UUID, or `gen` and a number
 unfoldable pub command_with : List ℕ → List ℕ → Option Command
 command_with word second =
     if bytes_eq word (codes "init") then option_map Init (parsed second)
     else (if bytes_eq word (codes "esc") then esc_with second
     else (if bytes_eq word (codes "fmd") then fmd_with second
     else (if bytes_eq word (codes "fmadm") then fmadm_with second
-    else (if bytes_eq word (codes "explain") then explain_with second else None))))
+    else (if bytes_eq word (codes "explain") then explain_with second
+    else (if bytes_eq word (codes "gen") then generate_with second else None)))))
 
 -- the path that a word is
 abbrev pub path_of : List ℕ → Option (List ℕ)
@@ -68,10 +80,17 @@ abbrev pub repair_at : ℕ → Option Said → Option Command
 repair_at now said =
     option_map (λ repair. Repair (record { moment = now; repair = repair })) said
 
--- the command of three words: `fmadm`, what is said of repairs, and of what
+-- the command `gen`, the option `-l` and a number
+abbrev pub lines_with : List ℕ → List ℕ → Option Command
+lines_with option third =
+    if bytes_eq option (codes "-l") then option_map GeneratedLines (number_of third) else None
+
+-- the command of three words: `gen`, its option and a number; or `fmadm`, what is said of repairs,
+-- and of what
 unfoldable pub command_about : List ℕ → List ℕ → List ℕ → ℕ → Option Command
 command_about word second third now =
-    if bytes_eq word (codes "fmadm") then repair_at now (repair_with second third) else None
+    if bytes_eq word (codes "gen") then lines_with second third
+    else (if bytes_eq word (codes "fmadm") then repair_at now (repair_with second third) else None)
 
 -- the command of one word, two or three, at a moment
 abbrev pub short_command : List (List ℕ) → ℕ → Option Command

@@ -10,6 +10,7 @@ use crate::admin::tell;
 use crate::esc::{esc, esc_input};
 use crate::explaining::explain;
 use crate::fmd::fmd;
+use crate::generating::{generate, put_generated};
 use crate::init::init;
 use crate::last::end;
 use crate::repairing::repair;
@@ -41,9 +42,11 @@ use std::alloc::Global;
 /// the base to the end, and puts it. `fmadm repaired`, `fmadm replaced` and `fmadm acquit` drain
 /// the store, accept what was said where it marks a suspect of the drained book, drain it again,
 /// bring the actuators to what is wanted then, and put the number of the entry. `explain` drains
-/// the store, and puts of the case with a UUID what each suspect accounts for. Of a command that
-/// stops, the last line says why. Nothing else is touched. `now` is the moment of the call, in
-/// nanoseconds since 1970, which is that of what an operator says.
+/// the store, and puts of the case with a UUID what each suspect accounts for. `gen` has the store
+/// take the entries that a number generates, of the reports that the configuration in force comes
+/// to, and does then as `fmd -1` behind its input; `gen -l` puts the lines of these entries. Of a
+/// command that stops, the last line says why. Nothing else is touched. `now` is the moment of the
+/// call, in nanoseconds since 1970, which is that of what an operator says.
 pub fn tool<S: Source, K: Sink, D: Disk>(
     alloc: Global,
     words: &[ArgText],
@@ -109,6 +112,14 @@ pub fn tool<S: Source, K: Sink, D: Disk>(
         }
         Some(Command::Explain(uuid)) => {
             let ran = explain(alloc, uuid, out, disks);
+            end(alloc, ran, out)
+        }
+        Some(Command::Generate(number)) => {
+            let ran = generate(alloc, number, out, disks, acts);
+            end(alloc, ran, out)
+        }
+        Some(Command::GeneratedLines(number)) => {
+            let ran = put_generated(alloc, number, out, disks);
             end(alloc, ran, out)
         }
         None => end(alloc, Err(Stop::Usage), out),

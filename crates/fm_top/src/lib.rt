@@ -20,7 +20,9 @@
 //! on six lent disks, does the task with it and gives the disks back, and says what came of it by
 //! the task (`specs/Tasks`). `fmadm` has fm_admin drain the store and tell a text of it, which is put
 //! when the disks are back (`admin`, `specs/Admin`); so does `fmdump`, of one of the logs (`dumping`,
-//! `specs/Dump`), and `explain`, of one case (`explaining`, `specs/Explain`).
+//! `specs/Dump`), and `explain`, of one case (`explaining`, `specs/Explain`). `gen` makes entries of
+//! a number, of the reports that fm_config has of the configuration in force, which the store takes,
+//! or of which the lines are put (`generating`, `specs/Generate`).
 //!
 //! The model of a call is two records of what stands outside, before and after it
 //! (`specs/Outside`). `specs/Calls` says by the command what lies between them; `specs/Order` in
@@ -66,6 +68,7 @@ mod dumping;
 mod esc;
 mod explaining;
 mod fmd;
+mod generating;
 mod init;
 mod last;
 mod lent;

@@ -13,6 +13,7 @@ use crate::accept::accept_lines;
 use crate::admin::tell_text;
 use crate::explaining::explain_store;
 use crate::fmd::diagnose_lines;
+use crate::generating::{generate_entries, list_entries};
 use crate::lent::Lent;
 use crate::repairing::repair_store;
 use crate::stops::Stop;
@@ -53,6 +54,10 @@ fn do_task<S: Source, K: Sink, D: Disk>(
         StoreTask::Admin(asked) => tell_text(streams.alloc, asked, store, hands, conf),
         StoreTask::Repair(request) => repair_store(streams.alloc, request, store, hands, conf),
         StoreTask::Explain(uuid) => explain_store(streams.alloc, uuid, store, hands, conf),
+        StoreTask::Generate(number) => {
+            generate_entries(streams.alloc, *number, store, hands, conf)
+        }
+        StoreTask::GeneratedLines(number) => list_entries(streams.alloc, *number, store, conf),
     }
 }
 

@@ -20,6 +20,10 @@ pub(crate) enum StoreTask {
     Repair(RepairRequest),
     /// It is drained, and what the suspects of the case with this UUID account for is told.
     Explain(Uuid),
+    /// It takes the entries that this number generates, and is then concluded.
+    Generate(u64),
+    /// The lines of the entries that this number generates are told.
+    GeneratedLines(u64),
 }
 
 /// What is left to do once the disks are back.

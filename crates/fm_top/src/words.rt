@@ -4,7 +4,8 @@ ghost use Rattle.std.specs.Str.{bytes_eq};
 ghost use Rattle.uuid.specs.Text.{parsed};
 ghost use Rattle.fm_top.specs.Words.{TakesMemory, command_about, command_in, command_of};
 ghost use Rattle.fm_top.specs.Words.{command_with, dump_with, esc_with, explain_with, fmadm_with};
-ghost use Rattle.fm_top.specs.Words.{fmd_with, path_of, repair_with, short_command};
+ghost use Rattle.fm_top.specs.Words.{fmd_with, generate_with, lines_with, path_of, repair_with};
+ghost use Rattle.fm_top.specs.Words.{short_command};
 
 use crate::request::RepairRequest;
 use fm_admin::Repair;
@@ -12,7 +13,7 @@ use fm_bytes::NoMemory;
 use fm_dump::{DumpFault, DumpOptions, read_options};
 use fm_esc::GraphForm;
 use fm_name::{Fmri, read_fmri};
-use fm_text::ArgText;
+use fm_text::{ArgText, read_number};
 use std::alloc::Global;
 use uuid::Uuid;
 
@@ -53,6 +54,11 @@ pub enum Command {
     Repair(RepairRequest),
     /// The store is drained, and what the suspects of the case with this UUID account for is put.
     Explain([u8; 16]),
+    /// The store takes the entries that this number generates, is drained and its base moved, what
+    /// is faulty is taken out of use, and the summary is put.
+    Generate(u64),
+    /// The lines of the entries that this number generates are put.
+    GeneratedLines(u64),
 }
 
 /// Whether the word is this text.
@@ -136,6 +142,16 @@ fn explain_with(second: &ArgText) -> Option<Command>
     }
 }
 
+/// The command `gen` with a number.
+fn generate_with(second: &ArgText) -> Option<Command>
+    ensures { result ≡ generate_with second.now }
+{
+    match read_number(second.get()) {
+        Some(number) => Some(Command::Generate(number)),
+        None => None,
+    }
+}
+
 /// The command of two words.
 #[tactic(auto, unfolding(crate::specs::Words::command_with))]
 fn command_with(word: &ArgText, second: &ArgText) -> Option<Command>
@@ -154,6 +170,8 @@ fn command_with(word: &ArgText, second: &ArgText) -> Option<Command>
         fmadm_with(second)
     } else if is_word(word, "explain") {
         explain_with(second)
+    } else if is_word(word, "gen") {
+        generate_with(second)
     } else {
         None
     }
@@ -191,6 +209,19 @@ fn repair_with(alloc: Global, word: &ArgText, third: &ArgText) -> Result<Option<
     }
 }
 
+/// The command `gen` with an option and a number.
+fn lines_with(option: &ArgText, third: &ArgText) -> Option<Command>
+    ensures { result ≡ lines_with option.now third.now }
+{
+    if !is_word(option, "-l") {
+        return None;
+    }
+    match read_number(third.get()) {
+        Some(number) => Some(Command::GeneratedLines(number)),
+        None => None,
+    }
+}
+
 /// The command of three words at a moment.
 #[tactic(auto, using(crate::proofs::Namespaces::repair_takes), unfolding(crate::specs::Words::command_about))]
 fn command_about(
@@ -206,6 +237,9 @@ fn command_about(
     ensures wanted { IfErr result
         (λ _. TakesMemory (command_about word.now second.now third.now now)) }
 {
+    if is_word(word, "gen") {
+        return Ok(lines_with(second, third));
+    }
     if !is_word(word, "fmadm") {
         return Ok(None);
     }

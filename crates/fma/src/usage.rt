@@ -10,7 +10,7 @@ struct CommandHelp {
 }
 
 /// The commands that are built.
-const COMMANDS: [CommandHelp; 15] = [
+const COMMANDS: [CommandHelp; 17] = [
     CommandHelp {
         words: "init NAMESPACE",
         does: "makes a store of dx0.esc and on, and of topology.txt; NAMESPACE is a UUID",
@@ -54,6 +54,14 @@ const COMMANDS: [CommandHelp; 15] = [
     CommandHelp {
         words: "explain UUID",
         does: "tells of the case UUID which events each of its suspects accounts for",
+    },
+    CommandHelp {
+        words: "gen N",
+        does: "makes 1,200 reports and a tick of the number N, and does with them as fmd -1",
+    },
+    CommandHelp {
+        words: "gen -l N",
+        does: "writes the lines of these, and keeps nothing",
     },
     CommandHelp {
         words: "replay",

@@ -1,5 +1,6 @@
 // Actuators of a machine.
 use crate::disks::numbers;
+use crate::shown::yes_or_no;
 use crate::undone::Undone;
 use fm_act::{ActKind, MemActuator};
 use fm_name::Fmri;
@@ -86,6 +87,29 @@ impl<'a> ActPaths<'a> {
         Ok(())
     }
 
+    /// Whether it holds just the paths of its kind that lines of a text retire.
+    fn holds_just(&self, text: &str) -> bool {
+        let mut count = 0_usize;
+        for line in text.lines() {
+            if let Some(path) = line.strip_prefix("retire ") {
+                if kind_of(path) == self.kind {
+                    if !self.paths.iter().any(|held| held.text() == path) {
+                        return false;
+                    }
+                    count = count.saturating_add(1);
+                }
+            }
+        }
+        count == self.paths.len()
+    }
+
+    /// Appends whether it holds just the paths of its kind that lines of a text retire.
+    pub fn show_retired(&self, text: &str, out: &mut String) -> Result<(), Undone> {
+        let word = yes_or_no(self.holds_just(text));
+        writeln!(out, "retired {}: {word}", self.kind)?;
+        Ok(())
+    }
+
     /// Appends what it holds, a path a line.
     pub fn show(&self, out: &mut String) -> Result<(), Undone> {
         out.push_str(self.kind)?;
@@ -97,6 +121,15 @@ impl<'a> ActPaths<'a> {
         }
         Ok(())
     }
+}
+
+/// The kind of the resource at a path: the name in its last part.
+fn kind_of(path: &str) -> &str {
+    let mut last = path;
+    for part in path.split('/') {
+        last = part;
+    }
+    last.split_once('=').unwrap_or((last, "")).0
 }
 
 /// The path that an actuator holds at a place. It is asked once more where the call fails.

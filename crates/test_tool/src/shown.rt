@@ -1,5 +1,10 @@
-// Bytes as the program writes them.
+// Bytes, and whether something holds, as the program writes them.
 use crate::undone::Undone;
+
+/// The word for whether something holds.
+pub fn yes_or_no(holds: bool) -> &'static str {
+    if holds { "yes" } else { "no" }
+}
 
 /// Appends a byte: as `\xHH` where it is `\` or none that is seen.
 fn show_byte(byte: u8, out: &mut String) -> Result<(), Undone> {

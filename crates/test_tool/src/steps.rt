@@ -3,7 +3,7 @@ use crate::blocks::{Block, number};
 use crate::disks::{ALL, bytes_of, disk_name, is_named};
 use crate::runs::Run;
 use crate::settings::SourceCalls;
-use crate::shown::show;
+use crate::shown::{show, yes_or_no};
 use crate::undone::Undone;
 use fm_outer::Image;
 use fm_top::ToolStatus;
@@ -32,6 +32,51 @@ fn step_call(run: &mut Run<'_>, block: &Block<'_>, out: &mut String) -> Result<(
     let status = call_of(run, block, &mut put)?;
     show_call(block.head, status, &put, out)?;
     run.texts.define("put", put)
+}
+
+/// Makes the call of a line, writes how it ended, and makes what it put the text `put`.
+fn step_brief(run: &mut Run<'_>, block: &Block<'_>, out: &mut String) -> Result<(), Undone> {
+    let mut put = Vec::new(run.alloc);
+    let status = call_of(run, block, &mut put)?;
+    writeln!(out, "{}: {}", block.head, status.code())?;
+    run.texts.define("put", put)
+}
+
+/// A text as characters.
+fn characters<'b>(run: &'b Run<'_>, name: &str) -> Result<&'b str, Undone> {
+    match str::from_utf8(run.texts.get(name)?) {
+        Ok(text) => Ok(text),
+        Err(_) => Err(Undone::Unread),
+    }
+}
+
+/// Writes a line of a text: `PLACE NAME`.
+fn show_line(run: &Run<'_>, rest: &str, out: &mut String) -> Result<(), Undone> {
+    let (place, name) = rest.split_once(' ').ok_or(Undone::Unread)?;
+    let text = characters(run, name)?;
+    let line = text
+        .lines()
+        .nth(number(place)? as usize)
+        .ok_or(Undone::Unread)?;
+    writeln!(out, "line {rest}: {line}")?;
+    Ok(())
+}
+
+/// Writes whether two texts are the same: `NAME NAME`.
+fn show_same(run: &Run<'_>, rest: &str, out: &mut String) -> Result<(), Undone> {
+    let (one, other) = rest.split_once(' ').ok_or(Undone::Unread)?;
+    let word = yes_or_no(run.texts.get(one)? == run.texts.get(other)?);
+    writeln!(out, "same {rest}: {word}")?;
+    Ok(())
+}
+
+/// Writes of each actuator whether it holds just what the last call's text retires.
+fn show_retired(run: &Run<'_>, out: &mut String) -> Result<(), Undone> {
+    let text = characters(run, "put")?;
+    for held in &run.machine.acts {
+        held.show_retired(text, out)?;
+    }
+    Ok(())
 }
 
 /// Sets what the next calls are given.
@@ -202,6 +247,10 @@ pub fn step<'a>(run: &mut Run<'a>, block: &Block<'a>, out: &mut String) -> Resul
     let (word, rest) = block.words();
     match word {
         "$" => step_call(run, block, out),
+        "brief" => step_brief(run, block, out),
+        "line" => show_line(run, rest, out),
+        "same" => show_same(run, rest, out),
+        "retired" => show_retired(run, out),
         "machine" => step_machine(run, rest),
         "fail" => step_fail(run, rest),
         "stop" => step_stop(run, rest),

@@ -2,11 +2,13 @@ use Rattle.std.proofs.Common.{refl, rules, Some}
 use Rattle.fm_top.specs.Outside.{sink_at}
 use Rattle.fm_top.specs.declared.words.Command.TheVariants.{Accept, Fmd, Replay, Init, Esc}
 use Rattle.fm_top.specs.declared.words.Command.TheVariants.{EscInput, Admin, Repair, Explain}
+use Rattle.fm_top.specs.declared.words.Command.TheVariants.{Generate, GeneratedLines}
 use Rattle.fm_top.proofs.AdminDoing.{does_tell}
 use Rattle.fm_top.proofs.Doing.{does_as, does_accept, does_replay}
 use Rattle.fm_top.proofs.Escs.{does_esc, does_input, esc_standing, input_standing}
 use Rattle.fm_top.proofs.ExplainDoing.{does_explain}
 use Rattle.fm_top.proofs.FmdDoing.{does_fmd}
+use Rattle.fm_top.proofs.GenerateDoing.{does_generate, does_lines}
 use Rattle.fm_top.proofs.Inits.{does_init, ends_standing}
 use Rattle.fm_top.proofs.RepairDoing.{does_repair}
 use Rattle.fm_top.proofs.Wanting.{does_want}
@@ -72,6 +74,21 @@ returns-in-Some-Explain-clause-does g c =
     does_as _ (Some (Explain c.in-Some-Explain.uuid)) _ _ _ (search rules)
     (does_explain c.in-Some-Explain.uuid _ _ (sink_at g.K.Sink c.explain-ran.new.out)
     c.explain-ran.result _ c.explain-ran.ensures.ran c.end-in-Some-Explain.ensures
+    (record { rules = refl; topo = refl; acts = refl }) refl)
+
+pub returns-in-Some-Generate-clause-does : goal.returns-in-Some-Generate-clause-does
+returns-in-Some-Generate-clause-does g c =
+    does_as _ (Some (Generate c.in-Some-Generate.number)) _ _ _ (search rules)
+    (does_generate c.in-Some-Generate.number _ _ (sink_at g.K.Sink c.generate-ran.new.out)
+    c.generate-ran.result _ c.generate-ran.ensures.ran c.end-in-Some-Generate.ensures refl refl
+    refl)
+
+pub returns-in-Some-GeneratedLines-clause-does : goal.returns-in-Some-GeneratedLines-clause-does
+returns-in-Some-GeneratedLines-clause-does g c =
+    does_as _ (Some (GeneratedLines c.in-Some-GeneratedLines.number)) _ _ _ (search rules)
+    (does_lines c.in-Some-GeneratedLines.number _ _
+    (sink_at g.K.Sink c.put_generated-ran.new.out) c.put_generated-ran.result _
+    c.put_generated-ran.ensures.ran c.end-in-Some-GeneratedLines.ensures
     (record { rules = refl; topo = refl; acts = refl }) refl)
 
 pub returns-in-Err-clause-does : goal.returns-in-Err-clause-does
