@@ -43,7 +43,7 @@ saves_kept k w keeps =
     keeps.modules_same
 
 -- a checkpoint of these
-checkpoint_of : Bool → ℕ → ℕ → ℕ → List (List ℕ) → Checkpoint
+abbrev checkpoint_of : Bool → ℕ → ℕ → ℕ → List (List ℕ) → Checkpoint
 checkpoint_of second base moment conf states = record {
   second = second;
   base = base;
