@@ -16,30 +16,37 @@ use Rattle.fm_core.specs.Meaning.{State}
 use Rattle.fm_core.specs.Seen.{Follows}
 use Rattle.fm_core.specs.declared.module.Module.{Ghosts as ModuleGhosts}
 use Rattle.fm_core.proofs.Places.{taken_all}
+use Rattle.fm_drain.specs.DrainCalls.{AllFollow}
+use Rattle.fm_drain.specs.DrainLimits.{DrainIsFull}
+use Rattle.fm_entry.specs.Entries.{entry_bytes}
 use Rattle.fm_entry.specs.declared.entry.Entry.{Entry}
 use Rattle.fm_entry.specs.declared.list_event.ListEvent.{ListEvent}
+use Rattle.fm_journal.specs.JournalOf.{JournalOf}
 use Rattle.fm_logs.specs.Contents.{Contents}
 use Rattle.fm_logs.specs.LogsBook.{DrainAlike}
-use Rattle.fm_logs.specs.LogsOf.{name_of_two}
+use Rattle.fm_logs.specs.LogsOf.{CannotTake, name_of_two}
 use Rattle.fm_logs.specs.StoreBook.{StoreBook, store_accepted}
 use Rattle.fm_logs.specs.declared.disks.DiskName.TheVariants.{Flt}
 use Rattle.fm_logs.specs.declared.fault.StoreFault.{StoreFault}
+use Rattle.fm_logs.specs.declared.fault.StoreFault.TheVariants.{Disk, Full, Closed, NoMemory}
+use Rattle.fm_logs.specs.declared.fault.StoreFault.TheVariants.{Damaged, Exists}
 use Rattle.fm_settled.specs.CaseStatus.{IsStatusOf}
 use Rattle.fm_store.specs.StoreCalls.{HandsAreDone}
 use Rattle.fm_store.specs.StoreLeft.{ReadsLike, ReadsLikeEither, store_disk, with_content}
-use Rattle.fm_store.specs.StoreOf.{StoreOf}
+use Rattle.fm_store.specs.StoreOf.{StoreOf, StoreStandsFor}
 use Rattle.fm_store.proofs.StoreReads.{like_through}
 use Rattle.fm_summary.specs.DrainedSummary.{AreWantedOf}
+use Rattle.fm_admin.specs.Limits.{RepairLimit, TakeLimit}
 use Rattle.fm_admin.specs.Marking.{IsEntryBy, entry_by, marks_drained, marks_hands, marks_in}
 use Rattle.fm_admin.specs.Repairing.{AreHandsAndEntry, IsRepairedBy, RepairDid, RepairRefused}
 use Rattle.fm_admin.specs.Repairing.{RepairsBook, TakeRefused, TakesAndTells}
 use Rattle.fm_admin.specs.Repairing.{TookOne}
 use Rattle.fm_admin.specs.Telling.{AreHandsAndStatus, IsDrainedOf, StandsTold, TellsBook}
-use Rattle.fm_admin.specs.Telling.{WasDrained}
+use Rattle.fm_admin.specs.Telling.{TellRefused, WasDrained}
 use Rattle.fm_admin.specs.declared.marking.RepairOrder.{RepairOrder}
 use Rattle.fm_admin.specs.declared.repairing.Repaired.{Repaired}
 use Rattle.fm_admin.proofs.Repairs.{accepted_alike}
-use Rattle.fm_admin.proofs.Tellings.{drained_same, refused_on, told_on}
+use Rattle.fm_admin.proofs.Tellings.{drained_same, refused_on, tell_full, told_on}
 
 module _ {M : Type 0} (m : ModuleGhosts M) where
   -- a hand at the end has the state of its module in the drained book
@@ -258,19 +265,58 @@ module _ {D M : Type 0} (g : Ghosts D) (m : ModuleGhosts M) where
     found = Ok None;
     looks = looks_as fresh old mid k order hands h found None is tells;
     follows = (refl, refl);
+    limit = tt;
   }
+
+  look_limit : (fresh : List ModuleState) (old mid : StoreOf D M) (k : StoreBook)
+      (order : RepairOrder) (hands : List (HandOf M)) (fault : StoreFault)
+      → StoreStandsFor g fresh old k → AllFollow m k.book hands
+      → TellRefused g m Flt old mid hands fault → RepairLimit old k order fault
+  look_limit fresh old mid k order hands (Full kind) st follow why =
+      inl (tell_full g m Flt fresh old mid k hands kind st follow why)
+  look_limit fresh old mid k order hands (Closed name failures) st follow why = tt
+  look_limit fresh old mid k order hands Disk st follow why = tt
+  look_limit fresh old mid k order hands NoMemory st follow why = tt
+  look_limit fresh old mid k order hands (Damaged name place) st follow why = tt
+  look_limit fresh old mid k order hands Exists st follow why = tt
+
+  -- the taking of the entry stopped at a limit
+  take_limit : (old mid : StoreOf D M) (k w : StoreBook) (order : RepairOrder) (e : Entry)
+      (fault : StoreFault) → WasDrained g old mid → IsDrainedOf k w
+      → IsEntryBy order.namespace order.moment order.repair (drained k.book) (Some e)
+      → TakeLimit mid w e fault → RepairLimit old k order fault
+  take_limit old mid k w order e (Full kind) was is found limit =
+      inr (record {
+        entry = e;
+        entry_is = found;
+        now = w;
+        drained_is = is;
+        full = elim limit [
+          | inl journal ↦ inl (subst (λ (j : JournalOf D). CannotTake j (entry_bytes e) kind)
+              (ap (λ (s : StoreOf D M). s.logs.active) was.only) journal)
+          | inr log ↦ inr (subst (λ (n : ℕ). DrainIsFull n (store_accepted w e).book kind)
+              was.first_same log)
+        ];
+      })
+  take_limit old mid k w order e (Closed name failures) was is found limit = tt
+  take_limit old mid k w order e Disk was is found limit = tt
+  take_limit old mid k w order e NoMemory was is found limit = tt
+  take_limit old mid k w order e (Damaged name place) was is found limit = tt
+  take_limit old mid k w order e Exists was is found limit = tt
 
   -- the look for an entry was refused
   pub look_refused : {X : Type 0} (fresh : List ModuleState) (old mid : StoreOf D M)
       (k : StoreBook) (order : RepairOrder) (fault : StoreFault) (Told : StoreBook → X → Type 0)
-      → TellsBook g fresh Flt old mid k (Err fault) Told
-      → RepairsBook g fresh old mid k order (Err fault)
-  look_refused fresh old mid k order fault Told tells = record {
+      → TellsBook g fresh Flt old mid k (Err fault) Told → (hands : List (HandOf M))
+      → StoreStandsFor g fresh old k → AllFollow m k.book hands
+      → TellRefused g m Flt old mid hands fault → RepairsBook g fresh old mid k order (Err fault)
+  look_refused fresh old mid k order fault Told tells hands st follow why = record {
     after_look = mid;
     found = Err fault;
     looks = refused_on g fresh Flt old mid k fault Told
         (λ now e. IsEntryBy order.namespace order.moment order.repair (drained k.book) e) tells;
     follows = (refl, refl);
+    limit = look_limit fresh old mid k order hands fault st follow why;
   }
 
   -- an entry was found
@@ -282,11 +328,16 @@ module _ {D M : Type 0} (g : Ghosts D) (m : ModuleGhosts M) where
       (λ now found. AreHandsAndEntry m order k now (hands found.0) found.1))
       → TakesAndTells g fresh mid new tells.done.now e result
       (λ now told. IsRepairedBy tells.done.now e told)
+      → WasDrained g old mid → IfErr result (TakeLimit mid tells.done.now e)
       → RepairsBook g fresh old new k order result
-  entry_taken fresh old mid new k order hands h found e result is tells takes = record {
+  entry_taken fresh old mid new k order hands h found e result is tells takes was limit = record {
     after_look = mid;
     found = Ok (Some e);
     looks = looks_as fresh old mid k order hands h found (Some e) is tells;
     follows = takes_through g fresh mid new k tells.done.now e result tells.done.drained_is
         takes;
+    limit = IfErr-weaker result (TakeLimit mid tells.done.now e) (RepairLimit old k order)
+        (λ fault. take_limit old mid k tells.done.now order e fault was tells.done.drained_is
+        (subst (IsEntryBy order.namespace order.moment order.repair (drained k.book)) is
+        tells.done.told.1)) limit;
   }

@@ -13,6 +13,7 @@ use Rattle.fm_core.proofs.Drains.{drained_accepted}
 use Rattle.fm_core.proofs.Keeping.{follows_accepted}
 use Rattle.fm_core.proofs.Runs.{lawful_accepted}
 use Rattle.fm_drain.specs.DrainCalls.{AllFollow, AreAtCursors, IsAtCursor}
+use Rattle.fm_drain.specs.DrainLimits.{DrainIsFull}
 use Rattle.fm_entry.specs.Entries.{is_reload}
 use Rattle.fm_entry.specs.declared.entry.Entry.{Entry}
 use Rattle.fm_entry.specs.declared.entry.Entry.TheVariants.{Reload}
@@ -30,12 +31,13 @@ use Rattle.fm_settled.specs.CaseStatus.{IsStatusOf}
 use Rattle.fm_store.specs.StoreCalls.{AcceptsOnBook}
 use Rattle.fm_store.specs.StoreOf.{StoreOf, StoreStandsFor}
 use Rattle.fm_store.specs.StoreReading.{IsNoDamage}
+use Rattle.fm_admin.specs.Limits.{TakeLimit}
 use Rattle.fm_admin.specs.Repairing.{IsRepairedBy, TakeRefused, TakesAndTells}
 use Rattle.fm_admin.specs.Repairing.{TellsRepaired, TookOne}
 use Rattle.fm_admin.specs.Telling.{IsDrainedOf, TellRefused, TellsBook}
 use Rattle.fm_admin.specs.Telling.{WasDrained}
 use Rattle.fm_admin.specs.declared.repairing.Repaired.{Repaired}
-use Rattle.fm_admin.proofs.Tellings.{drained_same}
+use Rattle.fm_admin.proofs.Tellings.{drained_same, tell_full}
 
 -- an entry that is no Reload may come at any place
 no_reload : (known n : ℕ) (e : Entry) → is_reload e ≡ false → ReloadsRise known n (e ∷ [])
@@ -148,6 +150,37 @@ module _ {D M : Type 0} (g : Ghosts D) (m : ModuleGhosts M) where
     any_moment = accepts.any_moment;
     ends = inr tells;
   }
+
+  -- a limit at which it was not taken, or the store not drained, is one of the book
+  pub entry_limit : (old new : StoreOf D M) (k : StoreBook) (e : Entry) (fault : StoreFault)
+      → AcceptRefused g old.logs new.logs e fault → TakeLimit old k e fault
+  entry_limit old new k e (Full kind) why = inl why.2
+  entry_limit old new k e (Closed name failures) why = tt
+  entry_limit old new k e Disk why = tt
+  entry_limit old new k e NoMemory why = tt
+  entry_limit old new k e (Damaged name place) why = tt
+  entry_limit old new k e Exists why = tt
+
+  pub taken_limit : (fresh : List ModuleState) (old mid new : StoreOf D M) (k : StoreBook)
+      (hands : List (HandOf M)) (e : Entry) (n : ℕ) (fault : StoreFault)
+      → TakesEntry g old.logs mid.logs e n → StoreStandsFor g fresh mid (store_accepted k e)
+      → AllFollow m (store_accepted k e).book hands → TellRefused g m Flt mid new hands fault
+      → TakeLimit old k e fault
+  taken_limit fresh old mid new k hands e n (Full kind) takes st follow why =
+      inr (subst (λ (first : ℕ). DrainIsFull first (store_accepted k e).book kind)
+      (ap (λ (l : LogsOf D). l.flt.first) takes.logs_are)
+      (tell_full g m Flt fresh mid new (store_accepted k e) hands kind st follow why))
+  taken_limit fresh old mid new k hands e n (Closed name failures) takes st follow why = tt
+  taken_limit fresh old mid new k hands e n Disk takes st follow why = tt
+  taken_limit fresh old mid new k hands e n NoMemory takes st follow why = tt
+  taken_limit fresh old mid new k hands e n (Damaged name place) takes st follow why = tt
+  taken_limit fresh old mid new k hands e n Exists takes st follow why = tt
+
+  pub limit_as : {X : Type 0} (old : StoreOf D M) (k : StoreBook) (e : Entry)
+      (fault : StoreFault) (result : Result X StoreFault) → result ≡ Err fault
+      → TakeLimit old k e fault → IfErr result (TakeLimit old k e)
+  limit_as old k e fault result is limit =
+      subst (λ r. IfErr r (TakeLimit old k e)) (sym is) limit
 
   pub follow_accepted : (k : StoreBook) (e : Entry) (hands : List (HandOf M))
       → AllFollow m k.book hands → AllFollow m (store_accepted k e).book hands

@@ -7,12 +7,12 @@ use Rattle.std.specs.List.{list_all}
 use Rattle.fm_outer.specs.Failures.{Rose}
 use Rattle.fm_outer.specs.declared.disk.Disk.{Ghosts}
 use Rattle.fm_outer.proofs.Moments.{OnlyNow, leaves-weaker}
-use Rattle.fm_core.specs.Book.{ModuleState, IsLawful, is_done}
+use Rattle.fm_core.specs.Book.{Book, ModuleState, IsLawful, is_done}
 use Rattle.fm_core.specs.Hands.{HandOf}
 use Rattle.fm_core.specs.declared.module.Module.{Ghosts as ModuleGhosts}
 use Rattle.fm_drain.specs.DrainCalls.{DrainDoes, DrainsOnBook, StaysOpen, StoppedAt}
-use Rattle.fm_drain.specs.DrainCalls.{OnlyCommitted, store_after}
-use Rattle.fm_drain.proofs.Works.{works_alike}
+use Rattle.fm_drain.specs.DrainCalls.{OnlyCommitted, StopsAtLimit, store_after}
+use Rattle.fm_drain.proofs.Works.{KeepsEntries, works_alike, works_keep}
 use Rattle.fm_journal.specs.declared.fault.FullKind.{FullKind}
 use Rattle.fm_journal.specs.declared.fault.FullKind.TheVariants.{Numbers}
 use Rattle.fm_logs.specs.Contents.{Contents}
@@ -23,6 +23,8 @@ use Rattle.fm_logs.specs.declared.fault.StoreFault.{StoreFault}
 use Rattle.fm_logs.specs.declared.fault.StoreFault.TheVariants.{Disk, Full, Closed, NoMemory}
 use Rattle.fm_logs.specs.declared.fault.StoreFault.TheVariants.{Damaged, Exists}
 use Rattle.fm_looks.specs.Opening.{slot_name}
+use Rattle.fm_settled.specs.BaseLimits.{figures_of}
+use Rattle.fm_settled.proofs.BaseLimitLaws.{next_full}
 use Rattle.fm_settled.proofs.BasedBooks.{based_of}
 use Rattle.fm_store.specs.Rotating.{ClosesAtSpare, RotateDoes, RotateRefused, Rotates}
 use Rattle.fm_store.specs.Rotating.{RotatesOnBook, with_spare}
@@ -35,6 +37,7 @@ use Rattle.fm_store.specs.StoreOf.{StoreOf, StoreBaseOf, StoreStandsFor, fills_s
 use Rattle.fm_store.specs.StoreReading.{IsNoDamage}
 use Rattle.fm_store.proofs.StoreMoves.{done_at_end}
 use Rattle.fm_store.proofs.StoreReads.{like_through}
+use Rattle.fm_admin.specs.Limits.{DrainOrRotation}
 use Rattle.fm_admin.specs.Rotation.{IsRotated, RotatesDrained, RotationRefused, StandsRotated}
 use Rattle.fm_admin.proofs.Left.{moments_still}
 use Rattle.fm_admin.proofs.Tellings.{closed_why, drain_undamaged, open_before}
@@ -205,15 +208,55 @@ module _ {D M : Type 0} (g : Ghosts D) (m : ModuleGhosts M) where
   rotate_undamaged mid new states (Err (Damaged name place)) does = absurd does.1
   rotate_undamaged mid new states (Err Exists) does = absurd does.1
 
+  drain_stops : (fresh : List ModuleState) (old new : StoreOf D M) (k : StoreBook)
+      (fault : StoreFault) → StopsAtLimit g fresh old new k fault
+      → DrainOrRotation (figures_of old) k fault
+  drain_stops fresh old new k (Full kind) stops =
+      inl (record { works = stops.works; step = stops.step })
+  drain_stops fresh old new k (Closed name failures) stops = tt
+  drain_stops fresh old new k Disk stops = tt
+  drain_stops fresh old new k NoMemory stops = tt
+  drain_stops fresh old new k (Damaged name place) stops = tt
+  drain_stops fresh old new k Exists stops = tt
+
+  -- the limit of a rotation is one of the book of before
+  rotation_stops : (fresh : List ModuleState) (old mid new : StoreOf D M) (k : StoreBook)
+      (w : Book) (now : List (HandOf M)) (result : Result ℕ StoreFault)
+      → StoreStandsFor g fresh old k → OnlyCommitted old mid → KeepsEntries k.book w
+      → HandsAreDone m w now → RotateDoes g mid new (saves_of m now) result
+      → IfErr result (DrainOrRotation (figures_of old) k)
+  rotation_stops fresh old mid new k w now (Ok number) st only keeps done does = tt
+  rotation_stops fresh old mid new k w now (Err (Full kind)) st only keeps done does =
+      let base : mid.logs.base ≡ k.book.base =
+      ap (λ (s : StoreOf D M). s.logs.base) only ∙ st.base_is in
+      let count : length mid.logs.entries ≡ length k.book.entries =
+      ap (λ (s : StoreOf D M). length s.logs.entries) only ∙ ap length st.entries_are in
+      elim does.1 [
+        | inl numbers ↦ inr (inl (numbers.1, omega (arith, numbers.2, base, count)))
+        | inr next ↦ inr (inr (
+          omega (arith, next.0, base, count),
+          next_full g m fresh old mid k w now (not old.logs.second) kind st only keeps done
+              (subst (λ (b : Bool). NextRefused mid (not b) (saves_of m now) (Full kind))
+              (ap (λ (s : StoreOf D M). s.logs.second) only) next.1),
+        ))
+      ]
+  rotation_stops fresh old mid new k w now (Err (Closed name failures)) st only keeps done does =
+      tt
+  rotation_stops fresh old mid new k w now (Err Disk) st only keeps done does = tt
+  rotation_stops fresh old mid new k w now (Err NoMemory) st only keeps done does = tt
+  rotation_stops fresh old mid new k w now (Err (Damaged name place)) st only keeps done does = tt
+  rotation_stops fresh old mid new k w now (Err Exists) st only keeps done does = tt
+
   -- the drain stopped
   pub stopped_rotation : OnlyNow g → (fresh : List ModuleState) (old new : StoreOf D M)
       (k : StoreBook) (hands now : List (HandOf M)) (fault : StoreFault)
       → DrainDoes g m old new hands now (Err fault)
-      → DrainsOnBook g m fresh old new k now (Err fault)
+      → DrainsOnBook g m fresh old new k now (Err fault) → StopsAtLimit g fresh old new k fault
       → RotatesDrained g fresh old new k (Err fault)
-  stopped_rotation only_now fresh old new k hands now fault drain drains = record {
+  stopped_rotation only_now fresh old new k hands now fault drain drains stops = record {
     done = tt;
     undamaged = drain_undamaged g m old new now fault drain.answer;
+    limit = drain_stops fresh old new k fault stops;
     after_drain = new;
     after_making = new;
     any_moment = drains.commits.any_moment;
@@ -261,6 +304,8 @@ module _ {D M : Type 0} (g : Ghosts D) (m : ModuleGhosts M) where
         done = rotated_stands fresh mid new k drains.works result st.lawful.lawful
             (done_at_end g fresh mid w stands drain.answer.at_end) rotates.stands;
         undamaged = rotate_undamaged mid new (saves_of m now) result does;
+        limit = rotation_stops fresh old mid new k w.book now result st drain.only
+            (works_keep drains.works k.book) drains.done does;
         after_drain = mid;
         after_making = made;
         any_moment = drains.commits.any_moment;

@@ -17,14 +17,16 @@ use Rattle.fm_core.proofs.Drains.{cursor_of}
 use Rattle.fm_core.proofs.Lists.{list_all_get}
 use Rattle.fm_core.proofs.Runs.{ends_drained, run_lawful, with_none}
 use Rattle.fm_core.proofs.Tests.{true_eq}
-use Rattle.fm_drain.specs.DrainCalls.{AreAtCursors, DrainDoes, DrainsOnBook, IsAtCursor}
-use Rattle.fm_drain.specs.DrainCalls.{IsStopped}
-use Rattle.fm_drain.specs.DrainCalls.{OnlyCommitted, StaysOpen, StoppedAt, store_after}
+use Rattle.fm_drain.specs.DrainCalls.{AllFollow, AreAtCursors, DrainDoes, DrainsOnBook}
+use Rattle.fm_drain.specs.DrainCalls.{IsAtCursor, IsStopped, OnlyCommitted, StaysOpen, StopsFull}
+use Rattle.fm_drain.specs.DrainCalls.{StoppedAt, store_after}
+use Rattle.fm_drain.specs.DrainLimits.{DrainIsFull}
 use Rattle.fm_drain.proofs.HandLaws.{only_then}
 use Rattle.fm_drain.proofs.StepLaws.{same_store}
 use Rattle.fm_drain.proofs.Works.{KeepsEntries, works_alike, works_keep}
 use Rattle.fm_entry.specs.declared.list_event.ListEvent.{ListEvent}
 use Rattle.fm_entry.specs.declared.spoken.Spoken.{Spoken}
+use Rattle.fm_journal.specs.declared.fault.FullKind.{FullKind}
 use Rattle.fm_logs.specs.LogReads.{AreSpoken, ReadsSpoken, UnreadLog}
 use Rattle.fm_logs.specs.LogsBook.{DrainAlike}
 use Rattle.fm_logs.specs.LogsOf.{LogsOf}
@@ -169,6 +171,7 @@ module _ {D M : Type 0} (g : Ghosts D) (m : ModuleGhosts M) where
     is_open = is;
     only = drain.only;
     no_failure = flt_stays g old mid drain.answer.open_still;
+    first_same = drain.first_same;
     at_end = drain.answer.at_end;
   }
 
@@ -182,6 +185,7 @@ module _ {D M : Type 0} (g : Ghosts D) (m : ModuleGhosts M) where
     is_open = ap (λ (l : LogsOf D). l.closed) reads.logs_are ∙ are.was_open;
     only = only_then old mid new drain.only (only_read g mid new reads same);
     no_failure = are.no_failure ∙ flt_stays g old mid drain.answer.open_still;
+    first_same = ap (λ (l : LogsOf D). l.flt.first) reads.logs_are ∙ drain.first_same;
     at_end = subst (λ (l : LogsOf D). AreAtEnd l) (sym reads.logs_are) drain.answer.at_end;
   }
 
@@ -252,6 +256,15 @@ module _ {D M : Type 0} (g : Ghosts D) (m : ModuleGhosts M) where
   read_why old mid new hands (Damaged name place) stays same why =
       (open_before g old mid stays why.0, why.1)
   read_why old mid new hands Exists stays same why = absurd why
+
+  -- a limit for which nothing is told is one of the book
+  pub tell_full : (log : DiskName) (fresh : List ModuleState) (old new : StoreOf D M)
+      (k : StoreBook) (hands : List (HandOf M)) (kind : FullKind) → StoreStandsFor g fresh old k
+      → AllFollow m k.book hands → TellRefused g m log old new hands (Full kind)
+      → DrainIsFull old.logs.flt.first k.book kind
+  tell_full log fresh old new k hands kind st follow why =
+      let stops : StopsFull g fresh old new k kind = why.1.1.limit fresh k st follow in
+      record { works = stops.works; step = stops.step }
 
   -- ---- the book
 

@@ -1,6 +1,7 @@
 pub mod Telling
-pub mod Rotation
 pub mod Marking
+pub mod Limits
+pub mod Rotation
 pub mod Repairing
 pub mod Dumping
 pub mod Rows

@@ -1,5 +1,5 @@
 -- A store that accepts what an operator said, where that marks something, and is drained again.
-use Rattle.std.specs.Prelude.{◌≡◌, ◌⊎◌, ℕ, List, Option, Some, None, Result, Ok, Err}
+use Rattle.std.specs.Prelude.{◌≡◌, ◌⊎◌, ℕ, List, Option, Some, None, Result, Ok, Err, IfErr}
 use Rattle.fm_outer.specs.declared.disk.Disk.{Ghosts}
 use Rattle.fm_core.specs.Book.{ModuleState, next_number}
 use Rattle.fm_core.specs.Drained.{drained}
@@ -17,6 +17,7 @@ use Rattle.fm_store.specs.StoreLeft.{MomentsOn, EachLeft, ReadsLikeEither}
 use Rattle.fm_store.specs.StoreOf.{StoreOf}
 use Rattle.fm_store.specs.StoreReading.{IsNoDamage}
 use Rattle.fm_summary.specs.DrainedSummary.{AreWantedOf}
+use Rattle.fm_admin.specs.Limits.{RepairLimit}
 use Rattle.fm_admin.specs.Marking.{IsEntryBy}
 use Rattle.fm_admin.specs.Telling.{TellRefused, TellsBook, WasDrained}
 use Rattle.fm_admin.specs.declared.marking.RepairOrder.{RepairOrder}
@@ -97,7 +98,7 @@ RepairFollows g fresh mid new k (Ok None) result = (result ≡ Ok None) × (new 
 RepairFollows g fresh mid new k (Err fault) result = (result ≡ Err fault) × (new ≡ mid)
 
 -- What becomes of a book that the hands follow: it is drained and looked at, up to `after_look`,
--- and then the entry that was found is taken.
+-- and then the entry that was found is taken. A limit that is told is one of the book.
 pub record RepairsBook {D M : Type 0} (g : Ghosts D) (fresh : List ModuleState)
     (old new : StoreOf D M) (k : StoreBook) (order : RepairOrder)
     (result : Result (Option Repaired) StoreFault) : Type 0 where
@@ -106,6 +107,7 @@ pub record RepairsBook {D M : Type 0} (g : Ghosts D) (fresh : List ModuleState)
   pub looks : TellsBook g fresh Flt old after_look k found
       (λ now e. IsEntryBy order.namespace order.moment order.repair (drained k.book) e)
   pub follows : RepairFollows g fresh after_look new k found result
+  pub limit : IfErr result (RepairLimit old k order)
 
 -- what was done, by whether an entry was found
 abbrev pub RepairDid : {D M : Type 0} → Ghosts D → StoreOf D M → StoreOf D M → Option Repaired

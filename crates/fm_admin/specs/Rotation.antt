@@ -17,12 +17,14 @@ use Rattle.fm_logs.specs.declared.disks.DiskName.TheVariants.{Flt}
 use Rattle.fm_logs.specs.declared.fault.StoreFault.{StoreFault}
 use Rattle.fm_logs.specs.declared.fault.StoreFault.TheVariants.{Disk, Full, Closed, NoMemory}
 use Rattle.fm_looks.specs.Opening.{slot_name}
+use Rattle.fm_settled.specs.BaseLimits.{figures_of}
 use Rattle.fm_settled.specs.ToBase.{IsBasedOf}
 use Rattle.fm_store.specs.Rotating.{RotateRefused}
 use Rattle.fm_store.specs.StoreCalls.{AreAtEnd, next_entry, saves_of}
 use Rattle.fm_store.specs.StoreLeft.{MomentsOn, EachLeft, ReadsLike, store_disk}
 use Rattle.fm_store.specs.StoreOf.{StoreOf, StoreStandsFor, fills_second}
 use Rattle.fm_store.specs.StoreReading.{IsNoDamage}
+use Rattle.fm_admin.specs.Limits.{DrainOrRotation}
 
 -- After Ok the store was open and is, its base is at the end of its entries, where each module is,
 -- and the active journal is the other one, without payloads, whose first number is the base.
@@ -70,14 +72,16 @@ pub record StandsRotated {D M : Type 0} (g : Ghosts D) (fresh : List ModuleState
   pub stands : StoreStandsFor g fresh new based
   pub based_is : IsBasedOf k based
 
--- What becomes of a book that the hands follow. Each crash, now or at a moment since, leaves
--- contents that read like the book, whatever is answered: first while the fault log's disk alone is
--- worked on, which is that of `after_drain` then, next while the disk of the other error journal
--- is, up to `after_making`, and at last while a slot's is.
+-- What becomes of a book that the hands follow. A limit that is told is one of the book. Each
+-- crash, now or at a moment since, leaves contents that read like the book, whatever is answered:
+-- first while the fault log's disk alone is worked on, which is that of `after_drain` then, next
+-- while the disk of the other error journal is, up to `after_making`, and at last while a slot's
+-- is.
 pub record RotatesDrained {D M : Type 0} (g : Ghosts D) (fresh : List ModuleState)
     (old new : StoreOf D M) (k : StoreBook) (result : Result ℕ StoreFault) : Type 0 where
   pub done : OnOk result (StandsRotated g fresh new k)
   pub undamaged : IfErr result IsNoDamage
+  pub limit : IfErr result (DrainOrRotation (figures_of old) k)
   pub after_drain : StoreOf D M
   pub after_making : StoreOf D M
   pub any_moment : MomentsOn g Flt old after_drain (ReadsLike fresh k)

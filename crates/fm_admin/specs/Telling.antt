@@ -32,6 +32,7 @@ pub record WasDrained {D M : Type 0} (g : Ghosts D) (old new : StoreOf D M) : Ty
   pub is_open : new.logs.closed ≡ None
   pub only : OnlyCommitted old new
   pub no_failure : g.failures new.logs.flt.disk ≡ g.failures old.logs.flt.disk
+  pub first_same : new.logs.flt.first ≡ old.logs.flt.first
   pub at_end : AreAtEnd new.logs
 
 -- Why nothing is told of a drained store, for which the log on this disk is read: the store was

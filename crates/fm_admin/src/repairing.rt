@@ -2,6 +2,7 @@
 
 ghost use Rattle.std.specs.Prelude.{◌≡◌, ◌<◌, ◌≤◌, ◌^◌, List, length, IfOk, IfErr, IfSome};
 ghost use Rattle.std.specs.Prelude.{OnOk};
+ghost use Rattle.fm_admin.specs.Limits.{TakeLimit};
 ghost use Rattle.fm_admin.specs.Repairing.{AreHandsAndEntry, IsRepairedBy, RepairDid};
 ghost use Rattle.fm_admin.specs.Repairing.{RepairRefused, RepairsBook, TakeRefused};
 ghost use Rattle.fm_admin.specs.Repairing.{TakesAndTells, TellsRepaired, TookOne};
@@ -57,6 +58,9 @@ fn take_entry<D: Disk, M: Module>(
         → StoreStandsFor D.Disk fresh store.old k → AllFollow M.Module k.book hands.items
         → TakesAndTells D.Disk fresh store.old store.new k entry result
         (λ now told. IsRepairedBy k entry told) }
+    ensures limit { (fresh : List ModuleState) (k : StoreBook)
+        → StoreStandsFor D.Disk fresh store.old k → AllFollow M.Module k.book hands.items
+        → IfErr result (TakeLimit store.old k entry) }
     ensures same_disks { AreSameStore D.Disk store.old store.new }
 {
     let number = store.accept(alloc, entry)?;

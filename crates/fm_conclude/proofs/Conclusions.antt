@@ -30,6 +30,7 @@ use Rattle.fm_store.specs.StoreOf.{StoreOf, StoreStandsFor}
 use Rattle.fm_store.specs.StoreReading.{IsNoDamage}
 use Rattle.fm_store.proofs.StoreMoves.{done_at_end}
 use Rattle.fm_drain.specs.DrainCalls.{DrainDoes, store_after}
+use Rattle.fm_settled.specs.BaseLimits.{BaseLimit, figures_of}
 use Rattle.fm_settled.specs.ToBase.{CheckpointFollows, IsAtBase, ToBaseBy, ToBaseOnBook}
 use Rattle.fm_settled.specs.ToBase.{ToBaseRefused, IsBasedOf}
 use Rattle.fm_conclude.specs.Concluding.{ConcludeRefused, ConcludesBook, FullAtLimit, IsConcluded}
@@ -239,6 +240,7 @@ module _ {D M : Type 0} (g : Ghosts D) (m : ModuleGhosts M) where
   refused_book only_now fresh old new k now fault why book = record {
     done = tt;
     undamaged = base_undamaged g old new fault why;
+    limit = book.limit;
     after_drain = book.after_drain;
     after_base = new;
     any_moment = book.any_moment;
@@ -246,6 +248,16 @@ module _ {D M : Type 0} (g : Ghosts D) (m : ModuleGhosts M) where
     any_reading = moments_still g only_now new (ReadsLike fresh k) book.left;
     left = book.left;
   }
+
+  read_limit : (old mid new : StoreOf D M) (k : StoreBook) (fault : StoreFault)
+      → UnreadLog g Flt mid.logs new.logs mid.logs.flt.disk new.logs.flt.disk fault
+      → BaseLimit (figures_of old) k fault
+  read_limit old mid new k (Full kind) why = absurd why
+  read_limit old mid new k (Closed name failures) why = tt
+  read_limit old mid new k Disk why = tt
+  read_limit old mid new k NoMemory why = tt
+  read_limit old mid new k (Damaged name place) why = tt
+  read_limit old mid new k Exists why = tt
 
   -- of the book that was drained it is told
   pub told_book : (fresh : List ModuleState) (old mid new : StoreOf D M) (k : StoreBook)
@@ -256,8 +268,9 @@ module _ {D M : Type 0} (g : Ghosts D) (m : ModuleGhosts M) where
       → ((b : StoreBook) → StoreStandsFor g fresh mid b → HandsAreDone m b.book now
       → IsTrue (is_done b.book) → IfOk result (TellsOf (drained b.book)))
       → ((b : StoreBook) → StoreStandsFor g fresh mid b → IfErr result IsNoDamage)
+      → IfErr result (UnreadLog g Flt mid.logs new.logs mid.logs.flt.disk new.logs.flt.disk)
       → ConcludesBook g fresh old new k result
-  told_book fresh old mid new k now done result book end reads same still tells undamaged =
+  told_book fresh old mid new k now done result book end reads same still tells undamaged why =
       let based : StoreBook = store_based (store_after book.works k) in
       let stands : StoreStandsFor g fresh mid based = book.at_base.stands in
       let based_is : IsBasedOf k based = book.at_base.based_is in
@@ -273,6 +286,9 @@ module _ {D M : Type 0} (g : Ghosts D) (m : ModuleGhosts M) where
                   (drained_same based.book k.book based_is.alike) each;
             }) told;
         undamaged = undamaged based stands;
+        limit = IfErr-weaker result
+            (UnreadLog g Flt mid.logs new.logs mid.logs.flt.disk new.logs.flt.disk)
+            (BaseLimit (figures_of old) k) (read_limit old mid new k) why;
         after_drain = book.after_drain;
         after_base = mid;
         any_moment = book.any_moment;

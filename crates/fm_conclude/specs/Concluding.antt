@@ -20,6 +20,7 @@ use Rattle.fm_store.specs.StoreLeft.{MomentsOn, EachLeft, ReadsLike, store_disk}
 use Rattle.fm_store.specs.StoreOf.{StoreOf, StoreStandsFor, fills_second}
 use Rattle.fm_store.specs.StoreReading.{IsNoDamage}
 use Rattle.fm_drain.specs.DrainCalls.{DrainDoes}
+use Rattle.fm_settled.specs.BaseLimits.{BaseLimit, figures_of}
 use Rattle.fm_settled.specs.ToBase.{IsBasedOf}
 use Rattle.fm_summary.specs.DrainedSummary.{IsSummaryOf, AreWantedOf}
 use Rattle.fm_conclude.specs.declared.concluding.Conclusion.{Conclusion}
@@ -85,14 +86,15 @@ pub record StandsConcluded {D M : Type 0} (g : Ghosts D) (fresh : List ModuleSta
   pub based_is : IsBasedOf k based
   pub tells : TellsOf (drained k.book) told
 
--- What becomes of a book that the hands follow. Each crash, now or at a moment since, leaves
--- contents that read like the book, whatever is answered: first while the fault log's disk alone is
--- worked on, which is that of `after_drain` then, next while a slot's alone is, up to `after_base`,
--- and at last while the fault log's disk is read.
+-- What becomes of a book that the hands follow. A limit that is told is one of the book. Each
+-- crash, now or at a moment since, leaves contents that read like the book, whatever is answered:
+-- first while the fault log's disk alone is worked on, which is that of `after_drain` then, next
+-- while a slot's alone is, up to `after_base`, and at last while the fault log's disk is read.
 pub record ConcludesBook {D M : Type 0} (g : Ghosts D) (fresh : List ModuleState)
     (old new : StoreOf D M) (k : StoreBook) (result : Result Conclusion StoreFault) : Type 0 where
   pub done : IfOk result (StandsConcluded g fresh new k)
   pub undamaged : IfErr result IsNoDamage
+  pub limit : IfErr result (BaseLimit (figures_of old) k)
   pub after_drain : StoreOf D M
   pub after_base : StoreOf D M
   pub any_moment : MomentsOn g Flt old after_drain (ReadsLike fresh k)

@@ -1,8 +1,8 @@
 -- A drain, hand by hand.
 use Rattle.std.proofs.Common.{◌≡◌, ◌≢◌, ◌⊎◌, inl, inr, ℕ, ◌+◌, ◌<◌, ◌≤◌}
 use Rattle.std.proofs.Common.{List, [], ◌∷◌, ◌++◌, length, Some, None, Result, Ok, Err, ◌==◌}
-use Rattle.std.proofs.Common.{append_assoc, append-nil, length-append, OnOk, refl, sym, ◌∙◌, ap}
-use Rattle.std.proofs.Common.{subst, arith}
+use Rattle.std.proofs.Common.{append_assoc, append-nil, length-append, OnOk, IfErr, refl, sym}
+use Rattle.std.proofs.Common.{◌∙◌, ap, subst, arith}
 use Rattle.std.specs.List.{slice_get, slice_set}
 use Rattle.std.proofs.lemmas.Bool.{cases_eq, cases_lt}
 use Rattle.std.proofs.lemmas.List.{length-set}
@@ -16,20 +16,23 @@ use Rattle.fm_core.specs.declared.module.Module.{Ghosts as ModuleGhosts}
 use Rattle.fm_core.proofs.Draining.{all_pass}
 use Rattle.fm_core.proofs.Lists.{get_set_same, get_set_other}
 use Rattle.fm_core.proofs.Tests.{eq_true}
+use Rattle.fm_journal.specs.declared.fault.FullKind.{FullKind}
 use Rattle.fm_logs.specs.StoreBook.{StoreBook}
 use Rattle.fm_logs.specs.declared.fault.StoreFault.{StoreFault}
-use Rattle.fm_logs.specs.declared.fault.StoreFault.TheVariants.{NoMemory}
+use Rattle.fm_logs.specs.declared.fault.StoreFault.TheVariants.{Disk, Full, Closed, Damaged}
+use Rattle.fm_logs.specs.declared.fault.StoreFault.TheVariants.{Exists, NoMemory}
 use Rattle.fm_store.specs.StoreCalls.{next_entry, AreAtEnd, HandsAreDone}
 use Rattle.fm_store.specs.StoreLeft.{AreSameStore}
 use Rattle.fm_store.specs.StoreOf.{StoreOf, StoreStandsFor}
 use Rattle.fm_drain.specs.DrainCalls.{IsAtCursor, AreAtCursors, MayBePast, OnlyCommitted}
-use Rattle.fm_drain.specs.DrainCalls.{StaysOpen, IsStopped, DrainAnswers}
+use Rattle.fm_drain.specs.DrainCalls.{StaysOpen, IsStopped, DrainAnswers, StopsAtLimit}
 use Rattle.fm_drain.specs.DrainCalls.{AllFollow, DrainDoes, DrainsOnBook, CommitsWorks, store_after}
 use Rattle.fm_drain.specs.DrainSteps.{HandAnswers, HandDoes, HandOnBook, NextDoes}
 use Rattle.fm_drain.proofs.StepLaws.{there}
 use Rattle.fm_drain.proofs.Works.{works_keep, follows_kept}
 use Rattle.fm_drain.proofs.Committing.{commits_none, commits_both}
 use Rattle.fm_drain.proofs.HandLaws.{only_then, stays_then, stopped_then, OnBooks, open_between}
+use Rattle.fm_drain.proofs.HandLaws.{book_same, limit_then}
 
 -- what stands in a list in which one element was written
 written : {X : Type 0} (xs : List X) (i : ℕ) (old new : X) (j : ℕ) (x : X)
@@ -74,11 +77,12 @@ module _ {D M : Type 0} (g : Ghosts D) (m : ModuleGhosts M) where
     pub only : OnlyCommitted old now
     pub as_many : length xs ≡ length hands
     pub cursors_many : length hands ≡ length now.logs.cursors
+    pub first_same : OnOk result (now.logs.flt.first ≡ old.logs.flt.first)
     pub follow : (k : Book) → k.base ≡ old.logs.base → k.entries ≡ old.logs.entries
         → AllFollow m k hands → AllFollow m k xs
     pub answer : SoFar old now i xs result
     pub book : (fresh : List ModuleState) (k : StoreBook) → StoreStandsFor g fresh old k
-        → AllFollow m k.book hands → HandOnBook g fresh old now k
+        → AllFollow m k.book hands → HandOnBook g fresh old now k result
     pub same_disks : AreSameStore g old now
 
   pub drains_none : OnlyNow g → (store : StoreOf D M) (hands : List (HandOf M)) (done : Unit)
@@ -87,13 +91,14 @@ module _ {D M : Type 0} (g : Ghosts D) (m : ModuleGhosts M) where
     only = refl;
     as_many = refl;
     cursors_many = at.as_many;
+    first_same = refl;
     follow = λ k base entries follows. follows;
     answer = record {
       each = at.each;
       come = λ j h low got. absurd (let no : ⊥ = omega arith in no);
       stays = inl refl;
     };
-    book = λ fresh k st follows. ([], commits_none g only_now fresh store k st);
+    book = λ fresh k st follows. book_same g m only_now fresh store k (Ok done) st tt;
     same_disks = λ name. refl;
   }
 
@@ -105,6 +110,7 @@ module _ {D M : Type 0} (g : Ghosts D) (m : ModuleGhosts M) where
     only = so.only;
     as_many = so.as_many;
     cursors_many = so.cursors_many;
+    first_same = tt;
     follow = so.follow;
     answer = so.answer;
     book = so.book;
@@ -178,7 +184,7 @@ module _ {D M : Type 0} (g : Ghosts D) (m : ModuleGhosts M) where
       (xs : List (HandOf M)) (hand after : HandOf M) (done : Unit)
       (result : Result Unit StoreFault) → Drains old now hands i xs (Ok done)
       → slice_get xs i ≡ Some hand → HandDoes g m now new hand after result
-      → OnOk result (after.cursor ≡ next_entry now.logs) → OnBooks g m now new hand
+      → OnOk result (after.cursor ≡ next_entry now.logs) → OnBooks g m now new hand result
       → AreSameStore g now new → Drains old new hands (i + 1) (slice_set xs i after) result
   drains_next old now new hands i xs hand after done result so at does ends books same =
       let number : hand.number ≡ i = (so.answer.each i hand at).number_is in
@@ -192,6 +198,8 @@ module _ {D M : Type 0} (g : Ghosts D) (m : ModuleGhosts M) where
         only = only_then old now new so.only does.only;
         as_many = many ∙ so.as_many;
         cursors_many = so.cursors_many ∙ sym does.as_many;
+        first_same = subst (λ (n : ℕ). OnOk result (new.logs.flt.first ≡ n)) so.first_same
+            does.first_same;
         follow = λ k at_base at_entries follows j h got.
             elim (written xs i hand after j h at got) [
               | inl here ↦ subst (λ (n : ℕ). FollowsAs k n (shown m h)) (sym here.0)
@@ -210,16 +218,20 @@ module _ {D M : Type 0} (g : Ghosts D) (m : ModuleGhosts M) where
             let one = so.book fresh k st follows in
             let is_open : now.logs.closed ≡ None =
             open_between g m fresh old now k so.answer.stays st in
-            let stands : StoreStandsFor g fresh now (store_after one.0 k) = one.1.stands is_open in
-            let follows_now : FollowsAs (store_after one.0 k).book hand.number (shown m hand) =
-            subst (λ (n : ℕ). FollowsAs (store_after one.0 k).book n (shown m hand)) (sym number)
-            (follows_kept k.book (store_after one.0 k).book i (shown m hand)
-            (works_keep one.0 k.book)
+            let stands : StoreStandsFor g fresh now (store_after one.works k) =
+            one.commits.stands is_open in
+            let follows_now : FollowsAs (store_after one.works k).book hand.number (shown m hand) =
+            subst (λ (n : ℕ). FollowsAs (store_after one.works k).book n (shown m hand))
+            (sym number) (follows_kept k.book (store_after one.works k).book i (shown m hand)
+            (works_keep one.works k.book)
             (so.follow k.book (sym st.base_is) (sym st.entries_are) follows i hand at)) in
-            let two = books fresh (store_after one.0 k) stands follows_now in (
-              one.0 ++ two.0,
-              commits_both g fresh old now new k one.0 two.0 st so.only one.1 two.1,
-            );
+            let two = books fresh (store_after one.works k) stands follows_now in
+            record {
+              works = one.works ++ two.works;
+              commits = commits_both g fresh old now new k one.works two.works st so.only
+                  one.commits two.commits;
+              limit = limit_then g m now old k one.works two.works result so.first_same two.limit;
+            };
         same_disks = λ name. same name ∙ so.same_disks name;
       }
 
@@ -248,6 +260,28 @@ module _ {D M : Type 0} (g : Ghosts D) (m : ModuleGhosts M) where
   }
   end_answer old now i xs (Err fault) only many all so = so
 
+  -- a limit that is told, of the book that the store stands for then
+  full_at : (fresh : List ModuleState) (old now : StoreOf D M) (i : ℕ) (xs : List (HandOf M))
+      (k : StoreBook) (result : Result Unit StoreFault) → SoFar old now i xs result
+      → HandOnBook g fresh old now k result → IfErr result (StopsAtLimit g fresh old now k)
+  full_at fresh old now i xs k (Ok done) so book = tt
+  full_at fresh old now i xs k (Err (Full kind)) so book = record {
+    works = book.works;
+    stands = book.commits.stands (elim so.why [
+      | inl wants ↦ absurd (full_memory wants)
+      | inr here ↦ here.2.1
+    ]);
+    step = book.limit;
+  }
+    where
+      full_memory : {kind : FullKind} → Full kind ≡ NoMemory → ⊥
+      full_memory same = cc same
+  full_at fresh old now i xs k (Err Disk) so book = tt
+  full_at fresh old now i xs k (Err (Closed name failures)) so book = tt
+  full_at fresh old now i xs k (Err (Damaged name place)) so book = tt
+  full_at fresh old now i xs k (Err Exists) so book = tt
+  full_at fresh old now i xs k (Err NoMemory) so book = tt
+
   pub drain_does : (old now : StoreOf D M) (hands : List (HandOf M)) (i : ℕ)
       (xs : List (HandOf M)) (result : Result Unit StoreFault) → length hands ≤ i
       → Drains old now hands i xs result → DrainDoes g m old now hands xs result
@@ -256,9 +290,12 @@ module _ {D M : Type 0} (g : Ghosts D) (m : ModuleGhosts M) where
       record {
         only = so.only;
         as_many = so.as_many;
+        first_same = so.first_same;
         follow = so.follow;
         answer = end_answer old now i xs result so.only (so.as_many ∙ so.cursors_many)
             (omega (arith, many, all)) so.answer;
+        limit = λ fresh k st follows.
+            full_at fresh old now i xs k result so.answer (so.book fresh k st follows);
       }
 
   -- what an answer of Ok says of the book
@@ -298,16 +335,16 @@ module _ {D M : Type 0} (g : Ghosts D) (m : ModuleGhosts M) where
   drains_on_book old now hands i xs result all so fresh k st follows =
       let one = so.book fresh k st follows in
       let many : length xs ≡ length hands = so.as_many in
-      let after : AllFollow m (store_after one.0 k).book xs =
-      λ j h got. follows_kept k.book (store_after one.0 k).book j (shown m h)
-      (works_keep one.0 k.book)
+      let after : AllFollow m (store_after one.works k).book xs =
+      λ j h got. follows_kept k.book (store_after one.works k).book j (shown m h)
+      (works_keep one.works k.book)
       (so.follow k.book (sym st.base_is) (sym st.entries_are) follows j h got) in
       record {
-        works = one.0;
-        commits = one.1;
+        works = one.works;
+        commits = one.commits;
         follow = after;
-        done = done_on fresh old now hands i xs k one.0 result (omega (arith, many, all)) so.only
-            so.answer st one.1 (so.as_many ∙ so.cursors_many) after;
+        done = done_on fresh old now hands i xs k one.works result (omega (arith, many, all))
+            so.only so.answer st one.commits (so.as_many ∙ so.cursors_many) after;
         is_open = open_on fresh old now i xs k result so.answer st;
       }
 
@@ -317,7 +354,9 @@ module _ {D M : Type 0} (g : Ghosts D) (m : ModuleGhosts M) where
   none_does store hands at = record {
     only = refl;
     as_many = refl;
+    first_same = tt;
     follow = λ k base entries follows. follows;
+    limit = λ fresh k st follows. tt;
     answer = record {
       one = 0;
       at_cursors = record {

@@ -1,6 +1,6 @@
 -- Steps of one hand, one after another.
 use Rattle.std.proofs.Common.{◌≡◌, inl, inr, ℕ, List, [], ◌++◌, Some, None}
-use Rattle.std.proofs.Common.{Result, Ok, Err, refl, sym, ◌∙◌, ap, subst}
+use Rattle.std.proofs.Common.{Result, Ok, Err, OnOk, IfErr, refl, sym, ◌∙◌, ap, subst}
 use Rattle.fm_outer.specs.Failures.{Rose}
 use Rattle.fm_outer.specs.declared.disk.Disk.{Ghosts}
 use Rattle.fm_outer.proofs.Moments.{OnlyNow}
@@ -17,8 +17,9 @@ use Rattle.fm_store.specs.StoreLeft.{AreSameStore}
 use Rattle.fm_store.specs.StoreOf.{StoreOf, StoreStandsFor}
 use Rattle.fm_drain.specs.DrainCalls.{IsAtCursor, OnlyCommitted, StaysOpen, StoppedAt}
 use Rattle.fm_drain.specs.DrainCalls.{store_after}
+use Rattle.fm_drain.specs.DrainLimits.{StepLimit}
 use Rattle.fm_drain.specs.DrainSteps.{HandAnswers, HandDoes, HandOnBook}
-use Rattle.fm_drain.proofs.Works.{works_keep, follows_kept}
+use Rattle.fm_drain.proofs.Works.{works_keep, follows_kept, run_both}
 use Rattle.fm_drain.proofs.Committing.{commits_none, commits_both}
 
 none_some : {X : Type 0} {x : X} → None ≡ Some x → ⊥
@@ -70,6 +71,7 @@ module _ {D M : Type 0} (g : Ghosts D) (m : ModuleGhosts M) where
   hand_same store hand done at = record {
     only = refl;
     as_many = refl;
+    first_same = refl;
     others = λ j differs. refl;
     follow = λ k base entries follows. follows;
     answer = (at, inl refl);
@@ -95,6 +97,8 @@ module _ {D M : Type 0} (g : Ghosts D) (m : ModuleGhosts M) where
       record {
         only = only_then old mid new first.only second.only;
         as_many = second.as_many ∙ first.as_many;
+        first_same = subst (λ (n : ℕ). OnOk result (new.logs.flt.first ≡ n)) first.first_same
+            second.first_same;
         others = λ j differs. second.others j (λ same. differs (same ∙ number))
             ∙ first.others j differs;
         follow = λ k at_base at_entries follows.
@@ -107,14 +111,21 @@ module _ {D M : Type 0} (g : Ghosts D) (m : ModuleGhosts M) where
       }
 
   -- what the steps of a hand make of each book
-  abbrev pub OnBooks : StoreOf D M → StoreOf D M → HandOf M → Type 0
-  OnBooks old new hand =
+  abbrev pub OnBooks : StoreOf D M → StoreOf D M → HandOf M → Result Unit StoreFault → Type 0
+  OnBooks old new hand result =
       (fresh : List ModuleState) (k : StoreBook) → StoreStandsFor g fresh old k
-      → FollowsAs k.book hand.number (shown m hand) → HandOnBook g fresh old new k
+      → FollowsAs k.book hand.number (shown m hand) → HandOnBook g fresh old new k result
 
-  pub books_same : OnlyNow g → (store : StoreOf D M) (hand : HandOf M) → OnBooks store store hand
-  books_same only_now store hand fresh k st follows =
-      ([], commits_none g only_now fresh store k st)
+  -- nothing was done
+  pub book_same : OnlyNow g → (fresh : List ModuleState) (store : StoreOf D M) (k : StoreBook)
+      (result : Result Unit StoreFault) → StoreStandsFor g fresh store k
+      → IfErr result (StepLimit store.logs.flt.first k.book)
+      → HandOnBook g fresh store store k result
+  book_same only_now fresh store k result st limit = record {
+    works = [];
+    commits = commits_none g only_now fresh store k st;
+    limit = limit;
+  }
 
   -- the store is open between steps
   pub open_between : (fresh : List ModuleState) (old mid : StoreOf D M) (k : StoreBook)
@@ -133,42 +144,59 @@ module _ {D M : Type 0} (g : Ghosts D) (m : ModuleGhosts M) where
       follows_kept k.book (store_after works k).book i (shown m now) (works_keep works k.book)
       (goes k.book (sym st.base_is) (sym st.entries_are) follows)
 
+  -- a limit of a book after works, some steps later
+  pub limit_then : (mid old : StoreOf D M) (k : StoreBook) (one two : List ℕ)
+      (result : Result Unit StoreFault) → mid.logs.flt.first ≡ old.logs.flt.first
+      → IfErr result (StepLimit mid.logs.flt.first (store_after two (store_after one k)).book)
+      → IfErr result (StepLimit old.logs.flt.first (store_after (one ++ two) k).book)
+  limit_then mid old k one two result first limit =
+      subst (λ (b : Book). IfErr result (StepLimit old.logs.flt.first b))
+      (sym (run_both one two k.book))
+      (subst (λ (n : ℕ). IfErr result
+      (StepLimit n (store_after two (store_after one k)).book)) first limit)
+
   pub books_then : (old mid new : StoreOf D M) (hand a : HandOf M) (done : Unit)
-      → HandDoes g m old mid hand a (Ok done) → OnBooks old mid hand → OnBooks mid new a
-      → OnBooks old new hand
-  books_then old mid new hand a done does first second fresh k st follows =
+      (result : Result Unit StoreFault) → HandDoes g m old mid hand a (Ok done)
+      → OnBooks old mid hand (Ok done) → OnBooks mid new a result → OnBooks old new hand result
+  books_then old mid new hand a done result does first second fresh k st follows =
       let one = first fresh k st follows in
       let is_open : mid.logs.closed ≡ None = open_between fresh old mid k does.answer.1 st in
-      let stands : StoreStandsFor g fresh mid (store_after one.0 k) = one.1.stands is_open in
-      let after : FollowsAs (store_after one.0 k).book a.number (shown m a) =
-      subst (λ (n : ℕ). FollowsAs (store_after one.0 k).book n (shown m a))
+      let stands : StoreStandsFor g fresh mid (store_after one.works k) =
+      one.commits.stands is_open in
+      let after : FollowsAs (store_after one.works k).book a.number (shown m a) =
+      subst (λ (n : ℕ). FollowsAs (store_after one.works k).book n (shown m a))
       (sym does.answer.0.number_is)
-      (follows_after fresh old k one.0 hand.number hand a st does.follow follows) in
-      let two = second fresh (store_after one.0 k) stands after in
-      (one.0 ++ two.0, commits_both g fresh old mid new k one.0 two.0 st does.only one.1 two.1)
+      (follows_after fresh old k one.works hand.number hand a st does.follow follows) in
+      let two = second fresh (store_after one.works k) stands after in
+      record {
+        works = one.works ++ two.works;
+        commits = commits_both g fresh old mid new k one.works two.works st does.only one.commits
+            two.commits;
+        limit = limit_then mid old k one.works two.works result does.first_same two.limit;
+      }
 
   -- a run of steps of a hand
   pub record HandSteps (old new : StoreOf D M) (hand now : HandOf M)
       (result : Result Unit StoreFault) : Type 0 where
     pub does : HandDoes g m old new hand now result
-    pub book : OnBooks old new hand
+    pub book : OnBooks old new hand result
     pub same_disks : AreSameStore g old new
 
   pub steps_none : OnlyNow g → (store : StoreOf D M) (hand : HandOf M) (done : Unit)
       → IsAtCursor m store.logs hand.number hand → HandSteps store store hand hand (Ok done)
   steps_none only_now store hand done at = record {
     does = hand_same store hand done at;
-    book = books_same only_now store hand;
+    book = λ fresh k st follows. book_same only_now fresh store k (Ok done) st tt;
     same_disks = λ name. refl;
   }
 
   pub steps_then : (old mid new : StoreOf D M) (hand a b : HandOf M) (done : Unit)
       (result : Result Unit StoreFault) → HandSteps old mid hand a (Ok done)
-      → HandDoes g m mid new a b result → OnBooks mid new a → AreSameStore g mid new
+      → HandDoes g m mid new a b result → OnBooks mid new a result → AreSameStore g mid new
       → HandSteps old new hand b result
   steps_then old mid new hand a b done result first does book same = record {
     does = hand_then old mid new hand a b done result first.does does;
-    book = books_then old mid new hand a done first.does first.book book;
+    book = books_then old mid new hand a done result first.does first.book book;
     same_disks = λ name. same name ∙ first.same_disks name;
   }
 

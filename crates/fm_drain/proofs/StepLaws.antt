@@ -11,7 +11,7 @@ use Rattle.fm_entry.specs.WordBytes.{spoken_bytes}
 use Rattle.fm_entry.specs.declared.entry.Entry.{Entry}
 use Rattle.fm_entry.specs.declared.list_event.ListEvent.{ListEvent}
 use Rattle.fm_entry.specs.declared.spoken.Spoken.{Spoken}
-use Rattle.fm_core.specs.Book.{Book, ModuleState, IsLawful, state_at}
+use Rattle.fm_core.specs.Book.{Book, ModuleState, IsLawful, state_at, worked}
 use Rattle.fm_core.specs.Folds.{records_at}
 use Rattle.fm_core.specs.Hands.{HandOf, Shown, shown, stepped, spoken_at}
 use Rattle.fm_core.specs.Meaning.{says_of}
@@ -21,9 +21,11 @@ use Rattle.fm_core.specs.declared.module.Module.{Ghosts as ModuleGhosts}
 use Rattle.fm_core.proofs.Keeping.{follows_step, worked_is}
 use Rattle.fm_core.proofs.Lists.{get_set_same, get_set_other}
 use Rattle.fm_journal.specs.Causes.{refusal}
+use Rattle.fm_journal.specs.JournalOf.{JournalOf}
 use Rattle.fm_logs.specs.LogsBook.{IsStepOf}
 use Rattle.fm_logs.specs.LogsLimits.{logs_of}
 use Rattle.fm_logs.specs.LogsOf.{LogsOf, Commits, CommitDoes, CommitRefused, FrameRefused, Frames}
+use Rattle.fm_logs.specs.LogsOf.{with_frame}
 use Rattle.fm_logs.specs.StoreBook.{StoreBook}
 use Rattle.fm_logs.specs.declared.disks.DiskName.{DiskName}
 use Rattle.fm_logs.specs.declared.fault.StoreFault.{StoreFault}
@@ -35,6 +37,7 @@ use Rattle.fm_store.specs.StoreLimits.{store_of}
 use Rattle.fm_store.specs.StoreOf.{StoreOf, StoreStandsFor}
 use Rattle.fm_drain.specs.DrainCalls.{IsAtCursor, IsStepPast, MayBePast, OnlyCommitted}
 use Rattle.fm_drain.specs.DrainCalls.{StoppedAt}
+use Rattle.fm_drain.specs.DrainLimits.{StepLimit}
 use Rattle.fm_drain.specs.DrainSteps.{HandDoes, HandOnBook}
 
 -- there is an element at a place within a list
@@ -70,12 +73,15 @@ kept_is : (own n : ℕ) (words : List ListEvent)
 kept_is own n [] = refl
 kept_is own n (w ∷ ws) = refl
 
--- the frame of what a hand says has the step of its module
-pub step_of : (k : Book) (h : Shown) (e : Entry) (frame : Option (List ℕ)) → IsLawful k
+-- work on the module of a hand puts what the hand says behind the records
+pub step_says : (k : Book) (h : Shown) (e : Entry) → IsLawful k
     → slice_get k.cursors h.number ≡ Some h.cursor → FollowsAs k h.number h
     → slice_get k.entries (h.cursor - k.base) ≡ Some e
-    → Frames frame (kept_record (spoken_at h e)) → IsStepOf k h.number h.cursor frame
-step_of k h e frame lawful at follows found frames =
+    → worked k h.number ≡ record k {
+      cursors = slice_set k.cursors h.number (h.cursor + 1);
+      records = k.records ++ kept_record (spoken_at h e);
+    }
+step_says k h e lawful at follows found =
     let within : h.number < length k.modules =
     subst (λ (n : ℕ). h.number < n) lawful.as_many
     (slice_get_within k.cursors h.number h.cursor at) in
@@ -88,15 +94,22 @@ step_of k h e frame lawful at follows found frames =
     ∙ ap (λ (n : ℕ). records_at n h.cursor (says_of h.meaning h.state h.cursor e)) (sym f.own_is)
     ∙ ap (λ m. records_at p.meaning.own h.cursor (says_of m h.state h.cursor e)) f.meaning_is
     ∙ ap (λ s. records_at p.meaning.own h.cursor (says_of p.meaning s h.cursor e)) f.folds in
-    record {
-      said = kept_record (spoken_at h e);
-      spells = frames;
-      worked_is = worked_is k h.number p h.cursor e there_is at found
-          ∙ ap (λ (rs : List Spoken). record k {
-            cursors = slice_set k.cursors h.number (h.cursor + 1);
-            records = k.records ++ rs;
-          }) (sym said);
-    }
+    worked_is k h.number p h.cursor e there_is at found
+    ∙ ap (λ (rs : List Spoken). record k {
+      cursors = slice_set k.cursors h.number (h.cursor + 1);
+      records = k.records ++ rs;
+    }) (sym said)
+
+-- the frame of what a hand says has the step of its module
+pub step_of : (k : Book) (h : Shown) (e : Entry) (frame : Option (List ℕ)) → IsLawful k
+    → slice_get k.cursors h.number ≡ Some h.cursor → FollowsAs k h.number h
+    → slice_get k.entries (h.cursor - k.base) ≡ Some e
+    → Frames frame (kept_record (spoken_at h e)) → IsStepOf k h.number h.cursor frame
+step_of k h e frame lawful at follows found frames = record {
+  said = kept_record (spoken_at h e);
+  spells = frames;
+  worked_is = step_says k h e lawful at follows found;
+}
 
 -- what a frame of the record is, where there is one
 abbrev pub FramesShort : Spoken → Option (List ℕ) → Type 0
@@ -182,6 +195,12 @@ module _ {D M : Type 0} (m : ModuleGhosts M) where
   }
 
 module _ {D M : Type 0} (g : Ghosts D) (m : ModuleGhosts M) where
+  -- a frame more leaves the first number
+  first_with : (disk : D) (frame : Option (List ℕ)) (j : JournalOf D)
+      → (with_frame disk frame j).first ≡ j.first
+  first_with disk None j = refl
+  first_with disk (Some payload) j = refl
+
   -- the step was committed
   pub step_done : (old new : StoreOf D M) (hand now : HandOf M) (e : Entry)
       (frame : Option (List ℕ)) (done : Unit) → new.base ≡ old.base → Takes m old.logs hand now e
@@ -200,6 +219,8 @@ module _ {D M : Type 0} (g : Ghosts D) (m : ModuleGhosts M) where
         only = only_by old new beside active (ap (λ (l : LogsOf D). l.second) commits.logs_are)
             base entries;
         as_many = ap length cursors ∙ length-set old.logs.cursors hand.number (hand.cursor + 1);
+        first_same = ap (λ (l : LogsOf D). l.flt.first) commits.logs_are
+            ∙ first_with new.logs.flt.disk frame old.logs.flt;
         others = λ j differs. ap (λ (cs : List ℕ). slice_get cs j) cursors
             ∙ get_set_other old.logs.cursors hand.number j (hand.cursor + 1) differs;
         follow = takes_follow m old.logs hand now e takes;
@@ -307,6 +328,7 @@ module _ {D M : Type 0} (g : Ghosts D) (m : ModuleGhosts M) where
         only = only_by old new beside same.active_same same.second_same same.base_same
             same.entries_same;
         as_many = ap length same.cursors_same;
+        first_same = tt;
         others = λ j differs. ap (λ (cs : List ℕ). slice_get cs j) same.cursors_same;
         follow = takes_follow m old.logs hand now e takes;
         answer = (
@@ -325,6 +347,7 @@ module _ {D M : Type 0} (g : Ghosts D) (m : ModuleGhosts M) where
   rests store hand now fault follow may why = record {
     only = refl;
     as_many = refl;
+    first_same = tt;
     others = λ j differs. refl;
     follow = follow;
     answer = (may, why);
@@ -398,26 +421,30 @@ module _ {D M : Type 0} (g : Ghosts D) (m : ModuleGhosts M) where
   pub refused_on_book : (fresh : List ModuleState) (old new : StoreOf D M) (k : StoreBook)
       (i n : ℕ) (frame : Option (List ℕ)) (fault : StoreFault) → new.base ≡ old.base
       → StoreStandsFor g fresh old k → CommitRefused g old.logs new.logs i n frame fault
-      → CommitsOnBook g fresh old new k i (Err fault) → HandOnBook g fresh old new k
-  refused_on_book fresh old new k i n frame fault beside st why commits = (
-    [],
-    record {
+      → StepLimit old.logs.flt.first k.book fault
+      → CommitsOnBook g fresh old new k i (Err fault) → HandOnBook g fresh old new k (Err fault)
+  refused_on_book fresh old new k i n frame fault beside st why limit commits = record {
+    works = [];
+    commits = record {
       stands = refused_stands fresh old new k i n frame fault beside st why;
       any_moment = commits.any_moment;
       left = commits.left;
-    },
-  )
+    };
+    limit = limit;
+  }
 
   pub done_on_book : (fresh : List ModuleState) (old new : StoreOf D M) (k : StoreBook) (i : ℕ)
-      → CommitsOnBook g fresh old new k i (Ok Done) → HandOnBook g fresh old new k
-  done_on_book fresh old new k i commits = (
-    i ∷ [],
-    record {
+      (done : Unit) → CommitsOnBook g fresh old new k i (Ok Done)
+      → HandOnBook g fresh old new k (Ok done)
+  done_on_book fresh old new k i done commits = record {
+    works = i ∷ [];
+    commits = record {
       stands = λ is_open. commits.stands;
       any_moment = commits.any_moment;
       left = commits.left;
-    },
-  )
+    };
+    limit = tt;
+  }
 
   -- the hand took the entry that was read
   takes_by : (logs : LogsOf D) (hand now : HandOf M) (e : Entry) (n : ℕ)

@@ -1,12 +1,13 @@
 -- How a store is drained: where its hands are on the way, why it stops, and what becomes of the
 -- book that the store stands for.
 use Rattle.std.specs.Prelude.{◌≡◌, ◌≢◌, ◌⊎◌, ℕ, ◌-◌, ◌≤◌, List, length, map, slice_get}
-use Rattle.std.specs.Prelude.{Some, None, Result, Ok, Err, OnOk}
+use Rattle.std.specs.Prelude.{Some, None, Result, Ok, Err, OnOk, IfErr}
 use Rattle.fm_outer.specs.Failures.{Rose}
 use Rattle.fm_outer.specs.declared.disk.Disk.{Ghosts}
 use Rattle.fm_entry.specs.WordBytes.{spoken_bytes}
 use Rattle.fm_entry.specs.declared.entry.Entry.{Entry}
 use Rattle.fm_entry.specs.declared.spoken.Spoken.{Spoken}
+use Rattle.fm_journal.specs.declared.fault.FullKind.{FullKind}
 use Rattle.fm_core.specs.Book.{Book, ModuleState, Work, run}
 use Rattle.fm_core.specs.Hands.{HandOf, Shown, shown, stepped, spoken_at}
 use Rattle.fm_core.specs.Seen.{FollowsAs}
@@ -19,6 +20,7 @@ use Rattle.fm_logs.specs.declared.fault.StoreFault.TheVariants.{Disk, Full, Clos
 use Rattle.fm_store.specs.StoreCalls.{next_entry, AreAtEnd, HandsAreDone}
 use Rattle.fm_store.specs.StoreLeft.{MomentsOn, EachLeft, ReadsLike}
 use Rattle.fm_store.specs.StoreOf.{StoreOf, StoreStandsFor}
+use Rattle.fm_drain.specs.DrainLimits.{StepIsFull}
 
 -- the hand of module i is at the module's cursor, which lies between the base and the end
 pub record IsAtCursor {D M : Type 0} (m : ModuleGhosts M) (logs : LogsOf D) (i : ℕ) (h : HandOf M)
@@ -117,19 +119,37 @@ abbrev pub AllFollow : {M : Type 0} → ModuleGhosts M → Book → List (HandOf
 AllFollow {M = M} m k hands =
     (i : ℕ) (h : HandOf M) → slice_get hands i ≡ Some h → FollowsAs k i (shown m h)
 
+-- modules are worked in this order
+abbrev pub store_after : List ℕ → StoreBook → StoreBook
+store_after works k = with_book k (run k.book (map Work works))
+
+-- A limit was reached of a book that the store stood for: it stands for the book after some works,
+-- and a step of that book has no room in the fault log.
+pub record StopsFull {D M : Type 0} (g : Ghosts D) (fresh : List ModuleState)
+    (old new : StoreOf D M) (k : StoreBook) (kind : FullKind) : Type 0 where
+  pub works : List ℕ
+  pub stands : StoreStandsFor g fresh new (store_after works k)
+  pub step : StepIsFull old.logs.flt.first (store_after works k).book kind
+
+-- where a limit was reached, it is this one
+abbrev pub StopsAtLimit : {D M : Type 0} → Ghosts D → List ModuleState → StoreOf D M → StoreOf D M
+    → StoreBook → StoreFault → Type 0
+StopsAtLimit g fresh old new k (Full kind) = StopsFull g fresh old new k kind
+StopsAtLimit _ _ _ _ _ _ = Unit {0}
+
 -- What a drain does of itself, whatever the disks say: it commits steps only, and hands that follow
--- a book with the store's base and entries follow it still.
+-- a book with the store's base and entries follow it still. Of each book that the store stands for
+-- and the hands follow, a limit that is told was reached.
 pub record DrainDoes {D M : Type 0} (g : Ghosts D) (m : ModuleGhosts M) (old new : StoreOf D M)
     (hands now : List (HandOf M)) (result : Result Unit StoreFault) : Type 0 where
   pub only : OnlyCommitted old new
   pub as_many : length now ≡ length hands
+  pub first_same : OnOk result (new.logs.flt.first ≡ old.logs.flt.first)
   pub follow : (k : Book) → k.base ≡ old.logs.base → k.entries ≡ old.logs.entries
       → AllFollow m k hands → AllFollow m k now
   pub answer : DrainAnswers g m old new now result
-
--- modules are worked in this order
-abbrev pub store_after : List ℕ → StoreBook → StoreBook
-store_after works k = with_book k (run k.book (map Work works))
+  pub limit : (fresh : List ModuleState) (k : StoreBook) → StoreStandsFor g fresh old k
+      → AllFollow m k.book hands → IfErr result (StopsAtLimit g fresh old new k)
 
 -- Some steps of modules were committed. The store stands for the book after them, unless it was
 -- closed since, and each crash, now or at a moment since, leaves contents that read like the book.

@@ -1,5 +1,6 @@
 -- What a run of steps of one hand does, and what it makes of the book that the store stands for.
 use Rattle.std.specs.Prelude.{◌≡◌, ◌≢◌, ℕ, List, length, slice_get, Result, Ok, Err, OnOk}
+use Rattle.std.specs.Prelude.{IfErr}
 use Rattle.fm_outer.specs.declared.disk.Disk.{Ghosts}
 use Rattle.fm_core.specs.Book.{Book, ModuleState}
 use Rattle.fm_core.specs.Hands.{HandOf, shown}
@@ -11,7 +12,8 @@ use Rattle.fm_store.specs.StoreCalls.{next_entry}
 use Rattle.fm_store.specs.StoreLeft.{AreSameStore}
 use Rattle.fm_store.specs.StoreOf.{StoreOf, StoreStandsFor}
 use Rattle.fm_drain.specs.DrainCalls.{IsAtCursor, MayBePast, OnlyCommitted, StaysOpen, StoppedAt}
-use Rattle.fm_drain.specs.DrainCalls.{CommitsWorks}
+use Rattle.fm_drain.specs.DrainCalls.{CommitsWorks, store_after}
+use Rattle.fm_drain.specs.DrainLimits.{StepLimit}
 
 -- after Ok the hand is at its cursor again
 abbrev pub HandAnswers : {D M : Type 0} → Ghosts D → ModuleGhosts M → StoreOf D M → StoreOf D M → ℕ
@@ -26,16 +28,20 @@ pub record HandDoes {D M : Type 0} (g : Ghosts D) (m : ModuleGhosts M) (old new 
     (hand now : HandOf M) (result : Result Unit StoreFault) : Type 0 where
   pub only : OnlyCommitted old new
   pub as_many : length new.logs.cursors ≡ length old.logs.cursors
+  pub first_same : OnOk result (new.logs.flt.first ≡ old.logs.flt.first)
   pub others : (j : ℕ) → j ≢ hand.number
       → slice_get new.logs.cursors j ≡ slice_get old.logs.cursors j
   pub follow : (k : Book) → k.base ≡ old.logs.base → k.entries ≡ old.logs.entries
       → FollowsAs k hand.number (shown m hand) → FollowsAs k hand.number (shown m now)
   pub answer : HandAnswers g m old new hand.number now result
 
--- some works of the book were committed
-abbrev pub HandOnBook : {D M : Type 0} → Ghosts D → List ModuleState → StoreOf D M → StoreOf D M
-    → StoreBook → Type 0
-HandOnBook g fresh old new k = (works : List ℕ) × CommitsWorks g fresh old new k works
+-- Some works of the book were committed, and where a limit was reached, it is that of a step of the
+-- book after them.
+pub record HandOnBook {D M : Type 0} (g : Ghosts D) (fresh : List ModuleState)
+    (old new : StoreOf D M) (k : StoreBook) (result : Result Unit StoreFault) : Type 0 where
+  pub works : List ℕ
+  pub commits : CommitsWorks g fresh old new k works
+  pub limit : IfErr result (StepLimit old.logs.flt.first (store_after works k).book)
 
 -- the hand took all entries that it had not taken, or stopped
 pub record HandDrains {D M : Type 0} (g : Ghosts D) (m : ModuleGhosts M) (old new : StoreOf D M)
@@ -43,7 +49,7 @@ pub record HandDrains {D M : Type 0} (g : Ghosts D) (m : ModuleGhosts M) (old ne
   pub does : HandDoes g m old new hand now result
   pub at_end : OnOk result (now.cursor ≡ next_entry old.logs)
   pub book : (fresh : List ModuleState) (k : StoreBook) → StoreStandsFor g fresh old k
-      → FollowsAs k.book hand.number (shown m hand) → HandOnBook g fresh old new k
+      → FollowsAs k.book hand.number (shown m hand) → HandOnBook g fresh old new k result
   pub same_disks : AreSameStore g old new
 
 -- a hand after those before it: it is not drained where one of them stopped

@@ -1,2 +1,3 @@
+pub mod DrainLimits
 pub mod DrainCalls
 pub mod DrainSteps

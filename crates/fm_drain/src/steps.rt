@@ -82,7 +82,7 @@ pub(crate) fn step_hand<D: Disk, M: Module>(
     ensures book { (fresh : List ModuleState) (k : StoreBook)
         → StoreStandsFor D.Disk fresh store.old k
         → FollowsAs k.book hand.number (shown M.Module hand)
-        → HandOnBook D.Disk fresh store.old store.new k }
+        → HandOnBook D.Disk fresh store.old store.new k result.1 }
     ensures same_disks { AreSameStore D.Disk store.old store.new }
 {
     if let Some((disk, faults)) = store.closed() {
@@ -116,7 +116,7 @@ pub(crate) fn drain_hand<D: Disk, M: Module>(
     ensures book { (fresh : List ModuleState) (k : StoreBook)
         → StoreStandsFor D.Disk fresh store.old k
         → FollowsAs k.book hand.number (shown M.Module hand)
-        → HandOnBook D.Disk fresh store.old store.new k }
+        → HandOnBook D.Disk fresh store.old store.new k result.1 }
     ensures same_disks { AreSameStore D.Disk store.old store.new }
 {
     let mut now = hand;

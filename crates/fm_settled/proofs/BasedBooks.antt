@@ -73,7 +73,7 @@ based_none k none done =
     store_based_is k done ∙ (λ i. record { book = book i; confs = k.confs; in_force = force i })
 
 -- the state of a module that has taken all entries
-state_there : (k : Book) (p : ModuleState) (c : ℕ) → next_number k ≤ c
+pub state_there : (k : Book) (p : ModuleState) (c : ℕ) → next_number k ≤ c
     → state_at k p c ≡ state_along p.meaning p.state k.base k.entries
 state_there k p c past =
     ap (λ (es : List Entry). state_along p.meaning p.state k.base es) (taken_all k c past)

@@ -2,4 +2,5 @@ pub mod OrderedRecords
 pub mod CaseWords
 pub mod RecordRows
 pub mod BasedBooks
+pub mod BaseLimitLaws
 pub mod ToBaseLaws

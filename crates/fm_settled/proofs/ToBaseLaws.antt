@@ -37,13 +37,15 @@ use Rattle.fm_store.proofs.StoreMoves.{done_at_end}
 use Rattle.fm_store.proofs.StoreReads.{like_through}
 use Rattle.fm_drain.specs.DrainCalls.{IsAtCursor, AreAtCursors, IsDrained, StaysOpen, StoppedAt}
 use Rattle.fm_drain.specs.DrainCalls.{OnlyCommitted, DrainDoes, DrainsOnBook}
-use Rattle.fm_drain.specs.DrainCalls.{AllFollow, CommitsWorks, IsStopped, store_after}
+use Rattle.fm_drain.specs.DrainCalls.{AllFollow, CommitsWorks, IsStopped, StopsAtLimit}
+use Rattle.fm_drain.specs.DrainCalls.{store_after}
 use Rattle.fm_drain.proofs.Committing.{commits_none}
 use Rattle.fm_drain.proofs.StepLaws.{there}
-use Rattle.fm_drain.proofs.Works.{works_alike}
+use Rattle.fm_drain.proofs.Works.{works_alike, works_keep}
 use Rattle.fm_settled.specs.ToBase.{DrainsThenBases, ToBaseBy, ToBaseDoes}
 use Rattle.fm_settled.specs.ToBase.{IsAtBase, ClosesAt, ToBaseRefused, ToBaseOnBook, StandsAtBase}
 use Rattle.fm_settled.proofs.BasedBooks.{based_none, based_of, hands_based}
+use Rattle.fm_settled.proofs.BaseLimitLaws.{checkpoint_limit, drain_limit}
 
 none_some : {X : Type 0} {x : X} {o : Option X} → o ≡ None → o ≡ Some x → ⊥
 none_some {x = x} none some =
@@ -341,6 +343,7 @@ module _ {D M : Type 0} (g : Ghosts D) (m : ModuleGhosts M) where
           based_is = based_of k [] st.lawful.lawful end;
         };
         refused = tt;
+        limit = tt;
         after_drain = store;
         any_moment = commits.any_moment;
         any_later = slot_still only_now (fills_second store.base.newest) store (ReadsLike fresh k)
@@ -370,13 +373,14 @@ module _ {D M : Type 0} (g : Ghosts D) (m : ModuleGhosts M) where
   -- the drain stopped
   pub stopped_on_book : OnlyNow g → (fresh : List ModuleState) (old new : StoreOf D M)
       (k : StoreBook) (now : List (HandOf M)) (fault : StoreFault)
-      → DrainsOnBook g m fresh old new k now (Err fault)
+      → DrainsOnBook g m fresh old new k now (Err fault) → StopsAtLimit g fresh old new k fault
       → ToBaseOnBook g m fresh old new k now (Err fault)
-  stopped_on_book only_now fresh old new k now fault drains = record {
+  stopped_on_book only_now fresh old new k now fault drains stops = record {
     works = drains.works;
     follow = drains.follow;
     at_base = tt;
     refused = drains.commits.stands;
+    limit = drain_limit g m fresh old new k fault stops;
     after_drain = new;
     any_moment = drains.commits.any_moment;
     any_later = slot_still only_now (fills_second old.base.newest) new (ReadsLike fresh k)
@@ -438,6 +442,8 @@ module _ {D M : Type 0} (g : Ghosts D) (m : ModuleGhosts M) where
         at_base = based_stands fresh mid new k drains.works now result st.lawful.lawful
             (done_at_end g fresh mid w stands end) drains.done writes;
         refused = refused_stands fresh mid new w (saves_of m now) result stands does;
+        limit = checkpoint_limit g m fresh old mid new k w.book now result st only
+            (works_keep drains.works k.book) drains.done does;
         after_drain = mid;
         any_moment = drains.commits.any_moment;
         any_later = subst (λ (n : Option (Bool × ℕ)).

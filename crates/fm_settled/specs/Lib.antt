@@ -1,2 +1,3 @@
+pub mod BaseLimits
 pub mod ToBase
 pub mod CaseStatus

@@ -1,7 +1,7 @@
 -- A store that is drained and has its base moved to its end: what is done, and what becomes of the
 -- book that the store stands for.
 use Rattle.std.specs.Prelude.{◌≡◌, ℕ, List, [], ◌∷◌, Option, Some, None, Result, Ok, Err, OnOk}
-use Rattle.std.specs.Prelude.{OnErr, slice_get}
+use Rattle.std.specs.Prelude.{OnErr, IfErr, slice_get}
 use Rattle.fm_outer.specs.Failures.{Rose}
 use Rattle.fm_outer.specs.declared.disk.Disk.{Ghosts}
 use Rattle.fm_core.specs.Book.{ModuleState, next_number}
@@ -21,6 +21,7 @@ use Rattle.fm_store.specs.StoreCalls.{next_entry, saves_of, AreAtEnd, HandsAreDo
 use Rattle.fm_store.specs.StoreLeft.{MomentsOn, EachLeft, ReadsLike, store_based, store_disk}
 use Rattle.fm_store.specs.StoreOf.{StoreOf, StoreStandsFor, fills_second}
 use Rattle.fm_drain.specs.DrainCalls.{AllFollow, AreAtCursors, DrainDoes, store_after}
+use Rattle.fm_settled.specs.BaseLimits.{BaseLimit, figures_of}
 
 -- a checkpoint was written of the hands after the drain, or none where the drain stopped
 abbrev pub CheckpointFollows : {D M : Type 0} → Ghosts D → ModuleGhosts M → StoreOf D M
@@ -106,9 +107,10 @@ pub record StandsAtBase {D M : Type 0} (g : Ghosts D) (m : ModuleGhosts M)
 
 -- What becomes of a book that the hands follow: modules are worked, and after Ok the store stands
 -- for the book after these works with its base at its end, where the hands are done. After a
--- refusal it stands for the book after the works, unless it was closed since. Each crash, now or at
--- a moment since, leaves contents that read like the book: first while the fault log's disk alone
--- is worked on, which is that of `after_drain` then, and then while a slot's alone is.
+-- refusal it stands for the book after the works, unless it was closed since. A limit that is told
+-- is one of the book. Each crash, now or at a moment since, leaves contents that read like the
+-- book: first while the fault log's disk alone is worked on, which is that of `after_drain` then,
+-- and then while a slot's alone is.
 pub record ToBaseOnBook {D M : Type 0} (g : Ghosts D) (m : ModuleGhosts M)
     (fresh : List ModuleState) (old new : StoreOf D M) (k : StoreBook) (now : List (HandOf M))
     (result : Result Unit StoreFault) : Type 0 where
@@ -118,6 +120,7 @@ pub record ToBaseOnBook {D M : Type 0} (g : Ghosts D) (m : ModuleGhosts M)
       (StandsAtBase g m fresh new k (store_based (store_after works k)) now)
   pub refused : OnErr result (new.logs.closed ≡ None
       → StoreStandsFor g fresh new (store_after works k))
+  pub limit : IfErr result (BaseLimit (figures_of old) k)
   pub after_drain : StoreOf D M
   pub any_moment : MomentsOn g Flt old after_drain (ReadsLike fresh k)
   pub any_later : MomentsOn g (slot_name (fills_second old.base.newest)) after_drain new

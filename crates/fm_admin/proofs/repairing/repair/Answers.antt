@@ -26,7 +26,8 @@ returns-in-Some-clause-book g c = λ fresh k stands follow.
     c.take_entry.new.store k c.args.order.now (λ hands. hands.items) c.in-Ok.hands c.in-Ok.found
     c.in-Some.entry c.take_entry.result c.in-Some.is tells
     (c.take_entry.ensures.book fresh tells.done.now tells.done.stands
-    tells.done.told.0.follow)
+    tells.done.told.0.follow) c.in-Ok.ensures.drained
+    (c.take_entry.ensures.limit fresh tells.done.now tells.done.stands tells.done.told.0.follow)
 
 pub returns-in-None-clause-book : goal.returns-in-None-clause-book
 returns-in-None-clause-book g c = λ fresh k stands follow.
@@ -39,7 +40,8 @@ returns-in-Err-clause-book g c = λ fresh k stands follow.
     look_refused g.D.Disk diagnosers fresh c.args.store.now c.find_entry.new.store k
     c.args.order.now c.in-Err.fault
     (λ now found. AreHandsAndEntry diagnosers c.args.order.now k now found.0.items found.1)
-    (c.in-Err.ensures.book fresh k stands follow)
+    (c.in-Err.ensures.book fresh k stands follow) c.args.hands.items stands follow
+    c.in-Err.ensures.refused
 
 pub take_entry-requires-send-M : goal.take_entry-requires-send-M
 take_entry-requires-send-M g c κs = search (diagnoser_send, sendable)

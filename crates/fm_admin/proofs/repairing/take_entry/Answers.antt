@@ -5,9 +5,9 @@ use Rattle.fm_logs.specs.declared.disks.DiskName.TheVariants.{Flt}
 use Rattle.fm_logs.specs.declared.fault.StoreFault.TheVariants.{NoMemory}
 use Rattle.fm_admin.specs.Repairing.{IsRepairedBy}
 use Rattle.fm_admin.specs.Telling.{AreHandsAndStatus}
-use Rattle.fm_admin.proofs.Repairs.{admitted_lawful, cursors_after, follow_accepted, number_taken}
-use Rattle.fm_admin.proofs.Repairs.{refused_entry, repaired_told, taken_entry, taken_refused}
-use Rattle.fm_admin.proofs.Repairs.{took_one}
+use Rattle.fm_admin.proofs.Repairs.{admitted_lawful, cursors_after, entry_limit, follow_accepted}
+use Rattle.fm_admin.proofs.Repairs.{limit_as, number_taken, refused_entry, repaired_told}
+use Rattle.fm_admin.proofs.Repairs.{taken_entry, taken_limit, taken_refused, took_one}
 use Rattle.fm_admin.proofs.Tellings.{refused_as, told_on, wanting_on}
 use Rattle.fm_admin.proofs.repairing.take_entry.Goals as goal
 
@@ -18,6 +18,13 @@ returns-in_err-number-clause-book g c = λ fresh k stands follow.
     (search rules) c.in_err-number.ensures.does
     (c.in_err-number.ensures.book fresh k stands
     (admitted_lawful k c.args.entry stands.lawful c.requires.admitted))
+
+pub returns-in_err-number-clause-limit : goal.returns-in_err-number-clause-limit
+returns-in_err-number-clause-limit g c = λ fresh k stands follow.
+    limit_as g.D.Disk g.M.Module c.args.store.now k c.args.entry c.in_err-number.field-0.0
+    c.from_residual.result (search rules)
+    (entry_limit g.D.Disk g.M.Module c.args.store.now c.accept.new.self k c.args.entry
+    c.in_err-number.field-0.0 c.in_err-number.ensures.does)
 
 pub drain_status-requires-clause-at_cursors : goal.drain_status-requires-clause-at_cursors
 drain_status-requires-clause-at_cursors g c κs = λ alive.
@@ -46,6 +53,18 @@ returns-in_err-_hands-clause-book g c = λ fresh k stands follow.
     (c.in_err-_hands.ensures.book fresh (store_accepted k c.args.entry) accepts.stands
     (follow_accepted g.D.Disk g.M.Module k c.args.entry c.args.hands.items follow)))
 
+pub returns-in_err-_hands-clause-limit : goal.returns-in_err-_hands-clause-limit
+returns-in_err-_hands-clause-limit g c = λ fresh k stands follow.
+    let accepts = c.in_ok-number.ensures.book fresh k stands
+    (admitted_lawful k c.args.entry stands.lawful c.requires.admitted) in
+    limit_as g.D.Disk g.M.Module c.args.store.now k c.args.entry c.in_err-_hands.field-0.0
+    c.from_residual-in_err-_hands.result (search rules)
+    (taken_limit g.D.Disk g.M.Module fresh c.args.store.now c.accept.new.self
+    c.drain_status.new.store k c.args.hands.items c.args.entry c.in_ok-number.number
+    c.in_err-_hands.field-0.0 c.in_ok-number.ensures.does accepts.stands
+    (follow_accepted g.D.Disk g.M.Module k c.args.entry c.args.hands.items follow)
+    c.in_err-_hands.ensures.refused)
+
 pub returns-in_err-repaired_of-clause-refused : goal.returns-in_err-repaired_of-clause-refused
 returns-in_err-repaired_of-clause-refused g c =
     taken_refused g.D.Disk g.M.Module c.args.store.now c.accept.new.self c.drain_status.new.store
@@ -68,6 +87,11 @@ returns-in_err-repaired_of-clause-book g c = λ fresh k stands follow.
     (λ now told. IsRepairedBy k c.args.entry told) (search rules)
     (c.in_ok-_hands.ensures.book fresh (store_accepted k c.args.entry) accepts.stands
     (follow_accepted g.D.Disk g.M.Module k c.args.entry c.args.hands.items follow)))
+
+pub returns-in_err-repaired_of-clause-limit : goal.returns-in_err-repaired_of-clause-limit
+returns-in_err-repaired_of-clause-limit g c = λ fresh k stands follow.
+    limit_as g.D.Disk g.M.Module c.args.store.now k c.args.entry NoMemory
+    c.from_residual-in_err-repaired_of.result (search rules) tt
 
 pub returns-clause-took : goal.returns-clause-took
 returns-clause-took g c =

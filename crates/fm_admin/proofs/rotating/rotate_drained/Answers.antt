@@ -58,9 +58,11 @@ returns-clause-refused g c =
 
 pub returns-clause-book : goal.returns-clause-book
 returns-clause-book g c = λ fresh k stands follow.
+    let drain = subst (λ r. DrainDoes g.D.Disk g.M.Module c.args.store.now c.drain-hands.new.store
+    c.args.hands.items c.drain-hands.result.0.items r) c.in-Err.is c.drain-hands.ensures.does in
     stopped_rotation g.D.Disk g.M.Module g.met.D.Disk.only_now fresh c.args.store.now
     c.drain-hands.new.store k c.args.hands.items c.drain-hands.result.0.items c.in-Err.fault
-    (subst (λ r. DrainDoes g.D.Disk g.M.Module c.args.store.now c.drain-hands.new.store
-    c.args.hands.items c.drain-hands.result.0.items r) c.in-Err.is c.drain-hands.ensures.does)
+    drain
     (subst (λ r. DrainsOnBook g.D.Disk g.M.Module fresh c.args.store.now c.drain-hands.new.store k
     c.drain-hands.result.0.items r) c.in-Err.is (c.drain-hands.ensures.book fresh k stands follow))
+    (drain.limit fresh k stands follow)

@@ -67,7 +67,7 @@ returns-in-Ok-clause-book g c = λ fresh k stands follow.
     (c.read_conclusion.ensures.book fresh)
     (λ b there done end. c.read_conclusion.ensures.tells fresh b there
     (subst (HandsAreDone diagnosers b.book) (sym c.deref.ensures.value) done) end)
-    (c.read_conclusion.ensures.undamaged fresh)
+    (c.read_conclusion.ensures.undamaged fresh) c.read_conclusion.ensures.refused
 
 pub returns-clause-refused : goal.returns-clause-refused
 returns-clause-refused g c =

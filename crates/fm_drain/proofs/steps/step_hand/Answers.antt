@@ -6,9 +6,10 @@ use Rattle.fm_logs.specs.LogsOf.{CommitDoes, Frames}
 use Rattle.fm_logs.specs.declared.logs.Committed.{Committed}
 use Rattle.fm_store.specs.StoreCalls.{CommitsOnBook}
 use Rattle.std.proofs.lemmas.Option.{slice_get_within}
-use Rattle.fm_drain.proofs.HandLaws.{books_same}
+use Rattle.fm_drain.proofs.HandLaws.{book_same}
 use Rattle.fm_drain.proofs.StepLaws.{done_does, refused_does, unframed_does, step_is}
 use Rattle.fm_drain.proofs.StepLaws.{FramesShort, step_unmade, done_on_book, refused_on_book}
+use Rattle.fm_drain.proofs.StepLimits.{refused_limit, unframed_limit}
 use Rattle.fm_drain.proofs.steps.step_hand.Goals as goal
 
 pub step-requires-clause-number : goal.step-requires-clause-number
@@ -44,6 +45,7 @@ returns-in-Ok-Done-clause-does g c =
 pub returns-in-Ok-Done-clause-book : goal.returns-in-Ok-Done-clause-book
 returns-in-Ok-Done-clause-book g c = λ fresh k st follows.
     done_on_book g.D.Disk g.M.Module fresh c.args.store.now c.commit.new.self k c.module-own.result
+    tt
     (subst (λ (a : Committed). CommitsOnBook g.D.Disk fresh c.args.store.now c.commit.new.self k
     c.module-own.result (Ok a)) c.in-Ok-Done.field-0-is
     (c.in-Ok-Done.ensures.book fresh k st (step_is g.D.Disk g.M.Module c.args.store.now
@@ -68,6 +70,14 @@ returns-in-Ok-words_frame-clause-book g c = λ fresh k st follows.
     refused_on_book g.D.Disk g.M.Module fresh c.args.store.now c.commit.new.self k
     c.module-own.result c.cursor-number.result _ c.in-Err-commit.fault
     c.in-Err-commit.ensures.base_same st c.in-Err-commit.ensures.does
+    (refused_limit g.D.Disk g.M.Module fresh c.args.store.now c.commit.new.self k c.args.hand
+    c.in-Ok.hand c.entry_at.result.now c.module-own.result c.cursor-number.result
+    c.requires.at_cursor c.cursor-number.ensures c.entry_at.ensures.entry c.in-Ok.spoken
+    c.in-Ok.ensures.words st follows _ c.in-Err-commit.fault
+    (subst (λ (o : Option (List ℕ)). Frames o (kept_record c.in-Ok.spoken))
+    (sym c.as_ref.ensures.value) c.in-Ok-words_frame.ensures.ok)
+    (subst (FramesShort c.in-Ok.spoken) (sym c.as_ref.ensures.value)
+    c.in-Ok-words_frame.ensures.short) c.in-Err-commit.ensures.does)
     (c.in-Err-commit.ensures.book fresh k st (step_is g.D.Disk g.M.Module c.args.store.now
     c.commit.new.self c.args.hand c.in-Ok.hand c.entry_at.result.now c.module-own.result
     c.cursor-number.result c.requires.at_cursor c.module-own.ensures c.cursor-number.ensures
@@ -85,8 +95,11 @@ returns-in-Ok-clause-does g c =
 
 pub returns-in-Ok-clause-book : goal.returns-in-Ok-clause-book
 returns-in-Ok-clause-book g c = λ fresh k st follows.
-    books_same g.D.Disk g.M.Module g.met.D.Disk.only_now c.args.store.now c.args.hand fresh k st
-    follows
+    book_same g.D.Disk g.M.Module g.met.D.Disk.only_now fresh c.args.store.now k _ st
+    (unframed_limit g.D.Disk g.M.Module fresh c.args.store.now c.args.store.now k c.args.hand
+    c.in-Ok.hand c.entry_at.result.now c.module-own.result c.cursor-number.result
+    c.requires.at_cursor c.cursor-number.ensures c.entry_at.ensures.entry c.in-Ok.spoken
+    c.in-Ok.ensures.words st follows c.in-Err-words_frame.fault c.in-Err-words_frame.ensures.err)
 
 pub returns-clause-does : goal.returns-clause-does
 returns-clause-does g c =
@@ -95,5 +108,4 @@ returns-clause-does g c =
 
 pub returns-clause-book : goal.returns-clause-book
 returns-clause-book g c = λ fresh k st follows.
-    books_same g.D.Disk g.M.Module g.met.D.Disk.only_now c.args.store.now c.args.hand fresh k st
-    follows
+    book_same g.D.Disk g.M.Module g.met.D.Disk.only_now fresh c.args.store.now k _ st tt

@@ -88,7 +88,10 @@ returns-in-Err-clause-refused g c =
 
 pub returns-in-Err-clause-book : goal.returns-in-Err-clause-book
 returns-in-Err-clause-book g c = λ fresh k st follows.
+    let drain = subst (λ r. DrainDoes g.D.Disk g.M.Module c.args.store.now c.drain-hands.new.store
+    c.args.hands.items c.drain-hands.result.0.items r) c.in-Err.is c.drain-hands.ensures.does in
     stopped_on_book g.D.Disk g.M.Module g.met.D.Disk.only_now fresh c.args.store.now
     c.drain-hands.new.store k c.drain-hands.result.0.items c.in-Err.fault
     (subst (λ r. DrainsOnBook g.D.Disk g.M.Module fresh c.args.store.now c.drain-hands.new.store k
     c.drain-hands.result.0.items r) c.in-Err.is (c.drain-hands.ensures.book fresh k st follows))
+    (drain.limit fresh k st follows)
