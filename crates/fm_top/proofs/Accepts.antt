@@ -196,7 +196,7 @@ module _ {D M : Type 0} (g : Ghosts D)
       seen_is_image (store_disk name store) (content_named name c)
       ((read name).same ∙ told name)
 
-  limit_of : (fresh : List ModuleState) (store now : StoreOf D M) (k : StoreBook) (c : Contents)
+  pub limit_of : (fresh : List ModuleState) (store now : StoreOf D M) (k : StoreBook) (c : Contents)
       (es : List Entry) (last : Option (Stop × Entry)) → StoreStandsFor g fresh store k
       → StoreIsLeft g store c → Recorded g store now es last → LimitIs c fresh k es last
   limit_of fresh store now k c es None st left went = tt

@@ -6,7 +6,7 @@ use Rattle.fm_logs.specs.Contents.{Contents}
 use Rattle.fm_logs.specs.StoreBook.{StoreBook}
 use Rattle.fm_store.specs.StoreLeft.{ReadsLike}
 use Rattle.fm_top.specs.Accepting.{OpeningStops}
-use Rattle.fm_top.specs.Admin.{AdminRan, ReadsAfter, StoreUntold, TextAsked}
+use Rattle.fm_top.specs.Admin.{AdminRan, ReadsAfter, StoreUntold, TextAsked, command_limit}
 use Rattle.fm_top.specs.Calls.{IsCaused, Does}
 use Rattle.fm_top.specs.Ending.{EndsAs}
 use Rattle.fm_top.specs.Esc.{TextEnds}
@@ -52,11 +52,11 @@ module _ (asked : AdminCommand) (before after : Outside) where
   unopened_goes (Damaged disk place) why = inr (inl (inl (disk, place, refl, why)))
   unopened_goes _ why = absurd why
 
-  untold_goes : (stop : Stop) → StoreUntold before.disks after.disks stop
+  untold_goes : (stop : Stop) → StoreUntold (command_limit asked) before.disks after.disks stop
       → Goes (world_of before after) (looks (Admin asked)) (Err stop)
   untold_goes stop untold = by_stop stop untold.why
     where
-      by_stop : (stop : Stop) → ConcludingStops before.disks stop
+      by_stop : (stop : Stop) → ConcludingStops (command_limit asked) before.disks stop
           → Goes (world_of before after) (looks (Admin asked)) (Err stop)
       by_stop Disk why = inl tt
       by_stop Memory why = inl tt

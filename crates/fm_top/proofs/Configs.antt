@@ -18,10 +18,12 @@ use Rattle.fm_store.specs.StoreOf.{StoreOf, StoreStandsFor}
 use Rattle.fm_store.specs.StoreReading.{IsNoDamage}
 use Rattle.fm_store.proofs.StoreMoves.{done_at_end}
 use Rattle.fm_summary.specs.DrainedSummary.{diagnosers}
+use Rattle.fm_settled.specs.BaseLimits.{figures_of}
 use Rattle.fm_top.specs.Admin.{AdminDone, AdminRefused}
+use Rattle.fm_top.specs.Limits.{DrainLimit}
 use Rattle.fm_top.specs.declared.words.AdminCommand.TheVariants.{Config}
 use Rattle.fm_top.proofs.Fmds.{reads_floored}
-use Rattle.fm_top.proofs.Texts.{same_counts, told_refused}
+use Rattle.fm_top.proofs.Texts.{same_counts, told_limit, told_refused}
 
 module _ {D : Type 0} (g : Ghosts D) (old new : StoreOf D DiagnoserOf)
     (hands now : List (HandOf DiagnoserOf)) (conf : Conf) (open_before : old.logs.closed ≡ None)
@@ -57,6 +59,7 @@ module _ {D : Type 0} (g : Ghosts D) (old new : StoreOf D DiagnoserOf)
               reads = reads_floored g fresh new w there c left;
             };
             undamaged = tt;
+            limit = tt;
             left = drains.commits.left;
           };
     }
@@ -68,6 +71,7 @@ module _ {D : Type 0} (g : Ghosts D) (old new : StoreOf D DiagnoserOf)
         text_is = tt;
         after = tt;
         undamaged = subst IsNoDamage (sym wanted) tt;
+        limit = subst (DrainLimit (figures_of old) k) (sym wanted) tt;
         left = (book fresh k stands follow).commits.left;
       };
     }
@@ -88,6 +92,8 @@ module _ {D : Type 0} (g : Ghosts D) (old new : StoreOf D DiagnoserOf)
         text_is = tt;
         after = tt;
         undamaged = drain_undamaged g diagnosers old new now fault drain.answer;
+        limit = told_limit g old new hands conf open_before Flt fresh k fault stands follow
+            (drain_why g diagnosers Flt old new hands now fault drain);
         left = (book fresh k stands follow).commits.left;
       };
     }

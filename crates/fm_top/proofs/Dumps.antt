@@ -30,7 +30,7 @@ use Rattle.fm_summary.specs.DrainedSummary.{diagnosers}
 use Rattle.fm_top.specs.Admin.{AdminDone}
 use Rattle.fm_top.specs.Dump.{IsDump, error_log}
 use Rattle.fm_top.specs.declared.words.AdminCommand.TheVariants.{Dump}
-use Rattle.fm_top.proofs.Texts.{left_drained, same_counts, told_refused}
+use Rattle.fm_top.proofs.Texts.{left_drained, same_counts, told_limit, told_refused}
 
 module _ {D : Type 0} (g : Ghosts D) where
   -- the count of the one of two disks that was read, and of the other
@@ -145,6 +145,7 @@ module _ {D : Type 0} (g : Ghosts D) (options : DumpOptions) (old new : StoreOf 
                   (λ now text. IsErrorsText options old.logs.active.first now.book text.items)
                   text told.done;
               undamaged = tt;
+              limit = tt;
               left = told.left;
             };
           }
@@ -157,6 +158,8 @@ module _ {D : Type 0} (g : Ghosts D) (options : DumpOptions) (old new : StoreOf 
           text_is = tt;
           after = tt;
           undamaged = told.undamaged;
+          limit = told_limit g old new hands conf open_before (name_of_two old.logs.second) fresh k
+              fault stands follow refused;
           left = told.left;
         };
       }
@@ -187,6 +190,7 @@ module _ {D : Type 0} (g : Ghosts D) (options : DumpOptions) (old new : StoreOf 
               (λ now text. IsFaultsText options conf.namespace now.book.records text.items)
               text told.done;
           undamaged = tt;
+          limit = tt;
           left = told.left;
         };
       }
@@ -198,6 +202,7 @@ module _ {D : Type 0} (g : Ghosts D) (options : DumpOptions) (old new : StoreOf 
           text_is = tt;
           after = tt;
           undamaged = told.undamaged;
+          limit = told_limit g old new hands conf open_before Flt fresh k fault stands follow refused;
           left = told.left;
         };
       }

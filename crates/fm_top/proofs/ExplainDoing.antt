@@ -12,6 +12,7 @@ use Rattle.fm_top.specs.Explain.{ExplainRan, ExplainTried, ExplainedOf, StoreWit
 use Rattle.fm_top.specs.Fmd.{ConcludingStops}
 use Rattle.fm_top.specs.Headline.{Headline, HoldsOfBook, LikeBook}
 use Rattle.fm_top.specs.Kept.{BookAt}
+use Rattle.fm_top.specs.Limits.{draining_limit}
 use Rattle.fm_top.specs.Order.{Goes, looks, world_of}
 use Rattle.fm_top.specs.Outside.{Outside, SinkAt, Tells, counts_of}
 use Rattle.fm_top.specs.declared.status.ToolStatus.{ToolStatus}
@@ -50,10 +51,12 @@ module _ (uuid : List ℕ) (before after : Outside) where
         ),
       )))
 
-  untold_goes : (stop : Stop) → StoreUntold before.disks after.disks stop → GoesSo (Err stop)
+  untold_goes : (stop : Stop) → StoreUntold draining_limit before.disks after.disks stop
+      → GoesSo (Err stop)
   untold_goes stop untold = by_stop stop untold.why
     where
-      by_stop : (stop : Stop) → ConcludingStops before.disks stop → GoesSo (Err stop)
+      by_stop : (stop : Stop) → ConcludingStops draining_limit before.disks stop
+          → GoesSo (Err stop)
       by_stop Disk why = inl tt
       by_stop Memory why = inl tt
       by_stop (Full kind) why =
@@ -88,7 +91,7 @@ module _ (uuid : List ℕ) (before after : Outside) where
   -- no work on the store is stopped by the input, the sink or an actuator
   only_store : (stop : Stop) (T : Type 0) → ExplainTried uuid before.disks after.disks (Err stop)
       → (OpeningStops before.disks stop → ⊥) → (stop ≡ NotFound → ⊥)
-      → (ConcludingStops before.disks stop → ⊥) → T
+      → (ConcludingStops draining_limit before.disks stop → ⊥) → T
   only_store stop T tried no_opening found no_concluding =
       absurd (elim tried.went [
         | inl unopened ↦ no_opening unopened.why

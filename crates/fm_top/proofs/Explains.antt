@@ -18,8 +18,10 @@ use Rattle.fm_logs.specs.declared.disks.Disks.{Disks}
 use Rattle.fm_logs.specs.declared.fault.StoreFault.{StoreFault}
 use Rattle.fm_logs.specs.declared.fault.StoreFault.TheVariants as store
 use Rattle.fm_modules.specs.OpenStore.{OpenStoreRefused}
+use Rattle.fm_outer.specs.Moments.{OnlyRead}
 use Rattle.fm_outer.specs.declared.disk.Disk.{Ghosts}
 use Rattle.fm_saved.specs.declared.conf.Conf.{Conf}
+use Rattle.fm_settled.specs.BaseLimits.{figures_of}
 use Rattle.fm_store.specs.StoreLeft.{store_disk, AreDisksOf}
 use Rattle.fm_store.specs.StoreOf.{StoreOf, StoreStandsFor}
 use Rattle.fm_summary.specs.DrainedSummary.{diagnosers}
@@ -29,6 +31,7 @@ use Rattle.fm_top.specs.Explain.{ExplainedOf}
 use Rattle.fm_top.specs.Fmd.{ConcludingStops}
 use Rattle.fm_top.specs.Headline.{HoldsOfBook, LikeBook}
 use Rattle.fm_top.specs.Kept.{BookAt}
+use Rattle.fm_top.specs.Limits.{draining_limit}
 use Rattle.fm_top.specs.Outside.{Tells, disks_at}
 use Rattle.fm_top.specs.Stops.{of_store}
 use Rattle.fm_top.specs.declared.stops.Stop.{Stop}
@@ -37,7 +40,9 @@ use Rattle.fm_top.proofs.Fmds.{OpenAt}
 use Rattle.fm_top.proofs.OpenedDisks.{none_rose, opened_at, some_rose, store_left}
 use Rattle.fm_top.proofs.RowGraphs.{explanation_at}
 use Rattle.fm_top.proofs.SixDisks.{all_only_read, rose_any, none_counts}
-use Rattle.fm_top.proofs.Texts.{OpenFor, left_drained, open_for, same_counts, told_refused}
+use Rattle.fm_top.proofs.Texts.{OpenFor, left_drained, open_for, same_counts, told_limit}
+use Rattle.fm_top.proofs.Texts.{told_refused}
+use Rattle.fm_top.proofs.WorkLimits.{work_limit}
 
 none_some : {X : Type 0} {x : X} {o : Option X} → o ≡ None → o ≡ Some x → ⊥
 none_some {x = x} none some =
@@ -70,6 +75,7 @@ module _ {D : Type 0} (g : Ghosts D) (uuid : List ℕ) (old new : StoreOf D Diag
           (drained k.book) (bytes_of text)) found
           told.done;
       undamaged = tt;
+      limit = tt;
       left = told.left;
     };
   }
@@ -81,6 +87,7 @@ module _ {D : Type 0} (g : Ghosts D) (uuid : List ℕ) (old new : StoreOf D Diag
       told = tt;
       after = tt;
       undamaged = told.undamaged;
+      limit = told_limit g old new hands conf open_before Flt fresh k fault stands follow refused;
       left = told.left;
     };
   }
@@ -122,7 +129,7 @@ module _ {D : Type 0} (g : Ghosts D) (disks disks_now : Disks D)
 
   on_book : (answer : Result (Option (Vec ℕ)) StoreFault) (told : Contents) (stood : BookAt told)
       → OpenFor g first hands conf stood → ExplainDone g uuid first new hands conf answer
-      → ExplainOnBook g uuid stood.fresh new stood.book conf answer
+      → ExplainOnBook g uuid stood.fresh (figures_of first) new stood.book conf answer
   on_book answer told stood at did = did.book stood.fresh stood.book at.stands at.follow
 
   explained : (text : Option (Vec ℕ)) → ExplainDone g uuid first new hands conf (Ok text)
@@ -147,16 +154,25 @@ module _ {D : Type 0} (g : Ghosts D) (disks disks_now : Disks D)
       })
 
   -- why it was not told
-  untold_why : (fault : StoreFault) → ExplainDone g uuid first new hands conf (Err fault)
-      → ConcludingStops (disks_at g disks) (of_store fault)
-  untold_why store.Disk did = tt
-  untold_why (store.Full kind) did = tt
-  untold_why (store.Closed name failures) did = tt
-  untold_why store.NoMemory did = tt
-  untold_why (store.Damaged disk place) did = λ told tells.
+  untold_why :
+      (seen_is_image : (disk : D) (c : List ℕ) → g.seen disk ≡ Some c → g.images disk c)
+      (read : (name : DiskName) → OnlyRead g (disk_named name disks) (store_disk name first))
+      (fault : StoreFault) → ExplainDone g uuid first new hands conf (Err fault)
+      → ConcludingStops draining_limit (disks_at g disks) (of_store fault)
+  untold_why seen_is_image read store.Disk did = tt
+  untold_why seen_is_image read (store.Full kind) did =
+      work_limit g seen_is_image disks first read draining_limit kind
+      (λ told tells. (at_told told tells).stood)
+      (λ told tells book.
+      let at : OpenFor g first hands conf book =
+      open_for g first hands conf told (at_told told tells) book in
+      (at.stands, (on_book (Err (store.Full kind)) told book at did).limit))
+  untold_why seen_is_image read (store.Closed name failures) did = tt
+  untold_why seen_is_image read store.NoMemory did = tt
+  untold_why seen_is_image read (store.Damaged disk place) did = λ told tells.
       let one = at_told told tells in
       (did.book one.stood.fresh one.stood.book one.stands one.follow).undamaged
-  untold_why store.Exists did = absurd did.refused
+  untold_why seen_is_image read store.Exists did = absurd did.refused
 
   untold_account : (fault : StoreFault) → ExplainDone g uuid first new hands conf (Err fault)
       → DisksAccount {T = List ℕ} (disks_at g disks) (disks_at g disks_now) (Err (of_store fault))
@@ -178,19 +194,22 @@ module _ {D : Type 0} (g : Ghosts D) (disks disks_now : Disks D)
         (none_rose g disks disks_now first new are kept did.quiet);
   }
 
-  pub explain_halted : (stop : Stop) → ExplainHalts g uuid first new hands conf stop
+  pub explain_halted :
+      (seen_is_image : (disk : D) (c : List ℕ) → g.seen disk ≡ Some c → g.images disk c)
+      (read : (name : DiskName) → OnlyRead g (disk_named name disks) (store_disk name first))
+      (stop : Stop) → ExplainHalts g uuid first new hands conf stop
       → ExplainTried uuid (disks_at g disks) (disks_at g disks_now) (Err stop)
-  explain_halted stop (inl (is, did)) =
+  explain_halted seen_is_image read stop (inl (is, did)) =
       subst (λ s. ExplainTried uuid (disks_at g disks) (disks_at g disks_now) (Err s)) (sym is)
       (record {
         went = inr (inl (record { why = refl; holds = explained None did }));
         counts = tt;
       })
-  explain_halted stop (inr (fault, is, did)) =
+  explain_halted seen_is_image read stop (inr (fault, is, did)) =
       subst (λ s. ExplainTried uuid (disks_at g disks) (disks_at g disks_now) (Err s)) (sym is)
       (record {
         went = inr (inr (record {
-          why = untold_why fault did;
+          why = untold_why seen_is_image read fault did;
           holds = like_book fault did;
         }));
         counts = untold_account fault did;

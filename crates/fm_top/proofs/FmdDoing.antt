@@ -24,6 +24,7 @@ use Rattle.fm_top.specs.Headline.{HasEach, Headline, Unopened}
 use Rattle.fm_top.specs.Order.{AllPass, FirstFinds, Goes, at_store, at_same, looks, world_of}
 use Rattle.fm_top.specs.Init.{AreUnwritten}
 use Rattle.fm_top.specs.Kept.{BookAt}
+use Rattle.fm_top.specs.Limits.{WorkLimit}
 use Rattle.fm_top.specs.Outside.{Outside, SourceAt, SinkAt, Tells, Leaves, RoseAt, act_counts}
 use Rattle.fm_top.specs.Outside.{DisksAt, counts_of, source_at}
 use Rattle.fm_top.specs.Recording.{store_with}
@@ -107,15 +108,16 @@ module _ (before after : Outside) (got : Sources) (sources : SourcesRead before 
         | inr limit ↦ inr (inr (same_passes same, limit))
       ]
 
-  behind_goes : (stop : Stop) → KeepSame before.disks got → ConcludingStops before.disks stop
+  behind_goes : (limit : WorkLimit) (stop : Stop) → KeepSame before.disks got
+      → ConcludingStops limit before.disks stop
       → Goes (world_of before after) (looks Fmd) (Err stop)
-  behind_goes Disk same why = inl tt
-  behind_goes Memory same why = inl tt
-  behind_goes (Full kind) same why = inr (inr (same_passes same, tt))
-  behind_goes (Damaged disk place) same why =
+  behind_goes limit Disk same why = inl tt
+  behind_goes limit Memory same why = inl tt
+  behind_goes limit (Full kind) same why = inr (inr (same_passes same, tt))
+  behind_goes limit (Damaged disk place) same why =
       inr (inl (found_behind (Damaged disk place)
       (inl (disk, place, refl, λ told tells. absurd (why told tells)))))
-  behind_goes _ same why = absurd why
+  behind_goes limit _ same why = absurd why
 
   stops_goes : (stop : Stop) (middle : SinkAt)
       → StoreStops before.input after.input before.out middle before.disks after.disks got stop
@@ -123,7 +125,7 @@ module _ (before after : Outside) (got : Sources) (sources : SourcesRead before 
   stops_goes stop middle (inl refused) = opening_goes stop middle refused
   stops_goes stop middle (inr (inl other)) = differs_goes stop middle other
   stops_goes stop middle (inr (inr (same, inl until))) = until_goes stop middle same until
-  stops_goes stop middle (inr (inr (same, inr behind))) = behind_goes stop same behind.why
+  stops_goes stop middle (inr (inr (same, inr behind))) = behind_goes _ stop same behind.why
 
   settled_goes : (paths : List (List ℕ)) (summary : List ℕ) (middle : SinkAt)
       (ran : Result (Unit {0}) Stop) → KeepSame before.disks got

@@ -15,6 +15,7 @@ use Rattle.fm_core.proofs.Keeping.{follows_longer}
 use Rattle.fm_drain.specs.DrainCalls.{AllFollow, AreAtCursors}
 use Rattle.fm_entry.specs.declared.entry.Entry.{Entry}
 use Rattle.fm_init.specs.Making.{AreFirstModules}
+use Rattle.fm_journal.specs.declared.fault.FullKind.{FullKind}
 use Rattle.fm_line.specs.Lines.{lines_of}
 use Rattle.fm_logs.specs.Contents.{Contents, AreTold, WereOnlyRead, active_of_two, content_named}
 use Rattle.fm_logs.specs.Contents.{disk_named, with_logs}
@@ -36,6 +37,7 @@ use Rattle.fm_outer.specs.Failures.{Rose}
 use Rattle.fm_outer.specs.Moments.{OnlyRead}
 use Rattle.fm_outer.specs.declared.disk.Disk.{Ghosts}
 use Rattle.fm_saved.specs.declared.conf.Conf.{Conf}
+use Rattle.fm_settled.specs.BaseLimits.{BaseIsFull, Figures, figures_of}
 use Rattle.fm_settled.specs.ToBase.{IsBasedOf}
 use Rattle.fm_sources.specs.declared.sources.Sources.{Sources}
 use Rattle.fm_store.specs.Opened.{NoneFailed, RoseOnAny}
@@ -53,6 +55,7 @@ use Rattle.fm_top.specs.Fmd.{StoreDiffers, StoreRan, StoreStops}
 use Rattle.fm_top.specs.FmdStore.{StoreFinished, StoreHalts, StoreIsOther, StoreWorks}
 use Rattle.fm_top.specs.Headline.{HoldsOfBook}
 use Rattle.fm_top.specs.Kept.{BookAt, IsAsRead}
+use Rattle.fm_top.specs.Limits.{concluding_limit}
 use Rattle.fm_top.specs.Outside.{SourceAt, SinkAt, Tells, Leaves, disks_at}
 use Rattle.fm_top.specs.Recording.{store_with, Recorded}
 use Rattle.fm_top.specs.RecordingLaws.{recorded_none}
@@ -65,6 +68,7 @@ use Rattle.fm_top.proofs.Accepts.{opening_stops, until_weaker}
 use Rattle.fm_top.proofs.BookHeld.{same_book}
 use Rattle.fm_top.proofs.Exactness.{exact_with}
 use Rattle.fm_top.proofs.SixDisks.{told_all, images_all, all_only_read, rose_any, none_counts}
+use Rattle.fm_top.proofs.WorkLimits.{work_limit}
 
 -- ---- hands
 
@@ -212,6 +216,16 @@ module _ {D : Type 0} (g : Ghosts D) (first between new : StoreOf D DiagnoserOf)
       (took.book at.stood.fresh at.stood.book at.stands)
       (follow_with at.stood.book entries hands at.follow)
 
+  -- a limit of a drain of the book with these entries, or of the checkpoint
+  pub took_limit : (kind : FullKind) → ConcludesSo g between new hands (Err (store.Full kind))
+      → (fresh : List ModuleState) (k : StoreBook) → StoreStandsFor g fresh first k
+      → AllFollow diagnosers k.book hands
+      → BaseIsFull (figures_of first) (store_with k entries) kind
+  took_limit kind book fresh k stands follow =
+      subst (λ (f : Figures). BaseIsFull f (store_with k entries) kind) took.figures_are
+      (book fresh (store_with k entries) (took.book fresh k stands)
+      (follow_with k entries hands follow)).limit
+
   pub drained_from : (conclusion : Conclusion) → IsConcluded between new
       → ConcludesSo g between new hands (Ok conclusion) → (disks_now : Disks D)
       → AreDisksOf new disks_now → (told : Contents) → OpenAt g first hands conf told
@@ -251,6 +265,19 @@ module _ {D : Type 0} (g : Ghosts D) (first between new : StoreOf D DiagnoserOf)
               wanted_are = ends.tells.wanted;
             };
       }
+
+-- each book that the contents read as is one that the store stands for
+pub stands_each : {D : Type 0} (g : Ghosts D) (first : StoreOf D DiagnoserOf)
+    (hands : List (HandOf DiagnoserOf)) (conf : Conf) (told : Contents)
+    → (one : OpenAt g first hands conf told) → (stood : BookAt told)
+    → StoreStandsFor g stood.fresh first stood.book × AllFollow diagnosers stood.book.book hands
+stands_each g first hands conf told one stood =
+    let same : (one.stood.fresh ≡ stood.fresh) × (one.stood.book ≡ stood.book) =
+    same_book told one.stood stood in (
+      subst (λ (ms : List ModuleState). StoreStandsFor g ms first stood.book) same.0
+          (subst (λ (k : StoreBook). StoreStandsFor g one.stood.fresh first k) same.1 one.stands),
+      subst (λ (k : StoreBook). AllFollow diagnosers k.book hands) same.1 one.follow,
+    )
 
 -- ---- the whole work on a store
 
@@ -321,9 +348,20 @@ module _ {D : Type 0} (g : Ghosts D)
   -- why the store was not concluded
   unconcluded : (fault : StoreFault)
       → (finished : StoreFinished g first new hands input input_now out out_now (Err fault))
-      → ConcludingStops (disks_at g disks) (of_store fault)
+      → ConcludingStops (concluding_limit (entries_of (lines_of finished.ran.read)))
+      (disks_at g disks) (of_store fault)
   unconcluded store.Disk finished = tt
-  unconcluded (store.Full kind) finished = tt
+  unconcluded (store.Full kind) finished =
+      work_limit g seen_is_image disks first read
+      (concluding_limit (entries_of (lines_of finished.ran.read))) kind
+      (λ told tells. (at_told told tells).stood)
+      (λ told tells book.
+      let at = stands_each g first hands conf told (at_told told tells) book in (
+        at.0,
+        took_limit g first finished.between new hands conf
+            (entries_of (lines_of finished.ran.read)) finished.ran.took kind finished.book
+            book.fresh book.book at.0 at.1,
+      ))
   unconcluded (store.Closed name failures) finished = tt
   unconcluded store.NoMemory finished = tt
   unconcluded (store.Damaged disk place) finished = λ told tells.
@@ -358,6 +396,7 @@ module _ {D : Type 0} (g : Ghosts D)
   halted : (stop : Stop) → IsAsRead conf got
       → StoreHalts g first new hands input input_now out out_now stop
       → StoreStops input input_now out out_now (disks_at g disks) (disks_at g disks_now) got stop
+  unfolding accepted_all
   halted stop same (inl until) = inr (inr (
     as_kept same,
     inl (record {
@@ -371,7 +410,8 @@ module _ {D : Type 0} (g : Ghosts D)
     as_kept same,
     inr (record {
       accepted = accepted_all (Err fault) finished;
-      why = subst (ConcludingStops (disks_at g disks)) (sym is) (unconcluded fault finished);
+      why = subst (ConcludingStops (concluding_limit (entries_of (lines_of finished.ran.read)))
+          (disks_at g disks)) (sym is) (unconcluded fault finished);
     }),
   ))
 

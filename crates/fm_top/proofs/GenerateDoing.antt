@@ -23,6 +23,7 @@ use Rattle.fm_top.specs.GenerateStart.{BeginsEarly}
 use Rattle.fm_top.specs.Headline.{HasFirst, HasGenerated, HeldGenerated, HoldsOfBook, Headline}
 use Rattle.fm_top.specs.Headline.{LikeBook, Unopened}
 use Rattle.fm_top.specs.Kept.{BookAt}
+use Rattle.fm_top.specs.Limits.{concluding_limit}
 use Rattle.fm_top.specs.Order.{AllPass, FirstFinds, Goes, at_early, at_store, looks, world_of}
 use Rattle.fm_top.specs.Outside.{Outside, SinkAt, DisksAt, Tells, Leaves, counts_of}
 use Rattle.fm_top.specs.Recording.{store_with}
@@ -82,7 +83,8 @@ module _ (before after : Outside) where
       → GenerateUnconcluded number before.disks after.disks stop → GoesSo (Err stop)
   behind_goes number stop behind = by_stop stop behind.why
     where
-      by_stop : (stop : Stop) → ConcludingStops before.disks stop → GoesSo (Err stop)
+      by_stop : (stop : Stop) → ConcludingStops (concluding_limit behind.entries) before.disks stop
+          → GoesSo (Err stop)
       by_stop Disk why = inl tt
       by_stop Memory why = inl tt
       by_stop (Full kind) why = inr (inr (all_pass number behind.entries behind.are, tt))

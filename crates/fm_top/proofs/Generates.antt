@@ -36,17 +36,19 @@ use Rattle.fm_top.specs.Generate.{StoreGenerates, StoreUnbegun, TookUntil, Unbeg
 use Rattle.fm_top.specs.GenerateStart.{AreGenerated, AreGeneratedAt}
 use Rattle.fm_top.specs.Headline.{HoldsOfBook, LikeBook}
 use Rattle.fm_top.specs.Kept.{BookAt}
+use Rattle.fm_top.specs.Limits.{concluding_limit}
 use Rattle.fm_top.specs.Outside.{Tells, disks_at}
 use Rattle.fm_top.specs.Recording.{Recorded}
 use Rattle.fm_top.specs.Stops.{of_store}
 use Rattle.fm_top.specs.declared.stops.Stop.{Stop}
 use Rattle.fm_top.specs.declared.stops.Stop.TheVariants.{Disk, Memory, Full}
 use Rattle.fm_top.proofs.Accepts.{grew_of, opening_account, opening_stops}
-use Rattle.fm_top.proofs.Fmds.{OpenAt, drained_from, took_concludes}
+use Rattle.fm_top.proofs.Fmds.{OpenAt, drained_from, stands_each, took_concludes, took_limit}
 use Rattle.fm_top.proofs.OpenedDisks.{none_rose, opened_at, some_rose, store_left}
 use Rattle.fm_top.proofs.SixDisks.{all_only_read, rose_any, none_counts}
 use Rattle.fm_top.proofs.Taking.{until_other}
 use Rattle.fm_top.proofs.Texts.{OpenFor, open_for}
+use Rattle.fm_top.proofs.WorkLimits.{work_limit}
 
 -- ---- a store that was not opened
 
@@ -207,17 +209,28 @@ module _ {D : Type 0} (g : Ghosts D) (disks disks_now : Disks D)
   }
 
   -- why the store was not concluded
-  unconcluded : (fault : StoreFault)
-      → GenerateFinished g number first new hands conf (Err fault)
-      → ConcludingStops (disks_at g disks) (of_store fault)
-  unconcluded store.Disk finished = tt
-  unconcluded (store.Full kind) finished = tt
-  unconcluded (store.Closed name failures) finished = tt
-  unconcluded store.NoMemory finished = tt
-  unconcluded (store.Damaged disk place) finished = λ told tells.
+  unconcluded :
+      (seen_is_image : (disk : D) (c : List ℕ) → g.seen disk ≡ Some c → g.images disk c)
+      (read : (name : DiskName) → OnlyRead g (disk_named name disks) (store_disk name first))
+      (fault : StoreFault)
+      → (finished : GenerateFinished g number first new hands conf (Err fault))
+      → ConcludingStops (concluding_limit finished.entries) (disks_at g disks) (of_store fault)
+  unconcluded seen_is_image read store.Disk finished = tt
+  unconcluded seen_is_image read (store.Full kind) finished =
+      work_limit g seen_is_image disks first read (concluding_limit finished.entries) kind
+      (λ told tells. (at_told told tells).stood)
+      (λ told tells book.
+      let at = stands_each g first hands conf told (at_told told tells) book in (
+        at.0,
+        took_limit g first finished.between new hands conf finished.entries finished.took kind
+            finished.book book.fresh book.book at.0 at.1,
+      ))
+  unconcluded seen_is_image read (store.Closed name failures) finished = tt
+  unconcluded seen_is_image read store.NoMemory finished = tt
+  unconcluded seen_is_image read (store.Damaged disk place) finished = λ told tells.
       (took_concludes g first finished.between new hands conf finished.entries finished.took
       (Err (store.Damaged disk place)) finished.book told (at_told told tells)).undamaged
-  unconcluded store.Exists finished = absurd finished.refused
+  unconcluded seen_is_image read store.Exists finished = absurd finished.refused
 
   -- ---- the counts of the disks
 
@@ -280,7 +293,8 @@ module _ {D : Type 0} (g : Ghosts D) (disks disks_now : Disks D)
       are = generates finished.entries finished.are;
       next = next_entry first.logs;
       took = all_grew (Err fault) finished;
-      why = subst (ConcludingStops (disks_at g disks)) (sym is) (unconcluded fault finished);
+      why = subst (ConcludingStops (concluding_limit finished.entries) (disks_at g disks)) (sym is)
+          (unconcluded seen_is_image read fault finished);
     })))
 
     pub generate_halted : (stop : Stop) → GenerateHalts g number first new hands conf stop

@@ -34,6 +34,7 @@ pub mod Rotatings
 pub mod RowGraphs
 pub mod Sinks
 pub mod SixDisks
+pub mod WorkLimits
 pub mod Standing
 pub mod Stopping
 pub mod Summaries

@@ -19,7 +19,8 @@ use Rattle.fm_outer.specs.Failures.{Rose}
 use Rattle.fm_outer.specs.declared.disk.Disk.{Ghosts}
 use Rattle.fm_store.specs.StoreCalls.{AcceptsOnBook}
 use Rattle.fm_store.specs.StoreLeft.{store_disk, EachLeft, ReadsLikeEither}
-use Rattle.fm_store.specs.StoreOf.{StoreOf, StoreBaseOf, StoreStandsFor, of_two}
+use Rattle.fm_settled.specs.BaseLimits.{figures_of}
+use Rattle.fm_store.specs.StoreOf.{newest_sequence, StoreOf, StoreBaseOf, StoreStandsFor, of_two}
 use Rattle.fm_store.proofs.StoreAccepts.{active_disk}
 use Rattle.fm_top.specs.Recording.{Recorded}
 use Rattle.fm_top.specs.RecordingLaws.{recorded_none, with_none}
@@ -89,6 +90,15 @@ module _ {D M : Type 0} (g : Ghosts D) where
       ∙ two_counts_back g old.logs.second old.logs.active.disk new.logs.active.disk old.base.spare
       new.base.spare takes.no_failure (ap (λ (b : StoreBaseOf D M). g.failures b.spare) base)
 
+  -- the figures of stores with these parts
+  figures_by : (old new : StoreOf D M) → new.logs.flt.first ≡ old.logs.flt.first
+      → new.base ≡ old.base → new.logs.second ≡ old.logs.second → figures_of new ≡ figures_of old
+  figures_by old new first base second = λ i. record {
+    flt_first = first i;
+    sequence = newest_sequence (base i).newest;
+    second = second i;
+  }
+
   -- an entry was taken
   pub taken_one : (old new : StoreOf D M) (e : Entry) (n : ℕ) → IsAdmitted e
       → AcceptDoes g old.logs new.logs e (Ok n) → new.base ≡ old.base → OnBook old new e (Ok n)
@@ -98,6 +108,8 @@ module _ {D M : Type 0} (g : Ghosts D) where
     base_is = ap (λ (l : LogsOf D). l.base) takes.logs_are;
     entries_are = ap (λ (l : LogsOf D). l.entries) takes.logs_are;
     cursors_are = ap (λ (l : LogsOf D). l.cursors) takes.logs_are;
+    figures_are = figures_by old new (ap (λ (l : LogsOf D). l.flt.first) takes.logs_are) base
+        (ap (λ (l : LogsOf D). l.second) takes.logs_are);
     logs = takes.keeps;
     book = λ fresh k st. (on_book fresh k st (lawful_with k e st.lawful admitted)).stands;
   }
@@ -121,6 +133,7 @@ module _ {D M : Type 0} (g : Ghosts D) where
         base_is = refl;
         entries_are = sym (append-nil old.logs.entries);
         cursors_are = refl;
+        figures_are = refl;
         logs = (λ older records keep. keep, full);
         book = λ fresh k st. subst (StoreStandsFor g fresh old) (sym (with_none k)) st;
       })
@@ -139,6 +152,8 @@ module _ {D M : Type 0} (g : Ghosts D) where
         entries_are = ap (λ (l : LogsOf D). l.entries) closes.logs_are
             ∙ sym (append-nil old.logs.entries);
         cursors_are = ap (λ (l : LogsOf D). l.cursors) closes.logs_are;
+        figures_are = figures_by old new (ap (λ (l : LogsOf D). l.flt.first) closes.logs_are) base
+            second;
         logs = tt;
         book = λ fresh k st.
             subst (λ x. EachLeft g new (ReadsLikeEither fresh x (store_accepted k e)))

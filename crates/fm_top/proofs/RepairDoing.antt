@@ -16,7 +16,7 @@ use Rattle.fm_top.specs.Kept.{BookAt}
 use Rattle.fm_top.specs.Order.{Goes, looks, world_of}
 use Rattle.fm_top.specs.Outside.{Outside, SinkAt, Tells, counts_of}
 use Rattle.fm_top.specs.Repair.{MayHaveRepair, RepairRan, RepairTried, RepairedOf, StoreUnmarked}
-use Rattle.fm_top.specs.Repair.{StoreUnrepaired}
+use Rattle.fm_top.specs.Repair.{StoreUnrepaired, repair_limit}
 use Rattle.fm_top.specs.RepairEntry.{HasRepair, RepairAsked}
 use Rattle.fm_top.specs.declared.status.ToolStatus.{ToolStatus}
 use Rattle.fm_top.specs.declared.stops.Stop.{Stop}
@@ -59,7 +59,8 @@ module _ (asked : RepairAsked) (before after : Outside) where
       → GoesSo (Err stop)
   unrepaired_goes stop unrepaired = by_stop stop unrepaired.why
     where
-      by_stop : (stop : Stop) → ConcludingStops before.disks stop → GoesSo (Err stop)
+      by_stop : (stop : Stop) → ConcludingStops (repair_limit asked) before.disks stop
+          → GoesSo (Err stop)
       by_stop Disk why = inl tt
       by_stop Memory why = inl tt
       by_stop (Full kind) why =
@@ -96,7 +97,7 @@ module _ (asked : RepairAsked) (before after : Outside) where
   -- no work on the store is stopped by the input, the sink or an actuator
   only_store : (stop : Stop) (T : Type 0) → RepairTried asked before.disks after.disks (Err stop)
       → (OpeningStops before.disks stop → ⊥) → (stop ≡ NotFaulty → ⊥)
-      → (ConcludingStops before.disks stop → ⊥) → T
+      → (ConcludingStops (repair_limit asked) before.disks stop → ⊥) → T
   only_store stop T tried no_opening marked no_concluding =
       absurd (elim tried.went [
         | inl unopened ↦ no_opening unopened.why
@@ -162,9 +163,9 @@ module _ (asked : RepairAsked) (before after : Outside) where
     };
   }
 
-  unrepaired_held : (told : Contents) (stop : Stop) → ConcludingStops before.disks stop
-      → after.out ≡ before.out → HoldsOfBook told (MayHaveRepair asked told after.disks)
-      → HeldSo told (Err stop)
+  unrepaired_held : (told : Contents) (stop : Stop)
+      → ConcludingStops (repair_limit asked) before.disks stop → after.out ≡ before.out
+      → HoldsOfBook told (MayHaveRepair asked told after.disks) → HeldSo told (Err stop)
   unrepaired_held told Disk why = either_held told (Err Disk) (λ stood image has. has)
   unrepaired_held told Memory why = either_held told (Err Memory) (λ stood image has. has)
   unrepaired_held told (Full kind) why =

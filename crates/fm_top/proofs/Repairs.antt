@@ -1,7 +1,8 @@
 -- From an open store that takes what an operator says of repairs to what its disks hold.
 use Rattle.std.proofs.Common.{◌≡◌, ◌∙◌, inl, inr, ℕ, List, Option, None, Some, Result, Ok, Err, IfOk}
-use Rattle.std.proofs.Common.{IfErr, refl, sym, ap, subst}
+use Rattle.std.proofs.Common.{IfErr, [], append-nil, refl, sym, ap, subst}
 use Rattle.dx_engine.specs.Diagnosers.{DiagnoserOf}
+use Rattle.fm_admin.specs.Limits.{RepairLimit}
 use Rattle.fm_admin.specs.Repairing.{IsRepairedBy, RepairDid, RepairFollows}
 use Rattle.fm_admin.specs.Repairing.{RepairRefused, RepairsBook, TakeRefused, TakesAndTells}
 use Rattle.fm_admin.specs.Repairing.{TookAndDrained}
@@ -12,9 +13,11 @@ use Rattle.fm_conclude.specs.Concluding.{NoDiskFailed, SomeDiskFailed}
 use Rattle.fm_core.specs.Book.{ModuleState}
 use Rattle.fm_core.specs.Hands.{HandOf}
 use Rattle.fm_drain.specs.DrainCalls.{AllFollow}
+use Rattle.fm_entry.specs.Entries.{entry_bytes}
 use Rattle.fm_entry.specs.declared.entry.Entry.{Entry}
+use Rattle.fm_journal.specs.declared.fault.FullKind.{FullKind}
 use Rattle.fm_logs.specs.Contents.{Contents, AreTold, WereOnlyRead, disk_named}
-use Rattle.fm_logs.specs.LogsOf.{AcceptRefused, LogsOf, TakesEntry, name_of_two}
+use Rattle.fm_logs.specs.LogsOf.{AcceptRefused, CannotTake, LogsOf, TakesEntry, name_of_two}
 use Rattle.fm_logs.specs.StoreBook.{StoreBook, store_accepted}
 use Rattle.fm_logs.specs.declared.disks.DiskName.{DiskName}
 use Rattle.fm_logs.specs.declared.disks.DiskName.TheVariants.{Flt}
@@ -23,8 +26,10 @@ use Rattle.fm_logs.specs.declared.fault.StoreFault.{StoreFault}
 use Rattle.fm_logs.specs.declared.fault.StoreFault.TheVariants as store
 use Rattle.fm_modules.specs.OpenStore.{OpenStoreRefused}
 use Rattle.fm_outer.specs.Failures.{Rose}
+use Rattle.fm_outer.specs.Moments.{OnlyRead}
 use Rattle.fm_outer.specs.declared.disk.Disk.{Ghosts}
 use Rattle.fm_saved.specs.declared.conf.Conf.{Conf}
+use Rattle.fm_settled.specs.BaseLimits.{figures_of}
 use Rattle.fm_store.specs.StoreLeft.{store_disk, AreDisksOf, EachLeft, ReadsLike}
 use Rattle.fm_store.specs.StoreOf.{StoreOf, StoreStandsFor}
 use Rattle.fm_store.proofs.StoreAccepts.{active_disk}
@@ -37,18 +42,21 @@ use Rattle.fm_top.specs.Fmd.{ConcludingStops}
 use Rattle.fm_top.specs.Headline.{HoldsOfBook}
 use Rattle.fm_top.specs.Kept.{BookAt}
 use Rattle.fm_top.specs.Outside.{Tells, Leaves, disks_at}
+use Rattle.fm_top.specs.Recording.{Recorded}
+use Rattle.fm_top.specs.RecordingLaws.{with_none}
 use Rattle.fm_top.specs.Repair.{MayHaveRepair, RepairDone, RepairHalts, RepairOnBook, RepairTried}
-use Rattle.fm_top.specs.Repair.{RepairedOf, UnmarkedOf}
+use Rattle.fm_top.specs.Repair.{RepairedOf, UnmarkedOf, repair_limit}
 use Rattle.fm_top.specs.RepairEntry.{IsEntryAt, IsEntryOf, RepairAsked, order_by}
 use Rattle.fm_top.specs.Stops.{of_store}
 use Rattle.fm_top.specs.declared.stops.Stop.{Stop}
-use Rattle.fm_top.specs.declared.stops.Stop.TheVariants.{NotFaulty}
-use Rattle.fm_top.proofs.Accepts.{opening_account, opening_stops}
+use Rattle.fm_top.specs.declared.stops.Stop.TheVariants.{Full, NotFaulty}
+use Rattle.fm_top.proofs.Accepts.{limit_of, opening_account, opening_stops}
 use Rattle.fm_top.proofs.Fmds.{OpenAt}
 use Rattle.fm_top.proofs.OpenedDisks.{none_rose, opened_at, some_rose, store_left}
 use Rattle.fm_top.proofs.Recordings.{counts_taken}
 use Rattle.fm_top.proofs.SixDisks.{all_only_read, rose_any, none_counts}
 use Rattle.fm_top.proofs.Texts.{OpenFor, left_drained, open_for, same_counts, told_refused}
+use Rattle.fm_top.proofs.WorkLimits.{told_seen, work_limit}
 
 none_some : {X : Type 0} {x : X} {o : Option X} → o ≡ None → o ≡ Some x → ⊥
 none_some {x = x} none some =
@@ -125,41 +133,53 @@ module _ {D : Type 0} (g : Ghosts D) (asked : RepairAsked) (old new : StoreOf D 
   taken_book : (fresh : List ModuleState) (k : StoreBook) (mid : StoreOf D DiagnoserOf) (e : Entry)
       (answer : Result (Option Repaired) StoreFault) → IsEntryOf asked conf k (Some e)
       → TakesAndTells g fresh mid new k e answer (λ now one. IsRepairedBy k e one)
-      → RepairOnBook g asked fresh new k conf answer
-  taken_book fresh k mid e answer is takes = elim takes.ends [
+      → IfErr answer (RepairLimit old k (order_by conf asked))
+      → RepairOnBook g asked fresh old new k conf answer
+  taken_book fresh k mid e answer is takes limit = elim takes.ends [
     | inl stops ↦
-        subst (RepairOnBook g asked fresh new k conf) (sym stops.result_is)
-        (stops.undamaged, inr (e, is, stops.left))
-    | inr tells ↦ told_book answer tells
+        subst (RepairOnBook g asked fresh old new k conf) (sym stops.result_is) (
+          (
+            stops.undamaged,
+            subst (λ r. IfErr r (RepairLimit old k (order_by conf asked))) stops.result_is limit,
+          ),
+          inr (e, is, stops.left),
+        )
+    | inr tells ↦ told_book answer tells limit
   ]
     where
       told_book : (answer : Result (Option Repaired) StoreFault)
           → TellsBook g fresh Flt takes.between new (store_accepted k e) answer
-          (λ now one. IsRepairedBy k e one) → RepairOnBook g asked fresh new k conf answer
-      told_book (Ok (Some one)) tells = (
+          (λ now one. IsRepairedBy k e one)
+          → IfErr answer (RepairLimit old k (order_by conf asked))
+          → RepairOnBook g asked fresh old new k conf answer
+      told_book (Ok (Some one)) tells limit = (
         e,
         is,
         tells.done.told,
         left_drained g new fresh (store_accepted k e) (λ now one. IsRepairedBy k e one) (Some one)
             tells.done,
       )
-      told_book (Ok None) tells = absurd tells.done.told
-      told_book (Err fault) tells =
-          (tells.undamaged, inr (e, is, λ c left. inr (tells.left c left)))
+      told_book (Ok None) tells limit = absurd tells.done.told
+      told_book (Err fault) tells limit =
+          ((tells.undamaged, limit), inr (e, is, λ c left. inr (tells.left c left)))
 
   found_book : (fresh : List ModuleState) (k : StoreBook) (mid : StoreOf D DiagnoserOf)
       (found : Result (Option Entry) StoreFault) (answer : Result (Option Repaired) StoreFault)
       → TellsBook g fresh Flt old mid k found (λ now e. IsEntryOf asked conf k e)
       → RepairFollows g fresh mid new k found answer
-      → RepairOnBook g asked fresh new k conf answer
-  found_book fresh k mid (Ok (Some e)) answer looks follows =
-      taken_book fresh k mid e answer looks.done.told follows
-  found_book fresh k mid (Ok None) answer looks (is, same) =
-      subst (RepairOnBook g asked fresh new k conf) (sym is)
+      → IfErr answer (RepairLimit old k (order_by conf asked))
+      → RepairOnBook g asked fresh old new k conf answer
+  found_book fresh k mid (Ok (Some e)) answer looks follows limit =
+      taken_book fresh k mid e answer looks.done.told follows limit
+  found_book fresh k mid (Ok None) answer looks (is, same) limit =
+      subst (RepairOnBook g asked fresh old new k conf) (sym is)
       (looks.done.told, subst (λ (s : StoreOf D DiagnoserOf). EachLeft g s (ReadsLike fresh k)) (sym same) looks.left)
-  found_book fresh k mid (Err fault) answer looks (is, same) =
-      subst (RepairOnBook g asked fresh new k conf) (sym is) (
-        looks.undamaged,
+  found_book fresh k mid (Err fault) answer looks (is, same) limit =
+      subst (RepairOnBook g asked fresh old new k conf) (sym is) (
+        (
+          looks.undamaged,
+          subst (λ r. IfErr r (RepairLimit old k (order_by conf asked))) is limit,
+        ),
         inl (subst (λ (s : StoreOf D DiagnoserOf). EachLeft g s (ReadsLike fresh k)) (sym same) looks.left),
       )
 
@@ -170,9 +190,9 @@ module _ {D : Type 0} (g : Ghosts D) (asked : RepairAsked) (old new : StoreOf D 
 
   on_book : (answer : Result (Option Repaired) StoreFault) → OnBook answer
       → (fresh : List ModuleState) (k : StoreBook) → StoreStandsFor g fresh old k
-      → AllFollow diagnosers k.book hands → RepairOnBook g asked fresh new k conf answer
+      → AllFollow diagnosers k.book hands → RepairOnBook g asked fresh old new k conf answer
   on_book answer book fresh k stands follow = let b = book fresh k stands follow in
-      found_book fresh k b.after_look b.found answer b.looks b.follows
+      found_book fresh k b.after_look b.found answer b.looks b.follows b.limit
 
   -- what was asked for is said of the order that says it
   pub as_asked : (order : RepairOrder) (answer : Result (Option Repaired) StoreFault)
@@ -208,7 +228,7 @@ repair_wanted g asked old hands conf is_open = record {
   was_open = is_open;
   quiet = tt;
   refused = tt;
-  book = λ fresh k stands follow. (tt, inl (store_reads g fresh old k stands));
+  book = λ fresh k stands follow. ((tt, tt), inl (store_reads g fresh old k stands));
 }
 
 -- ---- a store that was not opened
@@ -257,7 +277,7 @@ module _ {D : Type 0} (g : Ghosts D) (disks disks_now : Disks D)
 
   repaired_of : (one : Repaired) (told : Contents) (stood : BookAt told)
       → OpenFor g first hands conf stood
-      → RepairOnBook g asked stood.fresh new stood.book conf (Ok (Some one))
+      → RepairOnBook g asked stood.fresh first new stood.book conf (Ok (Some one))
       → RepairedOf asked told (disks_at g disks_now) one stood
   repaired_of one told stood at (e, is, repaired, left) = record {
     entry = e;
@@ -267,7 +287,7 @@ module _ {D : Type 0} (g : Ghosts D) (disks disks_now : Disks D)
   }
 
   unmarked_of : (told : Contents) (stood : BookAt told) → OpenFor g first hands conf stood
-      → RepairOnBook g asked stood.fresh new stood.book conf (Ok None)
+      → RepairOnBook g asked stood.fresh first new stood.book conf (Ok None)
       → UnmarkedOf asked told (disks_at g disks_now) stood
   unmarked_of told stood at (is, left) = record {
     none = entry_at told stood at None is;
@@ -276,7 +296,7 @@ module _ {D : Type 0} (g : Ghosts D) (disks disks_now : Disks D)
 
   may_have : (fault : StoreFault) (told : Contents) (stood : BookAt told)
       → OpenFor g first hands conf stood
-      → RepairOnBook g asked stood.fresh new stood.book conf (Err fault)
+      → RepairOnBook g asked stood.fresh first new stood.book conf (Err fault)
       → MayHaveRepair asked told (disks_at g disks_now) stood
   may_have fault told stood at (undamaged, inl left) = record {
     left = λ image leaves. inl (left_of (ReadsLike stood.fresh stood.book) left image leaves);
@@ -293,17 +313,63 @@ module _ {D : Type 0} (g : Ghosts D) (disks disks_now : Disks D)
         ];
   }
 
-  -- why the entry was not taken
-  unrepaired_why : (fault : StoreFault) → RepairDone g asked first new hands conf (Err fault)
-      → ConcludingStops (disks_at g disks) (of_store fault)
-  unrepaired_why store.Disk did = tt
-  unrepaired_why (store.Full kind) did = tt
-  unrepaired_why (store.Closed name failures) did = tt
-  unrepaired_why store.NoMemory did = tt
-  unrepaired_why (store.Damaged disk place) did = λ told tells.
-      let one = at_told told tells in
-      (did.book one.stood.fresh one.stood.book one.stands one.follow).0
-  unrepaired_why store.Exists did = absurd did.refused
+  -- a limit at which a store takes no entry
+  refused_full : (entry : Entry) (kind : FullKind)
+      → CannotTake first.logs.active (entry_bytes entry) kind
+      → Recorded g first first [] (Some (Full kind, entry))
+  refused_full entry kind cannot = record {
+    counts = λ name. refl;
+    base_is = refl;
+    entries_are = sym (append-nil first.logs.entries);
+    cursors_are = refl;
+    figures_are = refl;
+    logs = (λ older records keep. keep, cannot);
+    book = λ fresh k st. subst (StoreStandsFor g fresh first) (sym (with_none k)) st;
+  }
+
+  module _
+      (seen_is_image : (disk : D) (c : List ℕ) → g.seen disk ≡ Some c → g.images disk c)
+      (read : (name : DiskName) → OnlyRead g (disk_named name disks) (store_disk name first)) where
+    -- the limit of a repair is one of each book that the contents read as
+    limit_at : (told : Contents) → Tells (disks_at g disks) told → (book : BookAt told)
+        → OpenFor g first hands conf book → (kind : FullKind)
+        → RepairLimit first book.book (order_by conf asked) (store.Full kind)
+        → repair_limit asked told book (figures_of first) kind
+    limit_at told tells book at kind (inl drain) = inl drain
+    limit_at told tells book at kind (inr of) = inr (record {
+      entry = of.entry;
+      found = entry_at told book at (Some of.entry) of.entry_is;
+      now = of.now;
+      drained_is = of.drained_is;
+      full = elim of.full [
+        | inl journal ↦ inl (limit_of g seen_is_image book.fresh first first book.book told []
+            (Some (Full kind, of.entry)) at.stands
+            (told_seen g seen_is_image disks first read told tells)
+            (refused_full of.entry kind journal))
+        | inr log ↦ inr log
+      ];
+    })
+
+    -- why the entry was not taken
+    unrepaired_why : (fault : StoreFault) → RepairDone g asked first new hands conf (Err fault)
+        → ConcludingStops (repair_limit asked) (disks_at g disks) (of_store fault)
+    unrepaired_why store.Disk did = tt
+    unrepaired_why (store.Full kind) did =
+        work_limit g seen_is_image disks first read (repair_limit asked) kind
+        (λ told tells. (at_told told tells).stood)
+        (λ told tells book.
+        let at : OpenFor g first hands conf book =
+        open_for g first hands conf told (at_told told tells) book in (
+          at.stands,
+          limit_at told tells book at kind
+              (did.book book.fresh book.book at.stands at.follow).0.1,
+        ))
+    unrepaired_why (store.Closed name failures) did = tt
+    unrepaired_why store.NoMemory did = tt
+    unrepaired_why (store.Damaged disk place) did = λ told tells.
+        let one = at_told told tells in
+        (did.book one.stood.fresh one.stood.book one.stands one.follow).0.0
+    unrepaired_why store.Exists did = absurd did.refused
 
   refused_account : (fault : StoreFault) → RepairDone g asked first new hands conf (Err fault)
       → DisksAccount {T = Repaired} (disks_at g disks) (disks_at g disks_now) (Err (of_store fault))
@@ -341,11 +407,14 @@ module _ {D : Type 0} (g : Ghosts D) (disks disks_now : Disks D)
     counts = tt;
   }
 
-  refused_tried : (fault : StoreFault) → RepairDone g asked first new hands conf (Err fault)
+  refused_tried :
+      (seen_is_image : (disk : D) (c : List ℕ) → g.seen disk ≡ Some c → g.images disk c)
+      (read : (name : DiskName) → OnlyRead g (disk_named name disks) (store_disk name first))
+      (fault : StoreFault) → RepairDone g asked first new hands conf (Err fault)
       → RepairTried asked (disks_at g disks) (disks_at g disks_now) (Err (of_store fault))
-  refused_tried fault did = record {
+  refused_tried seen_is_image read fault did = record {
     went = inr (inr (record {
-      why = unrepaired_why fault did;
+      why = unrepaired_why seen_is_image read fault did;
       holds = λ told tells.
           each_book told tells (MayHaveRepair asked told (disks_at g disks_now))
           (λ book at. may_have fault told book at
@@ -354,11 +423,14 @@ module _ {D : Type 0} (g : Ghosts D) (disks disks_now : Disks D)
     counts = refused_account fault did;
   }
 
-  pub repair_halted : (stop : Stop) → RepairHalts g asked first new hands conf stop
+  pub repair_halted :
+      (seen_is_image : (disk : D) (c : List ℕ) → g.seen disk ≡ Some c → g.images disk c)
+      (read : (name : DiskName) → OnlyRead g (disk_named name disks) (store_disk name first))
+      (stop : Stop) → RepairHalts g asked first new hands conf stop
       → RepairTried asked (disks_at g disks) (disks_at g disks_now) (Err stop)
-  repair_halted stop (inl (is, did)) =
+  repair_halted seen_is_image read stop (inl (is, did)) =
       subst (λ s. RepairTried asked (disks_at g disks) (disks_at g disks_now) (Err s)) (sym is)
       (unmarked_tried did)
-  repair_halted stop (inr (fault, is, did)) =
+  repair_halted seen_is_image read stop (inr (fault, is, did)) =
       subst (λ s. RepairTried asked (disks_at g disks) (disks_at g disks_now) (Err s)) (sym is)
-      (refused_tried fault did)
+      (refused_tried seen_is_image read fault did)

@@ -111,6 +111,7 @@ module _ {D : Type 0} (g : Ghosts D) (old new : StoreOf D DiagnoserOf)
       text_is = text_is ∙ ap rotated_text (base_number fresh k base stands is);
       after = left_rotated fresh k base stands is did.done;
       undamaged = tt;
+      limit = tt;
       left = did.left;
     };
   }
@@ -123,7 +124,7 @@ module _ {D : Type 0} (g : Ghosts D) (old new : StoreOf D DiagnoserOf)
     quiet = tt;
     refused = tt;
     book = λ fresh k stands follow. let did = book fresh k stands follow in
-        record { text_is = tt; after = tt; undamaged = tt; left = did.left };
+        record { text_is = tt; after = tt; undamaged = tt; limit = tt; left = did.left };
   }
 
   -- no rotation was made
@@ -134,5 +135,11 @@ module _ {D : Type 0} (g : Ghosts D) (old new : StoreOf D DiagnoserOf)
     quiet = tt;
     refused = refused_why fault why;
     book = λ fresh k stands follow. let did = book fresh k stands follow in
-        record { text_is = tt; after = tt; undamaged = did.undamaged; left = did.left };
+        record {
+          text_is = tt;
+          after = tt;
+          undamaged = did.undamaged;
+          limit = did.limit;
+          left = did.left;
+        };
   }

@@ -5,6 +5,7 @@ use Rattle.std.specs.Global.{Vec}
 use Rattle.std.specs.List.{slice_get}
 use Rattle.dx_engine.specs.Diagnosers.{DiagnoserOf}
 use Rattle.fm_admin.specs.Telling.{IsFaultyOf, StandsTold, TellRefused, TellsBook, WasDrained}
+use Rattle.fm_admin.proofs.Tellings.{tell_full}
 use Rattle.fm_conclude.specs.Concluding.{NoDiskFailed, SomeDiskFailed}
 use Rattle.fm_core.specs.Book.{ModuleState}
 use Rattle.fm_core.specs.Drained.{drained}
@@ -25,6 +26,7 @@ use Rattle.fm_outer.specs.Failures.{Rose}
 use Rattle.fm_outer.specs.Moments.{OnlyRead}
 use Rattle.fm_outer.specs.declared.disk.Disk.{Ghosts}
 use Rattle.fm_saved.specs.declared.conf.Conf.{Conf}
+use Rattle.fm_settled.specs.BaseLimits.{figures_of}
 use Rattle.fm_store.specs.Opened.{NoneFailed, RoseOnAny}
 use Rattle.fm_store.specs.StoreLeft.{store_disk, AreDisksOf, EachLeft, ReadsLike, StoreIsLeft}
 use Rattle.fm_store.specs.StoreOf.{StoreOf, StoreStandsFor}
@@ -33,11 +35,13 @@ use Rattle.fm_summary.specs.DrainedSummary.{diagnosers}
 use Rattle.fm_top.specs.Accepting.{DisksAccount}
 use Rattle.fm_top.specs.Accounts.{Accounts}
 use Rattle.fm_top.specs.Admin.{AdminDone, AdminOnBook, AdminRefused, TextAsked, ToldOf}
+use Rattle.fm_top.specs.Admin.{command_limit}
 use Rattle.fm_top.specs.DrainedBook.{ReadsDrained}
 use Rattle.fm_top.specs.Dump.{IsErrorLogOf, error_log}
 use Rattle.fm_top.specs.Fmd.{ConcludingStops}
 use Rattle.fm_top.specs.Headline.{HoldsOfBook, LikeBook}
 use Rattle.fm_top.specs.Kept.{BookAt}
+use Rattle.fm_top.specs.Limits.{DrainLimit}
 use Rattle.fm_top.specs.Outside.{Tells, Leaves, disks_at}
 use Rattle.fm_top.specs.Stops.{of_store}
 use Rattle.fm_top.specs.declared.stops.Stop.{Stop}
@@ -47,6 +51,7 @@ use Rattle.fm_top.proofs.Accepts.{opening_account, opening_stops}
 use Rattle.fm_top.proofs.BookHeld.{same_book}
 use Rattle.fm_top.proofs.Fmds.{OpenAt, reads_floored}
 use Rattle.fm_top.proofs.SixDisks.{told_all, images_all, all_only_read, rose_any, none_counts}
+use Rattle.fm_top.proofs.WorkLimits.{work_limit}
 
 -- an object that nothing was done to accounts for any other fault
 pub accounts_still : {T : Type 0} (fault : Stop) (n : ℕ) (r : Result T Stop)
@@ -148,6 +153,18 @@ module _ {D : Type 0} (g : Ghosts D) (old new : StoreOf D DiagnoserOf)
   told_refused log store.NoMemory why = tt
   told_refused log store.Exists why = absurd why
 
+  -- a limit for which nothing was told is one of the book
+  pub told_limit : (log : DiskName) (fresh : List ModuleState) (k : StoreBook)
+      (fault : StoreFault) → StoreStandsFor g fresh old k → AllFollow diagnosers k.book hands
+      → TellRefused g diagnosers log old new hands fault → DrainLimit (figures_of old) k fault
+  told_limit log fresh k (store.Full kind) stands follow why =
+      tell_full g diagnosers log fresh old new k hands kind stands follow why
+  told_limit log fresh k store.Disk stands follow why = tt
+  told_limit log fresh k (store.Closed name failures) stands follow why = tt
+  told_limit log fresh k (store.Damaged name place) stands follow why = tt
+  told_limit log fresh k store.NoMemory stands follow why = tt
+  told_limit log fresh k store.Exists stands follow why = tt
+
   pub faulty_done : (answer : Result (Vec ℕ) StoreFault) → OnOk answer (WasDrained g old new)
       → IfErr answer (TellRefused g diagnosers Flt old new hands)
       → ((fresh : List ModuleState) (k : StoreBook) → StoreStandsFor g fresh old k
@@ -163,6 +180,7 @@ module _ {D : Type 0} (g : Ghosts D) (old new : StoreOf D DiagnoserOf)
       after = left_drained g new fresh k
           (λ now text. IsFaultyOf conf.namespace (drained k.book) text.items) text told.done;
       undamaged = tt;
+      limit = tt;
       left = told.left;
     };
   }
@@ -174,6 +192,7 @@ module _ {D : Type 0} (g : Ghosts D) (old new : StoreOf D DiagnoserOf)
       text_is = tt;
       after = tt;
       undamaged = told.undamaged;
+      limit = told_limit Flt fresh k fault stands follow refused;
       left = told.left;
     };
   }
@@ -198,8 +217,8 @@ module _ {D : Type 0} (g : Ghosts D) (disks disks_now : Disks D)
   module _ (answer : Result (Vec ℕ) StoreFault)
       (did : AdminDone g asked first new hands conf answer) where
     on_book : (told : Contents) (stood : BookAt told) (at : OpenFor g first hands conf stood)
-        → AdminOnBook g asked stood.fresh new stood.book conf (error_log first at.stands.older)
-        answer
+        → AdminOnBook g asked stood.fresh (figures_of first) new stood.book conf
+        (error_log first at.stands.older) answer
     on_book told stood at = did.book stood.fresh stood.book at.stands at.follow
 
     like_book : (told : Contents) → Tells (disks_at g disks) told
@@ -257,17 +276,26 @@ module _ {D : Type 0} (g : Ghosts D) (disks disks_now : Disks D)
     }
 
   -- why it was not told
-  untold : (fault : StoreFault) → AdminDone g asked first new hands conf (Err fault)
-      → ConcludingStops (disks_at g disks) (of_store fault)
-  untold store.Disk did = tt
-  untold (store.Full kind) did = tt
-  untold (store.Closed name failures) did = tt
-  untold store.NoMemory did = tt
-  untold (store.Damaged disk place) did = λ told tells.
+  untold :
+      (seen_is_image : (disk : D) (c : List ℕ) → g.seen disk ≡ Some c → g.images disk c)
+      (read : (name : DiskName) → OnlyRead g (disk_named name disks) (store_disk name first))
+      (fault : StoreFault) → AdminDone g asked first new hands conf (Err fault)
+      → ConcludingStops (command_limit asked) (disks_at g disks) (of_store fault)
+  untold seen_is_image read store.Disk did = tt
+  untold seen_is_image read (store.Full kind) did =
+      work_limit g seen_is_image disks first read (command_limit asked) kind
+      (λ told tells. (at_told told tells).stood)
+      (λ told tells book.
+      let at : OpenFor g first hands conf book =
+      open_for g first hands conf told (at_told told tells) book in
+      (at.stands, (on_book (Err (store.Full kind)) did told book at).limit))
+  untold seen_is_image read (store.Closed name failures) did = tt
+  untold seen_is_image read store.NoMemory did = tt
+  untold seen_is_image read (store.Damaged disk place) did = λ told tells.
       let one = at_told told tells in
       (on_book (Err (store.Damaged disk place)) did told one.stood
       (open_for g first hands conf told one one.stood)).undamaged
-  untold store.Exists did = absurd did.refused
+  untold seen_is_image read store.Exists did = absurd did.refused
 
   -- ---- the counts of the disks
 
@@ -305,14 +333,17 @@ module _ {D : Type 0} (g : Ghosts D) (disks disks_now : Disks D)
     counts = none_counts g disks disks_now (none_failed did.quiet);
   }
 
-  pub asked_untold : (stop : Stop) (fault : StoreFault) → stop ≡ of_store fault
+  pub asked_untold :
+      (seen_is_image : (disk : D) (c : List ℕ) → g.seen disk ≡ Some c → g.images disk c)
+      (read : (name : DiskName) → OnlyRead g (disk_named name disks) (store_disk name first))
+      (stop : Stop) (fault : StoreFault) → stop ≡ of_store fault
       → AdminDone g asked first new hands conf (Err fault)
       → TextAsked asked (disks_at g disks) (disks_at g disks_now) (Err stop)
-  asked_untold stop fault is did =
+  asked_untold seen_is_image read stop fault is did =
       subst (λ s. TextAsked asked (disks_at g disks) (disks_at g disks_now) (Err s)) (sym is)
       (record {
         went = inr (record {
-          why = untold fault did;
+          why = untold seen_is_image read fault did;
           holds = like_book (Err fault) did;
         });
         counts = untold_account fault did;

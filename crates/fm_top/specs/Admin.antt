@@ -4,6 +4,7 @@ use Rattle.std.specs.Prelude.{◌≡◌, ◌⊎◌, ℕ, List, [], ◌++◌, cod
 use Rattle.std.specs.Prelude.{Some, Result, Ok, Err, MatchResult, OnOk, IfOk, IfErr}
 use Rattle.std.specs.Global.{Vec}
 use Rattle.dx_engine.specs.Diagnosers.{DiagnoserOf}
+use Rattle.fm_admin.specs.Limits.{DrainOrRotation}
 use Rattle.fm_admin.specs.Telling.{IsFaultyOf}
 use Rattle.fm_conclude.specs.Concluding.{NoDiskFailed, SomeDiskFailed}
 use Rattle.fm_config.specs.Sizes.{IsConfText}
@@ -19,6 +20,7 @@ use Rattle.fm_logs.specs.declared.fault.StoreFault.TheVariants.{Disk, Full, Clos
 use Rattle.fm_logs.specs.declared.fault.StoreFault.TheVariants.{NoMemory}
 use Rattle.fm_outer.specs.declared.disk.Disk.{Ghosts}
 use Rattle.fm_saved.specs.declared.conf.Conf.{Conf}
+use Rattle.fm_settled.specs.BaseLimits.{Figures, figures_of}
 use Rattle.fm_settled.specs.ToBase.{IsBasedOf}
 use Rattle.fm_store.specs.StoreLeft.{EachLeft, ReadsLike}
 use Rattle.fm_store.specs.StoreOf.{StoreOf, StoreStandsFor}
@@ -32,6 +34,7 @@ use Rattle.fm_top.specs.Fmd.{ConcludingStops}
 use Rattle.fm_top.specs.Headline.{HoldsOfBook, LikeBook}
 use Rattle.fm_top.specs.Init.{AreUnwritten}
 use Rattle.fm_top.specs.Kept.{BookAt}
+use Rattle.fm_top.specs.Limits.{DrainLimit, WorkLimit}
 use Rattle.fm_top.specs.Outside.{SinkAt, DisksAt, Tells, Leaves}
 use Rattle.fm_top.specs.declared.stops.Stop.{Stop}
 use Rattle.fm_top.specs.declared.words.AdminCommand.{AdminCommand}
@@ -79,14 +82,27 @@ AdminRefused g old new (Damaged name place) = Unit {0}
 AdminRefused g old new NoMemory = Unit {0}
 AdminRefused _ _ _ _ = ⊥
 
--- What becomes of a book that the hands follow: each crash leaves contents that read like it,
--- whatever is answered; after Ok they read as the command leaves them, and this is its text.
+-- WHICH LIMIT EACH COMMAND MAY REACH, one line a command: of a book
+abbrev pub CommandLimit : AdminCommand → Figures → StoreBook → StoreFault → Type 0
+CommandLimit Faulty f k fault = DrainLimit f k fault
+CommandLimit Config f k fault = DrainLimit f k fault
+CommandLimit (Dump options) f k fault = DrainLimit f k fault
+CommandLimit Rotate f k fault = DrainOrRotation f k fault
+
+-- of a book that contents read as
+abbrev pub command_limit : AdminCommand → WorkLimit
+command_limit asked told stood f kind = CommandLimit asked f stood.book (Full kind)
+
+-- What becomes of a book that the hands follow, in a store of these figures: each crash leaves
+-- contents that read like it, whatever is answered; after Ok they read as the command leaves them,
+-- and this is its text.
 pub record AdminOnBook {D M : Type 0} (g : Ghosts D) (asked : AdminCommand)
-    (fresh : List ModuleState) (new : StoreOf D M) (k : StoreBook) (conf : Conf) (log : ErrorLog)
-    (answer : Result (Vec ℕ) StoreFault) : Type 0 where
+    (fresh : List ModuleState) (f : Figures) (new : StoreOf D M) (k : StoreBook) (conf : Conf)
+    (log : ErrorLog) (answer : Result (Vec ℕ) StoreFault) : Type 0 where
   pub text_is : IfOk answer (λ text. IsTextOf asked conf log k text.items)
   pub after : OnOk answer (EachLeft g new (ReadsAfter asked fresh k))
   pub undamaged : IfErr answer IsNoDamage
+  pub limit : IfErr answer (CommandLimit asked f k)
   pub left : EachLeft g new (ReadsLike fresh k)
 
 -- What a command does with an open store that has this configuration in force.
@@ -98,7 +114,7 @@ pub record AdminDone {D : Type 0} (g : Ghosts D) (asked : AdminCommand)
   pub refused : IfErr answer (AdminRefused g old new)
   pub book : (fresh : List ModuleState) (k : StoreBook) (stands : StoreStandsFor g fresh old k)
       → AllFollow diagnosers k.book hands
-      → AdminOnBook g asked fresh new k conf (error_log old stands.older) answer
+      → AdminOnBook g asked fresh (figures_of old) new k conf (error_log old stands.older) answer
 
 -- ---- six disks
 
@@ -125,8 +141,8 @@ pub record StoreUnopened (disks disks_now : DisksAt) (stop : Stop) : Type 0 wher
   pub why : OpeningStops disks stop
 
 -- It was opened, and the text not told.
-pub record StoreUntold (disks disks_now : DisksAt) (stop : Stop) : Type 0 where
-  pub why : ConcludingStops disks stop
+pub record StoreUntold (limit : WorkLimit) (disks disks_now : DisksAt) (stop : Stop) : Type 0 where
+  pub why : ConcludingStops limit disks stop
   pub holds : (told : Contents) → Tells disks told → HoldsOfBook told (LikeBook told disks_now)
 
 -- What was done with the store up to the text, which is told or not.
@@ -135,7 +151,8 @@ pub record TextAsked (asked : AdminCommand) (disks disks_now : DisksAt) (ran : R
   pub went : MatchResult ran
       (λ text. (told : Contents) → Tells disks told
       → HoldsOfBook told (ToldOf asked told disks_now text))
-      (λ stop. StoreUnopened disks disks_now stop ⊎ StoreUntold disks disks_now stop)
+      (λ stop. StoreUnopened disks disks_now stop
+      ⊎ StoreUntold (command_limit asked) disks disks_now stop)
   pub counts : DisksAccount disks disks_now ran
 
 -- ---- the command

@@ -17,6 +17,7 @@ use Rattle.fm_logs.specs.StoreBook.{StoreBook, force_now}
 use Rattle.fm_logs.specs.declared.fault.StoreFault.{StoreFault}
 use Rattle.fm_outer.specs.declared.disk.Disk.{Ghosts}
 use Rattle.fm_saved.specs.declared.conf.Conf.{Conf}
+use Rattle.fm_settled.specs.BaseLimits.{Figures, figures_of}
 use Rattle.fm_store.specs.StoreLeft.{EachLeft, ReadsLike}
 use Rattle.fm_store.specs.StoreOf.{StoreOf, StoreStandsFor}
 use Rattle.fm_store.specs.StoreReading.{IsNoDamage}
@@ -28,6 +29,7 @@ use Rattle.fm_top.specs.Esc.{TextEnds}
 use Rattle.fm_top.specs.ExplainedRow.{IsExplanationAt}
 use Rattle.fm_top.specs.Headline.{HoldsOfBook}
 use Rattle.fm_top.specs.Kept.{BookAt}
+use Rattle.fm_top.specs.Limits.{DrainLimit, draining_limit}
 use Rattle.fm_top.specs.Outside.{SinkAt, DisksAt, Tells, Leaves}
 use Rattle.fm_top.specs.Stops.{of_store}
 use Rattle.fm_top.specs.declared.stops.Stop.{Stop}
@@ -39,12 +41,13 @@ use Rattle.fm_top.specs.declared.stops.Stop.TheVariants.{NotFound}
 -- whatever is answered; after Ok they read as it is once it is drained, and this is the text of the
 -- row, or there is none.
 pub record ExplainOnBook {D M : Type 0} (g : Ghosts D) (uuid : List ℕ) (fresh : List ModuleState)
-    (new : StoreOf D M) (k : StoreBook) (conf : Conf)
+    (f : Figures) (new : StoreOf D M) (k : StoreBook) (conf : Conf)
     (answer : Result (Option (Vec ℕ)) StoreFault) : Type 0 where
   pub told : IfOk answer (λ text. IsExplanationOf conf (force_now k) uuid (drained k.book)
       (option_map (λ t. t.items) text))
   pub after : OnOk answer (EachLeft g new (ReadsDrained fresh k))
   pub undamaged : IfErr answer IsNoDamage
+  pub limit : IfErr answer (DrainLimit f k)
   pub left : EachLeft g new (ReadsLike fresh k)
 
 -- What was done with an open store that has this configuration in force.
@@ -55,7 +58,8 @@ pub record ExplainDone {D : Type 0} (g : Ghosts D) (uuid : List ℕ)
   pub quiet : OnOk answer (NoDiskFailed g old new)
   pub refused : IfErr answer (AdminRefused g old new)
   pub book : (fresh : List ModuleState) (k : StoreBook) → StoreStandsFor g fresh old k
-      → AllFollow diagnosers k.book hands → ExplainOnBook g uuid fresh new k conf answer
+      → AllFollow diagnosers k.book hands
+      → ExplainOnBook g uuid fresh (figures_of old) new k conf answer
 
 -- no row has the UUID, or it was refused
 abbrev pub ExplainHalts : {D : Type 0} → Ghosts D → List ℕ → StoreOf D DiagnoserOf
@@ -87,7 +91,8 @@ pub record ExplainTried (uuid : List ℕ) (disks disks_now : DisksAt) (ran : Res
       (λ text. (told : Contents) → Tells disks told
       → HoldsOfBook told (ExplainedOf uuid told disks_now (Some text)))
       (λ stop. StoreUnopened disks disks_now stop
-      ⊎ (StoreWithout uuid disks disks_now stop ⊎ StoreUntold disks disks_now stop))
+      ⊎ (StoreWithout uuid disks disks_now stop
+      ⊎ StoreUntold draining_limit disks disks_now stop))
   pub counts : DisksAccount disks disks_now ran
 
 -- ---- the command

@@ -27,6 +27,7 @@ use Rattle.fm_top.specs.Exact.{IsExactWith}
 use Rattle.fm_top.specs.Headline.{HoldsOfBook}
 use Rattle.fm_top.specs.Init.{AreUnwritten}
 use Rattle.fm_top.specs.Kept.{BookAt, KeepsAsRead, KeepsOther}
+use Rattle.fm_top.specs.Limits.{ReachesWorkLimit, WorkLimit, concluding_limit}
 use Rattle.fm_top.specs.Outside.{Outside, SourceAt, SinkAt, DisksAt, Tells, Leaves, disk_counts}
 use Rattle.fm_top.specs.Outside.{given_of, standing}
 use Rattle.fm_top.specs.Recording.{store_with}
@@ -79,19 +80,20 @@ pub record StoreDiffers (input input_now : SourceAt) (out out_now : SinkAt)
   pub next : ℕ
   pub grew : Grew disks disks_now next [] None
 
--- why a store was not drained and its base not moved; no store whose disks told a book is damaged
-abbrev pub ConcludingStops : DisksAt → Stop → Type 0
-ConcludingStops disks Disk = Unit {0}
-ConcludingStops disks (Full kind) = Unit {0}
-ConcludingStops disks Memory = Unit {0}
-ConcludingStops disks (Damaged disk place) = (told : Contents) → Tells disks told → ⊥
-ConcludingStops disks _ = ⊥
+-- why the work on a store stopped that may reach this limit; no store whose disks told a book is
+-- damaged
+abbrev pub ConcludingStops : WorkLimit → DisksAt → Stop → Type 0
+ConcludingStops limit disks Disk = Unit {0}
+ConcludingStops limit disks (Full kind) = ReachesWorkLimit limit disks kind
+ConcludingStops limit disks Memory = Unit {0}
+ConcludingStops limit disks (Damaged disk place) = (told : Contents) → Tells disks told → ⊥
+ConcludingStops limit disks _ = ⊥
 
 -- Each line was answered and its entry taken, and then the work on the store stopped.
 pub record Unconcluded (input input_now : SourceAt) (out out_now : SinkAt)
     (disks disks_now : DisksAt) (stop : Stop) : Type 0 where
   pub accepted : AcceptedAll input input_now out out_now disks disks_now
-  pub why : ConcludingStops disks stop
+  pub why : ConcludingStops (concluding_limit (entries_of (lines_of accepted.ran.read))) disks stop
 
 -- the work on the store stopped: before it was opened, at what it keeps, at the input, or behind it
 abbrev pub StoreStops : SourceAt → SourceAt → SinkAt → SinkAt → DisksAt → DisksAt → Sources

@@ -29,6 +29,7 @@ use Rattle.fm_top.specs.Fmd.{ConcludingStops, DrainedFrom, SettlingEnds}
 use Rattle.fm_top.specs.GenerateStart.{AreGenerated, AreGeneratedAt, BeginsLate}
 use Rattle.fm_top.specs.Headline.{HoldsOfBook, LikeBook}
 use Rattle.fm_top.specs.Kept.{BookAt}
+use Rattle.fm_top.specs.Limits.{concluding_limit}
 use Rattle.fm_top.specs.Outside.{SinkAt, DisksAt, Tells}
 use Rattle.fm_top.specs.Recording.{Recorded}
 use Rattle.fm_top.specs.Running.{Taken}
@@ -147,7 +148,7 @@ pub record GenerateUnconcluded (number : ℕ) (disks disks_now : DisksAt) (stop 
   pub are : Generates number disks entries
   pub next : ℕ
   pub took : Grew disks disks_now next entries None
-  pub why : ConcludingStops disks stop
+  pub why : ConcludingStops (concluding_limit entries) disks stop
 
 -- the work on the store stopped: before it was opened, before anything was generated, at an entry,
 -- or behind all

@@ -12,6 +12,7 @@ pub mod Esc
 pub mod Exact
 pub mod Explain
 pub mod ExplainedRow
+pub mod Limits
 pub mod Fmd
 pub mod FmdStore
 pub mod Generate

@@ -15,6 +15,7 @@ use Rattle.fm_logs.specs.StoreBook.{StoreBook, with_book}
 use Rattle.fm_logs.specs.declared.disks.DiskName.{DiskName}
 use Rattle.fm_outer.specs.Failures.{Rose}
 use Rattle.fm_outer.specs.declared.disk.Disk.{Ghosts}
+use Rattle.fm_settled.specs.BaseLimits.{figures_of}
 use Rattle.fm_store.specs.StoreLeft.{store_disk, EachLeft, ReadsLikeEither}
 use Rattle.fm_store.specs.StoreOf.{StoreOf, StoreStandsFor}
 use Rattle.fm_top.specs.declared.stops.Stop.{Stop}
@@ -83,6 +84,7 @@ pub record Recorded {D M : Type 0} (g : Ghosts D) (old new : StoreOf D M) (entri
   pub base_is : new.logs.base ≡ old.logs.base
   pub entries_are : new.logs.entries ≡ old.logs.entries ++ entries
   pub cursors_are : new.logs.cursors ≡ old.logs.cursors
+  pub figures_are : figures_of new ≡ figures_of old
   pub logs : LogsLeft g old.logs new.logs last
   pub book : (fresh : List ModuleState) (k : StoreBook) → StoreStandsFor g fresh old k
       → BookLeft g fresh new k entries last

@@ -41,6 +41,7 @@ recorded_none g store = record {
   base_is = refl;
   entries_are = sym (append-nil store.logs.entries);
   cursors_are = refl;
+  figures_are = refl;
   logs = λ older records keep. keep;
   book = λ fresh k st. subst (StoreStandsFor g fresh store) (sym (with_none k)) st;
 }
@@ -84,6 +85,7 @@ module _ {D M : Type 0} (g : Ghosts D) where
     entries_are = then.entries_are ∙ ap (λ xs. xs ++ fs) first.entries_are
         ∙ append_assoc a.logs.entries es fs;
     cursors_are = then.cursors_are ∙ first.cursors_are;
+    figures_are = then.figures_are ∙ first.figures_are;
     logs = logs_on a b c last first.logs then.logs;
     book = λ fresh k st. book_on fresh c k es fs last
         (then.book fresh (store_with k es) (first.book fresh k st));

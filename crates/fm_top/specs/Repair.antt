@@ -1,35 +1,42 @@
 -- What `fmadm repaired`, `fmadm replaced` and `fmadm acquit` do: the store is drained, and where a
 -- suspect would be marked, the entry that says so is accepted and the store drained again; then
 -- the actuators are brought to what is wanted, and the number of the entry is told.
-use Rattle.std.specs.Prelude.{◌≡◌, ◌⊎◌, List, Option, Some, None, Result, Ok, Err, MatchResult}
+use Rattle.std.specs.Prelude.{◌≡◌, ◌⊎◌, List, [], Option, Some, None, Result, Ok, Err}
+use Rattle.std.specs.Prelude.{MatchResult}
 use Rattle.std.specs.Prelude.{OnOk, IfErr}
 use Rattle.dx_engine.specs.Diagnosers.{DiagnoserOf}
 use Rattle.fm_act.specs.Reconciled.{ActuatorState}
+use Rattle.fm_admin.specs.Limits.{RepairLimit}
 use Rattle.fm_admin.specs.Repairing.{IsRepaired}
+use Rattle.fm_admin.specs.Telling.{IsDrainedOf}
 use Rattle.fm_admin.specs.declared.repairing.Repaired.{Repaired}
 use Rattle.fm_conclude.specs.Concluding.{NoDiskFailed}
 use Rattle.fm_core.specs.Book.{ModuleState}
 use Rattle.fm_core.specs.Hands.{HandOf}
 use Rattle.fm_drain.specs.DrainCalls.{AllFollow}
+use Rattle.fm_drain.specs.DrainLimits.{DrainIsFull}
 use Rattle.fm_entry.specs.declared.entry.Entry.{Entry}
+use Rattle.fm_journal.specs.declared.fault.FullKind.{FullKind}
 use Rattle.fm_logs.specs.Contents.{Contents}
 use Rattle.fm_logs.specs.StoreBook.{StoreBook, store_accepted}
 use Rattle.fm_logs.specs.declared.fault.StoreFault.{StoreFault}
 use Rattle.fm_outer.specs.declared.disk.Disk.{Ghosts}
 use Rattle.fm_saved.specs.declared.conf.Conf.{Conf}
+use Rattle.fm_settled.specs.BaseLimits.{Figures}
 use Rattle.fm_store.specs.StoreLeft.{EachLeft, ReadsLike, ReadsLikeEither}
 use Rattle.fm_store.specs.StoreOf.{StoreOf, StoreStandsFor}
 use Rattle.fm_store.specs.StoreReading.{IsNoDamage}
 use Rattle.fm_summary.specs.DrainedSummary.{diagnosers}
-use Rattle.fm_top.specs.Accepting.{DisksAccount}
+use Rattle.fm_top.specs.Accepting.{DisksAccount, ReachesLimit}
 use Rattle.fm_top.specs.Admin.{AdminRefused, StoreUnopened}
 use Rattle.fm_top.specs.Answers.{ok_text}
 use Rattle.fm_top.specs.DrainedBook.{ReadsDrained}
 use Rattle.fm_top.specs.Fmd.{ConcludingStops, SettlingEnds}
 use Rattle.fm_top.specs.Headline.{HoldsOfBook}
 use Rattle.fm_top.specs.Kept.{BookAt}
+use Rattle.fm_top.specs.Limits.{WorkLimit}
 use Rattle.fm_top.specs.Outside.{SinkAt, DisksAt, Tells, Leaves}
-use Rattle.fm_top.specs.RepairEntry.{HasRepair, IsEntryAt, IsEntryOf, RepairAsked}
+use Rattle.fm_top.specs.RepairEntry.{HasRepair, IsEntryAt, IsEntryOf, RepairAsked, order_by}
 use Rattle.fm_top.specs.Stops.{of_store}
 use Rattle.fm_top.specs.declared.stops.Stop.{Stop}
 use Rattle.fm_top.specs.declared.stops.Stop.TheVariants.{NotFaulty}
@@ -40,14 +47,15 @@ use Rattle.fm_top.specs.declared.stops.Stop.TheVariants.{NotFaulty}
 -- which this is told; nothing would be marked, and nothing was accepted; or it was refused, before the
 -- entry was being accepted or from there on.
 abbrev pub RepairOnBook : {D M : Type 0} → Ghosts D → RepairAsked → List ModuleState → StoreOf D M
-    → StoreBook → Conf → Result (Option Repaired) StoreFault → Type 0
-RepairOnBook g asked fresh new k conf (Ok (Some one)) =
+    → StoreOf D M → StoreBook → Conf → Result (Option Repaired) StoreFault → Type 0
+RepairOnBook g asked fresh old new k conf (Ok (Some one)) =
     (e : Entry) × IsEntryOf asked conf k (Some e) × IsRepaired k e one
     × EachLeft g new (ReadsDrained fresh (store_accepted k e))
-RepairOnBook g asked fresh new k conf (Ok None) =
+RepairOnBook g asked fresh old new k conf (Ok None) =
     IsEntryOf asked conf k None × EachLeft g new (ReadsLike fresh k)
-RepairOnBook g asked fresh new k conf (Err fault) =
-    IsNoDamage fault × (EachLeft g new (ReadsLike fresh k)
+RepairOnBook g asked fresh old new k conf (Err fault) =
+    (IsNoDamage fault × RepairLimit old k (order_by conf asked) fault)
+    × (EachLeft g new (ReadsLike fresh k)
     ⊎ ((e : Entry) × IsEntryOf asked conf k (Some e)
     × EachLeft g new (ReadsLikeEither fresh k (store_accepted k e))))
 
@@ -59,7 +67,7 @@ pub record RepairDone {D : Type 0} (g : Ghosts D) (asked : RepairAsked)
   pub quiet : OnOk answer (NoDiskFailed g old new)
   pub refused : IfErr answer (AdminRefused g old new)
   pub book : (fresh : List ModuleState) (k : StoreBook) → StoreStandsFor g fresh old k
-      → AllFollow diagnosers k.book hands → RepairOnBook g asked fresh new k conf answer
+      → AllFollow diagnosers k.book hands → RepairOnBook g asked fresh old new k conf answer
 
 -- nothing would be marked, or it was refused
 abbrev pub RepairHalts : {D : Type 0} → Ghosts D → RepairAsked → StoreOf D DiagnoserOf
@@ -93,6 +101,22 @@ pub record MayHaveRepair (asked : RepairAsked) (told : Contents) (after : DisksA
   pub left : (image : Contents) → Leaves after image
       → ReadsLike stood.fresh stood.book image ⊎ HasRepair asked stood image
 
+-- The entry that the operator's word comes to reaches this limit: the active error journal has no
+-- room for it, or a drain of the drained book with it reaches the limit.
+pub record EntryAtLimit (asked : RepairAsked) (told : Contents) (stood : BookAt told) (f : Figures)
+    (kind : FullKind) : Type 0 where
+  pub entry : Entry
+  pub found : IsEntryAt asked stood (Some entry)
+  pub now : StoreBook
+  pub drained_is : IsDrainedOf stood.book now
+  pub full : ReachesLimit told stood.fresh stood.book [] entry kind
+      ⊎ DrainIsFull f.flt_first (store_accepted now entry).book kind
+
+-- a drain of the book reaches it, or else that entry
+abbrev pub repair_limit : RepairAsked → WorkLimit
+repair_limit asked told stood f kind =
+    DrainIsFull f.flt_first stood.book.book kind ⊎ EntryAtLimit asked told stood f kind
+
 -- The store was drained, and nothing would be marked.
 pub record StoreUnmarked (asked : RepairAsked) (disks disks_now : DisksAt) (stop : Stop) : Type 0
   where
@@ -103,7 +127,7 @@ pub record StoreUnmarked (asked : RepairAsked) (disks disks_now : DisksAt) (stop
 -- It was opened, and not drained, or the entry not accepted, or the store not drained again.
 pub record StoreUnrepaired (asked : RepairAsked) (disks disks_now : DisksAt) (stop : Stop) : Type 0
   where
-    pub why : ConcludingStops disks stop
+    pub why : ConcludingStops (repair_limit asked) disks stop
     pub holds : (told : Contents) → Tells disks told
         → HoldsOfBook told (MayHaveRepair asked told disks_now)
 
