@@ -16,6 +16,9 @@ use fm_status::{put_case, put_event, put_number, put_text};
 use fm_text::write_time;
 use std::alloc::Global;
 
+/// Room for most lines, in bytes, so that few grow while they are written.
+const USUAL_LINE: usize = 128;
+
 /// Whether an entry is a report whose class the pattern matches, where there is one.
 fn has_class(pattern: &Option<Pattern>, entry: &Entry) -> bool
     ensures { result ≡ has_class pattern.now entry.now }
@@ -116,7 +119,7 @@ fn put_kept(
     ensures err { OnErr result (out.new.items ≡ out.old.items) }
 {
     if keeps_entry(options, entry) {
-        let mut lines = Vec::new(alloc);
+        let mut lines = Vec::with_capacity(alloc, USUAL_LINE)?;
         put_entry(alloc, options.full, number, entry, &mut lines)?;
         out.extend_from_slice(&lines)?;
     }
