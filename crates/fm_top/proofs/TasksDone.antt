@@ -111,12 +111,11 @@ module _ {D : Type 0} (g : Ghosts D)
   )
   task_ran (Repair asked) (Ok (Repaired one)) does counts_input counts_out =
       (does.1, repair_tried g disks disks_now first new hands conf asked kept opened are one does.2)
-  task_ran (Repair asked) (Err stop) does counts_input counts_out =
-      (
-        does.1,
-        repair_halted g disks disks_now first new hands conf asked kept opened are seen_is_image
-            read stop does.2,
-      )
+  task_ran (Repair asked) (Err stop) does counts_input counts_out = (
+    does.1,
+    repair_halted g disks disks_now first new hands conf asked kept opened are seen_is_image
+        read stop does.2,
+  )
   task_ran (Explain uuid) (Ok (Text text)) does counts_input counts_out = (
     does.1,
     explain_tried g disks disks_now first new hands conf uuid kept opened are text does.2,
