@@ -178,6 +178,37 @@ fn define<'a>(alloc: Global, named: &mut Named<'a>, rest: &'a str) -> Result<(),
     named.define(name, bytes)
 }
 
+/// Answers a line about bytes that it writes, or about a text.
+fn answer_of_written(
+    alloc: Global,
+    named: &Named<'_>,
+    list: &Nv,
+    word: &str,
+    rest: &str,
+    out: &mut String,
+) -> Result<(), ScriptFault> {
+    match word {
+        "spelled" => pairs::show_spelling(alloc, list, &named.bytes_in(alloc, rest)?, out),
+        "list"
+        | "entry"
+        | "spoken"
+        | "conf"
+        | "checkpoint"
+        | "shape"
+        | "taken_list"
+        | "taken_counted" => answer_of_bytes(alloc, word, &named.bytes_in(alloc, rest)?, out),
+        "taken" | "taken_items" | "fronts" => {
+            let (first, words) = first_word(rest);
+            let bytes = named.bytes_in(alloc, words)?;
+            answer_of_both(alloc, word, first, &bytes, out)
+        }
+        _ => {
+            let bytes = text_in(alloc, rest)?;
+            answer_of_text(alloc, word, text_of(&bytes)?, out)
+        }
+    }
+}
+
 /// Answers a line.
 fn answer<'a>(
     alloc: Global,
@@ -204,30 +235,7 @@ fn answer<'a>(
         "pairs" | "more" | "numbered" | "get" | "at" => {
             answer_of_list(alloc, &mut held.list, word, rest, out)
         }
-        "spelled" => {
-            let bytes = held.named.bytes_in(alloc, rest)?;
-            pairs::show_spelling(alloc, &held.list, &bytes, out)
-        }
-        "list"
-        | "entry"
-        | "spoken"
-        | "conf"
-        | "checkpoint"
-        | "shape"
-        | "taken_list"
-        | "taken_counted" => {
-            let bytes = held.named.bytes_in(alloc, rest)?;
-            answer_of_bytes(alloc, word, &bytes, out)
-        }
-        "taken" | "taken_items" | "fronts" => {
-            let (first, words) = first_word(rest);
-            let bytes = held.named.bytes_in(alloc, words)?;
-            answer_of_both(alloc, word, first, &bytes, out)
-        }
-        _ => {
-            let bytes = text_in(alloc, rest)?;
-            answer_of_text(alloc, word, text_of(&bytes)?, out)
-        }
+        _ => answer_of_written(alloc, &held.named, &held.list, word, rest, out),
     }
 }
 
