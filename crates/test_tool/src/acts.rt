@@ -92,7 +92,7 @@ impl<'a> ActPaths<'a> {
         let mut count = 0_usize;
         for line in text.lines() {
             if let Some(path) = line.strip_prefix("retire ") {
-                if kind_of(path) == self.kind {
+                if is_of_kind(path, self.kind) {
                     if !self.paths.iter().any(|held| held.text() == path) {
                         return false;
                     }
@@ -123,13 +123,13 @@ impl<'a> ActPaths<'a> {
     }
 }
 
-/// The kind of the resource at a path: the name in its last part.
-fn kind_of(path: &str) -> &str {
-    let mut last = path;
+/// Whether a path is of this kind: that is the name in its last part.
+fn is_of_kind(path: &str, kind: &str) -> bool {
+    let mut is_so = false;
     for part in path.split('/') {
-        last = part;
+        is_so = part.split_once('=').unwrap_or((part, "")).0 == kind;
     }
-    last.split_once('=').unwrap_or((last, "")).0
+    is_so
 }
 
 /// The path that an actuator holds at a place. It is asked once more where the call fails.
