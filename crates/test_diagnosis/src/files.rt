@@ -1,116 +1,143 @@
-//! Rule files and a topology.
+//! Modules of the texts of rule files and of a topology.
 
+ghost use Rattle.std.specs.Prelude.{◌≡◌, IfOk, IsTrue, map};
+ghost use Rattle.dx_meaning.specs.Fresh.{fresh_of};
+ghost use Rattle.dx_rules.specs.Rulebooks.{rules_in, ruled_of};
+ghost use Rattle.dx_rules.specs.declared.rulebook.Configs.TheVariants as configs;
+ghost use Rattle.dx_standing.specs.Standing.{state_of};
+ghost use Rattle.dx_step.specs.Lawful.{are_rules};
+
+use crate::fault::ScriptFault;
+use crate::script::Setup;
+use dx_engine::Diagnoser;
 use dx_rules::{Configs, Rulebook, Ruled};
+use dx_standing::can_begin;
 use ev_check::Checked;
 use ev_inst::{instantiate, make_guards};
+use fm_line::NoMemory;
 use fm_sources::read_rules;
 use fm_topo::{Topo, read_topo};
-use std::alloc::{AllocError, Global};
-use std::test::Fail;
+use std::alloc::Global;
 
-/// A chassis with three processors and a memory.
-const PARTS: &str = "hc:///chassis=0\nhc:///chassis=0/cpu=0\nhc:///chassis=0/cpu=1\n\
-hc:///chassis=0/cpu=2\nhc:///chassis=0/dimm=0\n";
-
-/// The cache may show both reports, the core must show the first.
-pub const CACHE: &str = "event fault.cpu.cache@chassis/cpu, FITrate=200;\
-event fault.cpu.core@chassis/cpu, FITrate=100;\
-event ereport.cpu.ue@chassis/cpu, within=5s;\
-event ereport.cpu.wd@chassis/cpu, within=5s;\
-prop fault.cpu.core@chassis/cpu (A)-> ereport.cpu.ue@chassis/cpu;\
-prop fault.cpu.cache@chassis/cpu (0)-> ereport.cpu.ue@chassis/cpu, ereport.cpu.wd@chassis/cpu;";
-
-/// The same, but the cache must show both.
-pub const BOTH: &str = "event fault.cpu.cache@chassis/cpu, FITrate=200;\
-event fault.cpu.core@chassis/cpu, FITrate=100;\
-event ereport.cpu.ue@chassis/cpu, within=5s;\
-event ereport.cpu.wd@chassis/cpu, within=5s;\
-prop fault.cpu.core@chassis/cpu (A)-> ereport.cpu.ue@chassis/cpu;\
-prop fault.cpu.cache@chassis/cpu (A)-> ereport.cpu.ue@chassis/cpu, ereport.cpu.wd@chassis/cpu;";
-
-/// A stopped fan takes two causes, of which a dead one has one.
-pub const FAN: &str = "event fault.fan.dead@chassis; event error.fan.hot@chassis;\
-event error.fan.slow@chassis; event ereport.fan.stop@chassis, within=0s;\
-event ereport.fan.warm@chassis, within=0s;\
-prop fault.fan.dead@chassis -> error.fan.hot@chassis;\
-prop error.fan.hot@chassis, error.fan.slow@chassis ->(2) ereport.fan.stop@chassis;";
-
-/// The third upset within an hour is reported, and tells of a fault.
-pub const UPSETS: &str = "event upset.cpu.ce@chassis/cpu, engine=serd.cpu.ce;\
-event fault.cpu.cache@chassis/cpu; event ereport.cpu.ce@chassis/cpu, within=0s;\
-event ereport.cpu.thr@chassis/cpu, within=0s;\
-engine serd.cpu.ce@chassis/cpu, N=3, T=1h, trip=ereport.cpu.thr;\
-prop upset.cpu.ce@chassis/cpu -> ereport.cpu.ce@chassis/cpu;\
-prop fault.cpu.cache@chassis/cpu (0)-> ereport.cpu.thr@chassis/cpu;";
-
-/// The cache shows the report only where the bank is the processor's and two more.
-pub const BANKS: &str = "event fault.cpu.cache@chassis/cpu, FITrate=200;\
-event fault.cpu.core@chassis/cpu, FITrate=100;\
-event ereport.cpu.ue@chassis/cpu, within=0s;\
-prop fault.cpu.core@chassis/cpu -> ereport.cpu.ue@chassis/cpu;\
-prop fault.cpu.cache@chassis/cpu -> ereport.cpu.ue@chassis/cpu\
-{payloadprop(\"bank\") == cpu + 2};";
-
-/// A second report that only the cache shows, for the same rules.
-pub const SECOND: &str = "event ereport.cpu.wd@chassis/cpu, within=5s;\
-prop fault.cpu.cache@chassis/cpu (0)-> ereport.cpu.wd@chassis/cpu;";
-
-/// The parts of a text, one after the other.
-fn joined(alloc: Global, parts: &[&str]) -> Result<String, AllocError> {
-    let mut text = String::new(alloc);
-    for part in parts {
-        text.push_str(part)?;
-    }
-    Ok(text)
-}
-
-fn checked(alloc: Global, text: &str) -> Result<Checked, Fail> {
+fn checked(alloc: Global, text: &str) -> Result<Checked, ScriptFault> {
     match read_rules(alloc, text.as_bytes()) {
         Ok(checked) => Ok(checked),
-        Err(_) => Err(Fail::new("no rule file")),
+        Err(_) => Err(ScriptFault::Refused),
     }
 }
 
-fn topology(alloc: Global) -> Result<Topo, Fail> {
-    match read_topo(alloc, PARTS.as_bytes()) {
+fn topology(alloc: Global, text: &str) -> Result<Topo, ScriptFault> {
+    match read_topo(alloc, text.as_bytes()) {
         Ok(topo) => Ok(topo),
-        Err(_) => Err(Fail::new("no topology")),
+        Err(_) => Err(ScriptFault::Refused),
     }
 }
 
-/// What a rule file comes to over the parts of the machine.
-fn ruled(alloc: Global, text: &str) -> Result<Ruled, Fail> {
-    let topo = topology(alloc)?;
+/// What a rule file comes to over a topology. Where payloads can break no link it has no guards.
+fn ruled(alloc: Global, text: &str, parts: &str) -> Result<Ruled, ScriptFault> {
+    let topo = topology(alloc, parts)?;
     let checked = checked(alloc, text)?;
     let made = match instantiate(alloc, &checked, &topo) {
         Ok(made) => made,
-        Err(_) => return Err(Fail::new("no graph")),
+        Err(_) => return Err(ScriptFault::Refused),
     };
-    match make_guards(alloc, &checked, topo, &made.graph) {
-        Ok(guards) => Ok(Ruled {
-            graph: made.graph,
-            guards: Some(guards),
-        }),
-        Err(_) => Err(Fail::new("no memory")),
+    let guards = make_guards(alloc, &checked, topo, &made.graph)?;
+    let guards = if guards.is_empty() {
+        None
+    } else {
+        Some(guards)
+    };
+    Ok(Ruled {
+        graph: made.graph,
+        guards,
+    })
+}
+
+/// What each rule file comes to.
+fn ruled_each(alloc: Global, setup: &Setup) -> Result<Vec<Ruled>, ScriptFault> {
+    let mut list = Vec::new(alloc);
+    for text in setup.rules.as_slice() {
+        list.push(ruled(alloc, text.as_str(), setup.topology.as_str())?)?;
+    }
+    Ok(list)
+}
+
+/// The rules of the module 0.
+pub fn rulebook(alloc: Global, setup: &Setup) -> Result<Rulebook, ScriptFault> {
+    let mut list = ruled_each(alloc, setup)?;
+    let configs = match setup.number {
+        Some(number) => match list.pop() {
+            Some(ruled) => Configs::Single { number, ruled },
+            None => return Err(ScriptFault::Words),
+        },
+        None => Configs::Listed(list),
+    };
+    Ok(Rulebook { own: 0, configs })
+}
+
+fn copy_list(alloc: Global, list: &[Ruled]) -> Result<Vec<Ruled>, NoMemory>
+    ensures { IfOk result (λ copies. map ruled_of copies.items ≡ map ruled_of list.now) }
+{
+    let mut copies = Vec::with_capacity(alloc, list.len())?;
+    'list: for ruled in list {
+        copies.push(ruled.copy(alloc)?)?;
+    }
+    Ok(copies)
+}
+
+/// Equal rules.
+pub fn copy_rules(alloc: Global, rules: &Rulebook) -> Result<Rulebook, NoMemory>
+    ensures { IfOk result (λ copy. rules_in copy ≡ rules_in rules.now) }
+{
+    let configs = match &rules.configs {
+        Configs::Single { number, ruled } => Configs::Single {
+            number: *number,
+            ruled: ruled.copy(alloc)?,
+        },
+        Configs::Listed(list) => Configs::Listed(copy_list(alloc, list.as_slice())?),
+    };
+    Ok(Rulebook {
+        own: rules.own,
+        configs,
+    })
+}
+
+/// The module of one configuration, to which nothing has happened.
+fn single_module(alloc: Global, own: u32, number: u32, ruled: Ruled) -> Result<Diagnoser, NoMemory>
+    requires { IsTrue (are_rules (rules_in record {
+      own = own;
+      configs = configs.Single number ruled;
+    })) }
+    ensures rules { IfOk result (λ d. rules_in d.rules ≡ rules_in record {
+      own = own;
+      configs = configs.Single number ruled;
+    }) }
+    ensures state { IfOk result (λ d. state_of d.standing ≡ fresh_of (rules_in record {
+      own = own;
+      configs = configs.Single number ruled;
+    })) }
+{
+    let Ruled { graph, guards } = ruled;
+    match guards {
+        Some(guards) => Diagnoser::with_guards(alloc, own, number, graph, guards),
+        None => Diagnoser::new(alloc, own, number, graph),
     }
 }
 
-/// The rules of the module 0, with one rule file, whose text is given in parts.
-pub fn rulebook(alloc: Global, parts: &[&str]) -> Result<Rulebook, Fail> {
-    let text = joined(alloc, parts)?;
-    let ruled = ruled(alloc, text.as_str())?;
-    Ok(Rulebook {
-        own: 0,
-        configs: Configs::Single { number: 0, ruled },
-    })
-}
-
-/// The same with two rule files, of which a reload to 1 changes to the second.
-pub fn two_rulebooks(alloc: Global, texts: [&str; 2]) -> Result<Rulebook, Fail> {
-    let first = ruled(alloc, texts[0])?;
-    let second = ruled(alloc, texts[1])?;
-    Ok(Rulebook {
-        own: 0,
-        configs: Configs::Listed(Vec::from_array(alloc, [first, second])?),
-    })
+/// The module of these rules, to which nothing has happened.
+pub fn module_of(alloc: Global, rules: Rulebook) -> Result<Diagnoser, ScriptFault>
+    ensures rules { IfOk result (λ d. rules_in d.rules ≡ rules_in rules) }
+    ensures state { IfOk result (λ d. state_of d.standing ≡ fresh_of (rules_in rules)) }
+{
+    if !can_begin(&rules) {
+        return Err(ScriptFault::Refused);
+    }
+    let Rulebook { own, configs } = rules;
+    match configs {
+        Configs::Single { number, ruled } => Ok(single_module(alloc, own, number, ruled)?),
+        Configs::Listed(list) => {
+            let configs = Configs::Listed(list);
+            Ok(Diagnoser::with_rules(alloc, Rulebook { own, configs })?)
+        }
+    }
 }

@@ -1,0 +1,58 @@
+//! Many cases that are open at once.
+
+use crate::files::{PROCESSORS, parts_text, twins};
+use crate::steps::{Stepped, tally_of};
+use crate::tally::{BenchFault, Tally};
+use dx_engine::Diagnoser;
+use std::alloc::Global;
+
+/// A report at a processor, which opens a case or joins the one that is open there.
+fn report(
+    alloc: Global,
+    module: Stepped<Diagnoser>,
+    cpu: u64,
+) -> Result<Stepped<Diagnoser>, BenchFault> {
+    let line = format!(in alloc; "report ereport.cpu.ue hc:///chassis=0/cpu={cpu} 1")?;
+    module.step(alloc, line.as_str())
+}
+
+/// A module of so many processors, in which so many cases are open.
+fn opened(alloc: Global, parts: u32, cases: u32) -> Result<Stepped<Diagnoser>, BenchFault> {
+    let parts = parts_text(alloc, parts, 0)?;
+    let (module, _) = twins(alloc, 0, PROCESSORS, parts.as_str())?;
+    let mut module = Stepped::new(0, module);
+    'cases: for case in 0..cases {
+        module = report(alloc, module, u64::from(case))?;
+    }
+    Ok(module)
+}
+
+fn tally(
+    alloc: Global,
+    module: &Stepped<Diagnoser>,
+    cases: u32,
+    count: u32,
+) -> Result<Tally, BenchFault> {
+    let entries = u64::from(cases).saturating_add(u64::from(count));
+    tally_of(alloc, module.hand.state(), entries, module.words)
+}
+
+/// Then so many reports, each of which joins a case, one after the other in leaps.
+pub fn open(alloc: Global, parts: u32, cases: u32, count: u32) -> Result<Tally, BenchFault> {
+    let mut module = opened(alloc, parts, cases)?;
+    let mut case = 0u64;
+    'reports: for _report in 0..count {
+        case = case.saturating_add(7919) % u64::from(cases).max(1);
+        module = report(alloc, module, case)?;
+    }
+    tally(alloc, &module, cases, count)
+}
+
+/// Then so many ticks at the same moment.
+pub fn tick(alloc: Global, parts: u32, cases: u32, count: u32) -> Result<Tally, BenchFault> {
+    let mut module = opened(alloc, parts, cases)?;
+    'ticks: for _tick in 0..count {
+        module = module.step(alloc, "tick 1")?;
+    }
+    tally(alloc, &module, cases, count)
+}

@@ -1,0 +1,113 @@
+//! Modules of drawn rules, which say what the second opinion says.
+
+use crate::bytes::{first_word, number_in};
+use crate::draws::Draws;
+use crate::fault::ScriptFault;
+use crate::happenings::Happening;
+use crate::plain::{Counts, Plain};
+use crate::rows::put_open;
+use crate::runs::run;
+use crate::script::Setup;
+use crate::sketch::{PARTS, Sketch, drawn_sketch, text_of};
+use std::alloc::Global;
+
+/// What each place of the counts is of.
+const NAMES: [&str; 7] = [
+    "suspect",
+    "undiagnosable",
+    "upset",
+    "updated",
+    "repaired",
+    "trips",
+    "cuts",
+];
+
+/// A module of the rules, to which nothing has happened.
+fn setup_of(alloc: Global, sketch: &Sketch) -> Result<Setup, ScriptFault> {
+    let mut setup = Setup::new(alloc);
+    setup.topology = String::from_str(alloc, PARTS)?;
+    setup.rules.push(text_of(alloc, sketch)?)?;
+    setup.number = Some(0);
+    Ok(setup)
+}
+
+/// Draws what happens, puts its lines into the setup, and lets the second opinion take it.
+fn happen(
+    alloc: Global,
+    draws: &mut Draws,
+    sketch: &Sketch,
+    setup: &mut Setup,
+    plain: &mut Plain,
+    count: u64,
+) -> Result<(), ScriptFault> {
+    let mut clock = 0u64;
+    for _entry in 0..count {
+        clock = clock.saturating_add(u64::from(draws.up_to(2)));
+        let moment = clock.saturating_sub(u64::from(draws.up_to(1)));
+        let happening = Happening::drawn(draws);
+        setup.entries.push(happening.line(alloc, sketch, moment)?)?;
+        plain.take(sketch, moment, happening)?;
+    }
+    plain.put_open()
+}
+
+/// What a module of the rules says, and which cases are open then.
+fn module_text(alloc: Global, setup: &Setup) -> Result<String, ScriptFault> {
+    let ended = run(alloc, setup, 0)?;
+    let mut text = String::new(alloc);
+    text.push_str(ended.told.text.as_str())?;
+    put_open(ended.again.open_rows(alloc)?.as_slice(), &mut text)?;
+    Ok(text)
+}
+
+/// Tries the rules and entries of one number: where the module says something else, both.
+fn trial(
+    alloc: Global,
+    seed: u64,
+    entries: u64,
+    counts: &mut Counts,
+) -> Result<Option<String>, ScriptFault> {
+    let mut draws = Draws::new(seed);
+    let sketch = drawn_sketch(alloc, &mut draws)?;
+    let mut setup = setup_of(alloc, &sketch)?;
+    let mut plain = Plain::new(alloc);
+    happen(alloc, &mut draws, &sketch, &mut setup, &mut plain, entries)?;
+    counts.add(&plain.counts);
+    let found = module_text(alloc, &setup)?;
+    if found.as_str() == plain.text.as_str() {
+        return Ok(None);
+    }
+    let found = found.as_str();
+    let wanted = plain.text.as_str();
+    Ok(Some(format!(in alloc; "{seed} says {found} and not {wanted}")?))
+}
+
+/// Of what there were fewer than a number.
+fn few_text(alloc: Global, counts: &Counts, least: u32) -> Result<String, ScriptFault> {
+    let mut text = String::from_str(alloc, "alike")?;
+    for (name, count) in NAMES.iter().zip(counts.counts.iter()) {
+        if *count < least {
+            write!(text, ", {count} {name}")?;
+        }
+    }
+    Ok(text)
+}
+
+/// Tries the rules and entries of so many numbers from one on, as `FIRST COUNT ENTRIES LEAST`: which
+/// differ first, or that none do, and of what there were fewer than the last number.
+pub fn drawn_text(alloc: Global, words: &str) -> Result<String, ScriptFault> {
+    let (first, rest) = first_word(words);
+    let (count, rest) = first_word(rest);
+    let (entries, least) = first_word(rest);
+    let entries = number_in(entries)?;
+    let least = (number_in(least)? & 0xffff_ffff) as u32;
+    let mut seed = number_in(first)?;
+    let mut counts = Counts::new();
+    for _trial in 0..number_in(count)? {
+        if let Some(difference) = trial(alloc, seed, entries, &mut counts)? {
+            return Ok(difference);
+        }
+        seed = seed.wrapping_add(1);
+    }
+    few_text(alloc, &counts, least)
+}
