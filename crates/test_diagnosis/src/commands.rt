@@ -1,84 +1,12 @@
 //! The commands of a script: each works on what stays from line to line, and has an answer.
 
-use crate::bytes::{bytes_in, compare, first_word, number_in};
 use crate::drawn::drawn_text;
-use crate::fault::ScriptFault;
 use crate::fields::{Fields, spell};
 use crate::rows::{put_open, row_text, rows_text};
-use crate::runs::{Ended, is_kept, load_text, run};
+use crate::runs::{Ended, compare, is_kept, load_text, run};
 use crate::script::{Script, Setup};
 use std::alloc::Global;
-
-fn done(alloc: Global) -> Result<String, ScriptFault> {
-    Ok(String::from_str(alloc, "ok")?)
-}
-
-/// The topology has these paths, one a line.
-fn topology(alloc: Global, script: &mut Script, words: &str) -> Result<String, ScriptFault> {
-    let mut text = String::new(alloc);
-    for path in words.split_whitespace() {
-        write!(text, "{path}\n")?;
-    }
-    script.setup.topology = text;
-    done(alloc)
-}
-
-/// Puts a piece behind a rule file.
-fn add(alloc: Global, script: &mut Script, rest: &str) -> Result<String, ScriptFault> {
-    let (name, text) = first_word(rest);
-    script.add(alloc, name, text)?;
-    done(alloc)
-}
-
-/// Puts the text of another rule file, and a piece, behind a rule file.
-fn add_like(alloc: Global, script: &mut Script, rest: &str) -> Result<String, ScriptFault> {
-    let (name, rest) = first_word(rest);
-    let (other, text) = first_word(rest);
-    let front = script.text_of(alloc, other)?;
-    script.add(alloc, name, front.as_str())?;
-    script.add(alloc, name, text)?;
-    done(alloc)
-}
-
-/// The module has this one rule file, as its configuration of a number, and nothing has happened to
-/// it.
-fn single(alloc: Global, script: &mut Script, rest: &str) -> Result<String, ScriptFault> {
-    let (name, number) = first_word(rest);
-    let number = if number.is_empty() {
-        0
-    } else {
-        number_in(number)?
-    };
-    let mut rules = Vec::new(alloc);
-    rules.push(script.text_of(alloc, name)?)?;
-    script.setup.rules = rules;
-    script.setup.number = Some((number & 0xffff_ffff) as u32);
-    begin(alloc, script, None)
-}
-
-/// The module has these rule files as the list of its configurations, and nothing has happened to
-/// it.
-fn listed(alloc: Global, script: &mut Script, names: &str) -> Result<String, ScriptFault> {
-    let mut rules = Vec::new(alloc);
-    for name in names.split_whitespace() {
-        rules.push(script.text_of(alloc, name)?)?;
-    }
-    script.setup.rules = rules;
-    script.setup.number = None;
-    begin(alloc, script, None)
-}
-
-/// The module begins in this state.
-fn begin(
-    alloc: Global,
-    script: &mut Script,
-    state: Option<Vec<u8>>,
-) -> Result<String, ScriptFault> {
-    script.setup.state = state;
-    script.setup.entries = Vec::new(alloc);
-    let ended = run(alloc, &script.setup, 0)?;
-    said_text(alloc, &ended)
-}
+use test_words::{ScriptFault, first_word, number_in, small_in};
 
 /// What was said, and which cases are open then.
 fn said_text(alloc: Global, ended: &Ended) -> Result<String, ScriptFault> {
@@ -90,101 +18,156 @@ fn said_text(alloc: Global, ended: &Ended) -> Result<String, ScriptFault> {
     Ok(text)
 }
 
-/// Lets the module take the entry of a line.
-fn take(alloc: Global, script: &mut Script, line: &str) -> Result<String, ScriptFault> {
-    script.setup.entries.push(String::from_str(alloc, line)?)?;
-    let last = script.setup.last();
-    let ended = run(alloc, &script.setup, last)?;
+/// Nothing has happened to the module, which begins in this state.
+fn begin(alloc: Global, setup: &mut Setup, state: Option<Vec<u8>>) -> Result<String, ScriptFault> {
+    setup.state = state;
+    setup.entries = Vec::new(alloc);
+    let ended = run(alloc, setup, 0)?;
     said_text(alloc, &ended)
 }
 
-/// Lets the module take the entry of a line so often.
-fn repeat(alloc: Global, script: &mut Script, rest: &str) -> Result<String, ScriptFault> {
-    let (count, line) = first_word(rest);
-    for _time in 0..number_in(count)? {
-        script.setup.entries.push(String::from_str(alloc, line)?)?;
+/// The texts of the rule files of these names.
+fn texts_of(alloc: Global, script: &Script<'_>, names: &str) -> Result<Vec<String>, ScriptFault> {
+    let mut texts = Vec::new(alloc);
+    for name in names.split_whitespace() {
+        texts.push(script.text_of(alloc, name)?)?;
     }
-    let last = script.setup.last();
-    let ended = run(alloc, &script.setup, last)?;
+    Ok(texts)
+}
+
+/// The number of a configuration that a word says; 0 where there is none.
+fn configuration_in(word: &str) -> Result<u32, ScriptFault> {
+    if word.is_empty() {
+        return Ok(0);
+    }
+    small_in(word)
+}
+
+/// The module has this one rule file, as its configuration of a number.
+fn single(alloc: Global, script: &mut Script<'_>, rest: &str) -> Result<String, ScriptFault> {
+    let (name, number) = first_word(rest);
+    script.setup.number = Some(configuration_in(number)?);
+    script.setup.rules = texts_of(alloc, script, name)?;
+    begin(alloc, &mut script.setup, None)
+}
+
+/// The module has these rule files as the list of its configurations.
+fn listed(alloc: Global, script: &mut Script<'_>, names: &str) -> Result<String, ScriptFault> {
+    script.setup.number = None;
+    script.setup.rules = texts_of(alloc, script, names)?;
+    begin(alloc, &mut script.setup, None)
+}
+
+/// The module begins in the state of these bytes.
+fn in_state(alloc: Global, script: &mut Script<'_>, words: &str) -> Result<String, ScriptFault> {
+    let bytes = script.bytes_in(alloc, words)?;
+    begin(alloc, &mut script.setup, Some(bytes))
+}
+
+/// Lets the module take the entry of a line.
+fn take(alloc: Global, setup: &mut Setup, line: &str) -> Result<String, ScriptFault> {
+    setup.entries.push(String::from_str(alloc, line)?)?;
+    let ended = run(alloc, setup, setup.last())?;
+    said_text(alloc, &ended)
+}
+
+/// Puts the entry of a line so often behind those of the module.
+fn push_often(alloc: Global, setup: &mut Setup, count: u64, line: &str) -> Result<(), ScriptFault> {
+    for _time in 0..count {
+        setup.entries.push(String::from_str(alloc, line)?)?;
+    }
+    Ok(())
+}
+
+/// Lets the module take the entry of a line so often.
+fn repeat(alloc: Global, setup: &mut Setup, rest: &str) -> Result<String, ScriptFault> {
+    let (count, line) = first_word(rest);
+    push_often(alloc, setup, number_in(count)?, line)?;
+    let ended = run(alloc, setup, setup.last())?;
     let said = said_text(alloc, &ended)?;
     let words = ended.told.words;
     Ok(format!(in alloc; "{words} words so far, at the last {said}")?)
 }
 
-/// What the module has come to: its rows, the last word of a case, or its state.
+/// What the module has come to: its rows, the last word of a case, or whether its state is kept.
 fn tell(alloc: Global, setup: &Setup, word: &str, rest: &str) -> Result<String, ScriptFault> {
     let ended = run(alloc, setup, setup.last())?;
     match word {
         "rows" => rows_text(alloc, &ended),
         "row" => row_text(alloc, &ended, rest),
-        "kept" => is_kept(alloc, &ended.again, ended.state.as_slice()),
-        _ => compare(
-            alloc,
-            ended.state.as_slice(),
-            bytes_in(alloc, rest)?.as_slice(),
-        ),
+        _ => is_kept(alloc, &ended.again, &ended.state),
     }
+}
+
+/// Whether the module's state is saved as these bytes.
+fn saves(alloc: Global, script: &Script<'_>, words: &str) -> Result<String, ScriptFault> {
+    let wanted = script.bytes_in(alloc, words)?;
+    let ended = run(alloc, &script.setup, script.setup.last())?;
+    compare(alloc, &ended.state, &wanted)
+}
+
+/// Whether these bytes load.
+fn loads(alloc: Global, script: &Script<'_>, words: &str) -> Result<String, ScriptFault> {
+    let bytes = script.bytes_in(alloc, words)?;
+    load_text(alloc, &script.setup, &bytes)
 }
 
 /// Whether the state loads that has these fields in place of those of the lawful one.
-fn but(alloc: Global, script: &Script, changed: &str) -> Result<String, ScriptFault> {
+fn but(alloc: Global, script: &Script<'_>, changed: &str) -> Result<String, ScriptFault> {
     let fields = Fields {
         changed,
-        lawful: script.lawful.as_str(),
+        lawful: script.lawful,
     };
-    load_text(alloc, &script.setup, spell(alloc, &fields)?.as_slice())
+    let bytes = spell(alloc, &fields)?;
+    load_text(alloc, &script.setup, &bytes)
 }
 
-/// The module begins in the state of these bytes.
-fn begin_in_state(alloc: Global, script: &mut Script, rest: &str) -> Result<String, ScriptFault> {
-    let bytes = bytes_in(alloc, rest)?;
-    begin(alloc, script, Some(bytes))
-}
-
-/// A command that sets something up.
-fn set_up(
-    alloc: Global,
-    script: &mut Script,
-    word: &str,
-    rest: &str,
-) -> Result<String, ScriptFault> {
+/// A command that leaves all as it was.
+fn ask(alloc: Global, script: &Script<'_>, word: &str, rest: &str) -> Result<String, ScriptFault> {
     match word {
-        "topology" => topology(alloc, script, rest),
-        "rules" => add(alloc, script, rest),
-        "like" => add_like(alloc, script, rest),
-        "module" => single(alloc, script, rest),
-        "modules" => listed(alloc, script, rest),
-        "state" => begin_in_state(alloc, script, rest),
-        "lawful" => {
-            script.lawful = String::from_str(alloc, rest)?;
-            but(alloc, script, "")
-        }
-        _ => Err(ScriptFault::Words),
-    }
-}
-
-/// A command that tells something.
-fn ask(alloc: Global, script: &Script, word: &str, rest: &str) -> Result<String, ScriptFault> {
-    match word {
-        "rows" | "row" | "kept" | "saves" => tell(alloc, &script.setup, word, rest),
+        "saves" => saves(alloc, script, rest),
+        "loads" => loads(alloc, script, rest),
         "but" => but(alloc, script, rest),
-        "loads" => load_text(alloc, &script.setup, bytes_in(alloc, rest)?.as_slice()),
         "drawn" => drawn_text(alloc, rest),
-        _ => Err(ScriptFault::Words),
+        _ => tell(alloc, &script.setup, word, rest),
     }
 }
 
-/// Does what a line says, and tells what came of it.
-pub fn answer(alloc: Global, script: &mut Script, line: &str) -> Result<String, ScriptFault> {
+/// A command that changes the module, or the fields of a lawful state.
+fn change<'a>(
+    alloc: Global,
+    script: &mut Script<'a>,
+    line: &'a str,
+) -> Result<String, ScriptFault> {
     let (word, rest) = first_word(line);
     match word {
-        "topology" | "rules" | "like" | "module" | "modules" | "state" | "lawful" => {
-            set_up(alloc, script, word, rest)
+        "module" => single(alloc, script, rest),
+        "modules" => listed(alloc, script, rest),
+        "state" => in_state(alloc, script, rest),
+        "lawful" => {
+            script.lawful = rest;
+            but(alloc, script, "")
         }
-        "rows" | "row" | "kept" | "saves" | "but" | "loads" | "drawn" => {
-            ask(alloc, script, word, rest)
-        }
-        "repeat" => repeat(alloc, script, rest),
-        _ => take(alloc, script, line),
+        "repeat" => repeat(alloc, &mut script.setup, rest),
+        _ => take(alloc, &mut script.setup, line),
     }
+}
+
+/// Does what a line says, and tells what came of it, if it doesn't just set up texts or bytes.
+pub fn answer<'a>(
+    alloc: Global,
+    script: &mut Script<'a>,
+    line: &'a str,
+) -> Result<Option<String>, ScriptFault> {
+    if script.take(alloc, line)? {
+        return Ok(None);
+    }
+    let (word, rest) = first_word(line);
+    let answer = match word {
+        "rows" | "row" | "kept" | "saves" | "loads" | "but" | "drawn" => {
+            ask(alloc, script, word, rest)?
+        }
+        _ => change(alloc, script, line)?,
+    };
+    Ok(Some(answer))
 }

@@ -5,31 +5,41 @@ ghost use Rattle.fm_core.specs.Seen.{seen};
 ghost use Rattle.test_diagnosis.specs.Ones.{IsOne, AreTwins};
 
 use crate::entries::{any_entry_of, entry_of};
-use crate::fault::ScriptFault;
+use crate::script::Setup;
 use crate::told::Told;
 use fm_core::{Core, Hand, LoadFault, Module, restore};
 use fm_entry::Spoken;
 use fm_line::NoMemory;
 use std::alloc::Global;
+use test_words::ScriptFault;
 
-/// Brings two modules that were made alike to the state of the bytes, if there are some.
-pub fn begin_in<M: Module>(
+/// Brings a module into the state of the bytes.
+pub fn load<M: Module>(alloc: Global, object: &mut M, bytes: &[u8]) -> Result<(), ScriptFault>
+    ensures { M.meaning object.new ≡ M.meaning object.old }
+{
+    match object.load(alloc, bytes) {
+        Ok(()) => Ok(()),
+        Err(LoadFault::Bad) => Err(ScriptFault::NoSpelling),
+        Err(LoadFault::NoMemory) => Err(ScriptFault::NoMemory),
+    }
+}
+
+/// Brings two modules that were made alike into the state of the bytes, if there are some.
+fn load_both<M: Module>(
     alloc: Global,
     own: &mut M,
     kept: &mut M,
     state: &Option<Vec<u8>>,
-) -> Result<(), LoadFault>
+) -> Result<(), ScriptFault>
     requires { AreTwins M.Module own.old kept.old }
     ensures { OnOk result (AreTwins M.Module own.new kept.new) }
 {
     let Some(bytes) = state else {
         return Ok(());
     };
-    own.load(alloc, bytes.as_slice())?;
-    match restore(alloc, own, kept) {
-        Ok(()) => Ok(()),
-        Err(_) => Err(LoadFault::NoMemory),
-    }
+    load(alloc, own, bytes.as_slice())?;
+    restore(alloc, own, kept)?;
+    Ok(())
 }
 
 /// A core of a module that has taken nothing.
@@ -86,19 +96,35 @@ pub fn saved<M: Module>(alloc: Global, module: &M) -> Result<Vec<u8>, NoMemory> 
     Ok(bytes)
 }
 
-/// Lets a core of the module take the entries of the lines, tells what it said, and answers the
-/// bytes of its state.
+/// A core of a module that begins in the state of the bytes, if there are some.
+fn core_in<M: Module>(
+    alloc: Global,
+    own: M,
+    kept: M,
+    state: &Option<Vec<u8>>,
+) -> Result<Core<M>, ScriptFault>
+    requires { AreTwins M.Module own kept }
+    ensures { IfOk result (λ core. IsOne (seen M.Module core)) }
+{
+    let mut own = own;
+    let mut kept = kept;
+    load_both(alloc, &mut own, &mut kept, state)?;
+    core_of(alloc, own, kept)
+}
+
+/// Lets a core of the module take the entries of a setup, tells what it said, and answers the bytes
+/// of its state.
 pub fn play<M: Module>(
     alloc: Global,
     own: M,
     kept: M,
-    lines: &[String],
+    setup: &Setup,
     told: &mut Told,
 ) -> Result<Vec<u8>, ScriptFault>
     requires { AreTwins M.Module own kept }
 {
-    let mut core = core_of(alloc, own, kept)?;
-    accept_all(alloc, &mut core, lines)?;
+    let mut core = core_in(alloc, own, kept, &setup.state)?;
+    accept_all(alloc, &mut core, setup.entries.as_slice())?;
     core.drain(alloc)?;
     tell_all(alloc, core.spoken(), told)?;
     Ok(saved(alloc, core.hand(0).state())?)
@@ -125,17 +151,29 @@ fn step<M: Module>(
     }
 }
 
+/// A module that begins in the state of the bytes, if there are some.
+fn begun<M: Module>(alloc: Global, own: M, state: &Option<Vec<u8>>) -> Result<M, ScriptFault>
+    ensures { IfOk result (λ begun. M.meaning begun ≡ M.meaning own) }
+{
+    let mut own = own;
+    let Some(bytes) = state else {
+        return Ok(own);
+    };
+    load(alloc, &mut own, bytes.as_slice())?;
+    Ok(own)
+}
+
 /// The same of a hand, which also takes reloads.
 pub fn step_all<M: Module>(
     alloc: Global,
     own: M,
-    lines: &[String],
+    setup: &Setup,
     told: &mut Told,
 ) -> Result<Vec<u8>, ScriptFault>
     requires { (M.meaning own).own ≡ 0 }
 {
-    let mut hand = Hand::new(0, 0, own);
-    'lines: for line in lines {
+    let mut hand = Hand::new(0, 0, begun(alloc, own, &setup.state)?);
+    'lines: for line in setup.entries.as_slice() {
         hand = step(alloc, hand, line.as_str(), told)?;
     }
     Ok(saved(alloc, hand.state())?)

@@ -1,8 +1,6 @@
 //! Modules of drawn rules, which say what the second opinion says.
 
-use crate::bytes::{first_word, number_in};
 use crate::draws::Draws;
-use crate::fault::ScriptFault;
 use crate::happenings::Happening;
 use crate::plain::{Counts, Plain};
 use crate::rows::put_open;
@@ -10,6 +8,7 @@ use crate::runs::run;
 use crate::script::Setup;
 use crate::sketch::{PARTS, Sketch, drawn_sketch, text_of};
 use std::alloc::Global;
+use test_words::{ScriptFault, first_word, number_in, small_in};
 
 /// What each place of the counts is of.
 const NAMES: [&str; 7] = [
@@ -22,6 +21,13 @@ const NAMES: [&str; 7] = [
     "cuts",
 ];
 
+/// A module of drawn rules with its entries, and the second opinion that took them.
+#[derive(Drop)]
+struct Drawn {
+    setup: Setup,
+    plain: Plain,
+}
+
 /// A module of the rules, to which nothing has happened.
 fn setup_of(alloc: Global, sketch: &Sketch) -> Result<Setup, ScriptFault> {
     let mut setup = Setup::new(alloc);
@@ -31,24 +37,43 @@ fn setup_of(alloc: Global, sketch: &Sketch) -> Result<Setup, ScriptFault> {
     Ok(setup)
 }
 
-/// Draws what happens, puts its lines into the setup, and lets the second opinion take it.
-fn happen(
-    alloc: Global,
-    draws: &mut Draws,
-    sketch: &Sketch,
-    setup: &mut Setup,
-    plain: &mut Plain,
-    count: u64,
-) -> Result<(), ScriptFault> {
-    let mut clock = 0u64;
-    for _entry in 0..count {
-        clock = clock.saturating_add(u64::from(draws.up_to(2)));
+impl Drawn {
+    fn new(alloc: Global, sketch: &Sketch) -> Result<Drawn, ScriptFault> {
+        let setup = setup_of(alloc, sketch)?;
+        Ok(Drawn {
+            setup,
+            plain: Plain::new(alloc),
+        })
+    }
+
+    /// Draws what happens next, not before the clock's moment less one.
+    fn happen(
+        &mut self,
+        alloc: Global,
+        draws: &mut Draws,
+        sketch: &Sketch,
+        clock: u64,
+    ) -> Result<(), ScriptFault> {
         let moment = clock.saturating_sub(u64::from(draws.up_to(1)));
         let happening = Happening::drawn(draws);
-        setup.entries.push(happening.line(alloc, sketch, moment)?)?;
-        plain.take(sketch, moment, happening)?;
+        let line = happening.line(alloc, sketch, moment)?;
+        self.setup.entries.push(line)?;
+        self.plain.take(sketch, moment, happening)
     }
-    plain.put_open()
+}
+
+/// Draws rules, and so many entries.
+fn drawn(alloc: Global, seed: u64, entries: u64) -> Result<Drawn, ScriptFault> {
+    let mut draws = Draws::new(seed);
+    let sketch = drawn_sketch(alloc, &mut draws)?;
+    let mut drawn = Drawn::new(alloc, &sketch)?;
+    let mut clock = 0u64;
+    for _entry in 0..entries {
+        clock = clock.saturating_add(u64::from(draws.up_to(2)));
+        drawn.happen(alloc, &mut draws, &sketch, clock)?;
+    }
+    drawn.plain.put_open()?;
+    Ok(drawn)
 }
 
 /// What a module of the rules says, and which cases are open then.
@@ -67,18 +92,14 @@ fn trial(
     entries: u64,
     counts: &mut Counts,
 ) -> Result<Option<String>, ScriptFault> {
-    let mut draws = Draws::new(seed);
-    let sketch = drawn_sketch(alloc, &mut draws)?;
-    let mut setup = setup_of(alloc, &sketch)?;
-    let mut plain = Plain::new(alloc);
-    happen(alloc, &mut draws, &sketch, &mut setup, &mut plain, entries)?;
-    counts.add(&plain.counts);
-    let found = module_text(alloc, &setup)?;
-    if found.as_str() == plain.text.as_str() {
+    let drawn = drawn(alloc, seed, entries)?;
+    counts.add(&drawn.plain.counts);
+    let found = module_text(alloc, &drawn.setup)?;
+    let found = found.as_str();
+    let wanted = drawn.plain.text.as_str();
+    if found == wanted {
         return Ok(None);
     }
-    let found = found.as_str();
-    let wanted = plain.text.as_str();
     Ok(Some(format!(in alloc; "{seed} says {found} and not {wanted}")?))
 }
 
@@ -100,7 +121,7 @@ pub fn drawn_text(alloc: Global, words: &str) -> Result<String, ScriptFault> {
     let (count, rest) = first_word(rest);
     let (entries, least) = first_word(rest);
     let entries = number_in(entries)?;
-    let least = (number_in(least)? & 0xffff_ffff) as u32;
+    let least = small_in(least)?;
     let mut seed = number_in(first)?;
     let mut counts = Counts::new();
     for _trial in 0..number_in(count)? {

@@ -1,9 +1,8 @@
 //! States spelled field by field: what each field has is a word of a text, as `time=12`, with commas
 //! between the numbers of a list.
 
-use crate::bytes::number_in;
-use crate::fault::ScriptFault;
 use std::alloc::Global;
+use test_words::{ScriptFault, number_in};
 
 /// The events of a state are at the first parts of four names, numbered in this order.
 const PATHS: [&str; 4] = ["hc:///a=0", "hc:///b=0", "hc:///c=0", "hc:///d=0"];

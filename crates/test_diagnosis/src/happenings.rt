@@ -1,11 +1,11 @@
 //! What happens to a module of drawn rules: as a plain value, and as a line of the input.
 
 use crate::draws::Draws;
-use crate::fault::ScriptFault;
 use crate::sketch::{Sketch, path_of};
 use crate::spoken_of::Said;
 use fm_entry::Mark;
 use std::alloc::{AllocError, Global};
+use test_words::ScriptFault;
 
 /// Where a repair is made: at the chassis, at its part, or elsewhere.
 #[derive(Clone, Copy, PartialEq, Eq, Drop)]

@@ -1,20 +1,18 @@
 //! The program `test_diagnosis`: diagnosis modules that take entries, by a script.
 //!
-//! Its input is the script, a command a line; it prints each command, and behind it what came of
-//! it. The title of a section begins with `==` and is printed; an empty line and one that begins
-//! with `#` says nothing. The commands work on the text of rule files and a topology, and on a
-//! module that these come to, with the entries that it has taken (README.md lists them). `drawn`
+//! Its input is the script, a line a command; it prints each of these lines, and below it what came
+//! of it. The title of a section begins with `==`; an empty line and one that begins with `#` says
+//! nothing (README.md lists the commands). The commands work on the text of rule files and a
+//! topology, and on a module that these come to, with the entries that it has taken. `drawn`
 //! compares modules with a second opinion, `plain`, which was written from the definitions alone
 //! and tries all sets of events for stories.
 #![tactic(auto)]
 
-mod bytes;
 mod commands;
 mod cores;
 mod drawn;
 mod draws;
 mod entries;
-mod fault;
 mod fields;
 mod files;
 mod happenings;
@@ -28,9 +26,9 @@ mod stories;
 mod told;
 
 use crate::commands::answer;
-use crate::fault::ScriptFault;
 use crate::script::Script;
 use std::io;
+use test_words::ScriptFault;
 
 /// Want of memory, as `main` answers it.
 fn out_of_memory() -> io::Error {
@@ -38,9 +36,9 @@ fn out_of_memory() -> io::Error {
 }
 
 fn main(rt: HostRuntime) -> io::Result<()> {
-    let script = io::read_to_string(rt.alloc(), rt.stdin())?;
-    let mut kept = Script::new(rt.alloc());
-    for line in script.as_str().lines() {
+    let text = io::read_to_string(rt.alloc(), rt.stdin())?;
+    let mut script = Script::new(rt.alloc());
+    for line in text.as_str().lines() {
         if line.is_empty() || line.starts_with('#') {
             continue;
         }
@@ -48,11 +46,11 @@ fn main(rt: HostRuntime) -> io::Result<()> {
             println!(rt; "\n{line}")?;
             continue;
         }
-        match answer(rt.alloc(), &mut kept, line) {
-            Ok(answer) => println!(rt; "{line}: {answer}")?,
-            Err(ScriptFault::Words) => println!(rt; "{line}: no command")?,
-            Err(ScriptFault::Refused) => println!(rt; "{line}: refused")?,
-            Err(ScriptFault::BadState) => println!(rt; "{line}: bad")?,
+        match answer(rt.alloc(), &mut script, line) {
+            Ok(Some(answer)) => println!(rt; "{line}\n  {answer}")?,
+            Ok(None) => println!(rt; "{line}")?,
+            Err(ScriptFault::Words) => println!(rt; "{line}\n  no command")?,
+            Err(ScriptFault::NoSpelling) => println!(rt; "{line}\n  no")?,
             Err(ScriptFault::NoMemory) => return Err(out_of_memory()),
         }
     }

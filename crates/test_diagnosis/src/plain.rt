@@ -1,7 +1,6 @@
 //! A second opinion of a diagnosis module, over drawn rules: cases, an engine and repairs, from the
 //! definitions alone.
 
-use crate::fault::ScriptFault;
 use crate::happenings::{Happening, Repair};
 use crate::sketch::{FIRST_ROOT, RootKind, Sketch, TRIP, bit_of};
 use crate::spoken_of::{Blame, Said, put_said, put_stranger};
@@ -9,6 +8,7 @@ use crate::stories::{Cut, Question, search};
 use fm_entry::{ListKind, Mark};
 use std::alloc::Global;
 use std::mem;
+use test_words::ScriptFault;
 
 /// An open case.
 #[derive(Drop)]
@@ -38,6 +38,18 @@ pub struct Plain {
     fired: u32,
     pub text: String,
     pub counts: Counts,
+}
+
+impl Pending {
+    /// What is said of it, with these suspects.
+    fn said(self, suspects: Vec<Blame>) -> Said {
+        Said {
+            number: self.number,
+            observed: self.observed,
+            cuts: self.cuts,
+            suspects,
+        }
+    }
 }
 
 impl Counts {
@@ -218,26 +230,30 @@ impl Plain {
 
     /// Puts what was said of a solved case among the others, by number.
     fn keep(&mut self, said: Said) -> Result<(), ScriptFault> {
-        let before = mem::replace(&mut self.solved, Vec::new(self.alloc));
-        let mut said = Some(said);
-        for other in before {
-            said = match said {
-                Some(said) => {
-                    if said.number < other.number {
-                        self.solved.push(said)?;
-                        None
-                    } else {
-                        Some(said)
-                    }
-                }
-                None => None,
-            };
-            self.solved.push(other)?;
-        }
-        if let Some(said) = said {
-            self.solved.push(said)?;
-        }
+        let number = said.number;
+        let place = self.solved.partition_point(|other| other.number < number);
+        self.solved.insert(place, said)?;
         Ok(())
+    }
+
+    /// These faults explain a case.
+    fn solve(&mut self, sketch: &Sketch, case: Pending, faults: u32) -> Result<(), ScriptFault> {
+        let suspects = self.blames(sketch, faults)?;
+        let said = case.said(suspects);
+        self.say(sketch, ListKind::Suspect, &said)?;
+        self.keep(said)
+    }
+
+    /// No fault explains a case, and these upsets do, if there are some.
+    fn give_up(&mut self, sketch: &Sketch, case: Pending, upsets: u32) -> Result<(), ScriptFault> {
+        let kind = if upsets == 0 {
+            ListKind::Undiagnosable
+        } else {
+            ListKind::Upset
+        };
+        let suspects = self.blames(sketch, upsets)?;
+        let said = case.said(suspects);
+        self.say(sketch, kind, &said)
     }
 
     /// What a case comes to of which nothing is pending, and which these roots explain.
@@ -250,22 +266,10 @@ impl Plain {
     ) -> Result<(), ScriptFault> {
         let upsets = explain & upsets_of(sketch);
         let faults = explain & !upsets;
-        let mut said = Said {
-            number: case.number,
-            observed: case.observed,
-            cuts: case.cuts,
-            suspects: Vec::new(self.alloc),
-        };
         if faults != 0 {
-            said.suspects = self.blames(sketch, faults)?;
-            self.say(sketch, ListKind::Suspect, &said)?;
-            return self.keep(said);
+            return self.solve(sketch, case, faults);
         }
-        if upsets == 0 {
-            return self.say(sketch, ListKind::Undiagnosable, &said);
-        }
-        said.suspects = self.blames(sketch, upsets)?;
-        self.say(sketch, ListKind::Upset, &said)?;
+        self.give_up(sketch, case, upsets)?;
         if notes {
             self.note_each(sketch, upsets)?;
         }
@@ -303,6 +307,43 @@ impl Plain {
         })
     }
 
+    /// A report joins a case.
+    fn join_case(
+        &mut self,
+        sketch: &Sketch,
+        case: Pending,
+        report: u32,
+        cuts: &[Cut],
+        notes: bool,
+    ) -> Result<(), ScriptFault> {
+        let mut case = case;
+        case.reports = case.reports.saturating_add(1);
+        case.observed |= bit_of(report);
+        add_cuts(&mut case.cuts, cuts)?;
+        self.settle(sketch, case, notes)
+    }
+
+    /// A report joins the first case that has it or waits for it; whether there is one.
+    fn join_first(
+        &mut self,
+        sketch: &Sketch,
+        report: u32,
+        cuts: &[Cut],
+        notes: bool,
+    ) -> Result<bool, ScriptFault> {
+        let cases = mem::replace(&mut self.open, Vec::new(self.alloc));
+        let mut has_joined = false;
+        for case in cases {
+            if has_joined || !takes(sketch, &case, self.time, report) {
+                self.open.push(case)?;
+            } else {
+                has_joined = true;
+                self.join_case(sketch, case, report, cuts, notes)?;
+            }
+        }
+        Ok(has_joined)
+    }
+
     /// A report joins the first case that has it or waits for it, or opens one.
     fn join(
         &mut self,
@@ -315,21 +356,7 @@ impl Plain {
         if !cuts.is_empty() {
             self.counts.count(6);
         }
-        let cases = mem::replace(&mut self.open, Vec::new(self.alloc));
-        let mut has_joined = false;
-        for case in cases {
-            let mut case = case;
-            if !has_joined && takes(sketch, &case, self.time, report) {
-                has_joined = true;
-                case.reports = case.reports.saturating_add(1);
-                case.observed |= bit_of(report);
-                add_cuts(&mut case.cuts, cuts.as_slice())?;
-                self.settle(sketch, case, notes)?;
-            } else {
-                self.open.push(case)?;
-            }
-        }
-        if !has_joined {
+        if !self.join_first(sketch, report, cuts.as_slice(), notes)? {
             let case = self.begun(report, cuts.as_slice())?;
             self.settle(sketch, case, notes)?;
         }

@@ -1,12 +1,12 @@
 //! The rows of cases, as text.
 
-use crate::fault::ScriptFault;
 use crate::runs::Ended;
 use crate::told::put_word;
 use dx_engine::OpenRow;
 use fm_entry::{ListEvent, ListKind, read_case_name};
 use fm_status::Status;
 use std::alloc::{AllocError, Global};
+use test_words::ScriptFault;
 
 /// How many rows there are of a kind.
 fn count_of(rows: &[&ListEvent], kind: ListKind) -> usize {

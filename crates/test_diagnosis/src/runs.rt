@@ -1,15 +1,13 @@
 //! A module that takes the entries of a setup, and what it has come to.
 
-use crate::bytes::{compare, first_difference};
-use crate::cores::{begin_in, play, saved, step_all};
+use crate::cores::{load, play, saved, step_all};
 use crate::entries::has_reload;
-use crate::fault::ScriptFault;
-use crate::files::{copy_rules, module_of, rulebook};
+use crate::files::{configs_of, module_of, twins};
 use crate::script::Setup;
 use crate::told::Told;
 use dx_engine::Diagnoser;
-use fm_core::Module;
 use std::alloc::Global;
+use test_words::{ScriptFault, show_difference};
 
 /// What the module said, the bytes of its state, and a module that has loaded them.
 #[derive(Drop)]
@@ -22,23 +20,20 @@ pub struct Ended {
 /// The bytes of the module's state after the entries of a setup. A core takes them, or a hand where
 /// there is a reload among them.
 fn state_after(alloc: Global, setup: &Setup, told: &mut Told) -> Result<Vec<u8>, ScriptFault> {
-    let rules = rulebook(alloc, setup)?;
-    let copied = copy_rules(alloc, &rules)?;
-    let mut own = module_of(alloc, rules)?;
-    let mut kept = module_of(alloc, copied)?;
-    begin_in(alloc, &mut own, &mut kept, &setup.state)?;
-    let lines = setup.entries.as_slice();
-    if has_reload(lines) {
-        step_all(alloc, own, lines, told)
-    } else {
-        play(alloc, own, kept, lines, told)
+    let configs = configs_of(alloc, setup)?;
+    if has_reload(setup.entries.as_slice()) {
+        let own = module_of(alloc, configs)?;
+        return step_all(alloc, own, setup, told);
     }
+    let (own, kept) = twins(alloc, configs)?;
+    play(alloc, own, kept, setup, told)
 }
 
 /// A module of a setup that has loaded a state.
-pub fn loaded(alloc: Global, setup: &Setup, state: &[u8]) -> Result<Diagnoser, ScriptFault> {
-    let mut module = module_of(alloc, rulebook(alloc, setup)?)?;
-    module.load(alloc, state)?;
+fn loaded(alloc: Global, setup: &Setup, state: &[u8]) -> Result<Diagnoser, ScriptFault> {
+    let configs = configs_of(alloc, setup)?;
+    let mut module = module_of(alloc, configs)?;
+    load(alloc, &mut module, state)?;
     Ok(module)
 }
 
@@ -50,6 +45,13 @@ pub fn run(alloc: Global, setup: &Setup, from: u64) -> Result<Ended, ScriptFault
     Ok(Ended { told, state, again })
 }
 
+/// Whether two lists of bytes are equal, as text.
+pub fn compare(alloc: Global, found: &[u8], wanted: &[u8]) -> Result<String, ScriptFault> {
+    let mut text = String::new(alloc);
+    show_difference(found, wanted, &mut text)?;
+    Ok(text)
+}
+
 /// Whether a state that was loaded is saved to equal bytes, as text.
 pub fn is_kept(alloc: Global, module: &Diagnoser, state: &[u8]) -> Result<String, ScriptFault> {
     let bytes = saved(alloc, module)?;
@@ -58,15 +60,17 @@ pub fn is_kept(alloc: Global, module: &Diagnoser, state: &[u8]) -> Result<String
 
 /// Whether bytes load as a state that is saved to equal bytes, as text.
 pub fn load_text(alloc: Global, setup: &Setup, bytes: &[u8]) -> Result<String, ScriptFault> {
-    match loaded(alloc, setup, bytes) {
+    let text = match loaded(alloc, setup, bytes) {
         Ok(module) => {
             let again = saved(alloc, &module)?;
-            match first_difference(again.as_slice(), bytes) {
-                None => Ok(String::from_str(alloc, "loads")?),
-                Some(place) => Ok(format!(in alloc; "another from {place} on")?),
+            if again.as_slice() == bytes {
+                "loads"
+            } else {
+                "loads as another"
             }
         }
-        Err(ScriptFault::BadState) => Ok(String::from_str(alloc, "bad")?),
-        Err(fault) => Err(fault),
-    }
+        Err(ScriptFault::NoSpelling) => "bad",
+        Err(fault) => return Err(fault),
+    };
+    Ok(String::from_str(alloc, text)?)
 }

@@ -5,8 +5,8 @@
 //! One engine stands there too, and reports t.
 
 use crate::draws::Draws;
-use crate::fault::ScriptFault;
 use std::alloc::{AllocError, Global};
+use test_words::ScriptFault;
 
 /// The bit of each event.
 const BITS: [u32; 10] = [1, 2, 4, 8, 16, 32, 64, 128, 256, 512];

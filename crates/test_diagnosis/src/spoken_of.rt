@@ -5,6 +5,7 @@ use crate::stories::Cut;
 use crate::told::{kind_text, link_text, mark_text};
 use fm_entry::{ListKind, Mark};
 use std::alloc::{AllocError, Global};
+use test_words::ScriptFault;
 
 /// A suspect: a root, how sure it is in percent, and what became of it.
 #[derive(Clone, Copy, Drop)]
@@ -53,12 +54,10 @@ fn put_observed(sketch: &Sketch, bits: u32, text: &mut String) -> Result<(), All
 }
 
 /// The links in order of instance and effect.
-fn in_order(alloc: Global, sketch: &Sketch, cuts: &[Cut]) -> Result<Vec<(u32, u32)>, AllocError> {
+fn in_order(alloc: Global, sketch: &Sketch, cuts: &[Cut]) -> Result<Vec<(u32, u32)>, ScriptFault> {
     let mut links = Vec::with_capacity(alloc, cuts.len())?;
     for cut in cuts {
-        links
-            .push((cut.arrow, sketch.node_of(cut.report)))
-            .map_err(|_| AllocError)?;
+        links.push((cut.arrow, sketch.node_of(cut.report)))?;
     }
     links.as_mut_slice().sort_unstable();
     Ok(links)
@@ -109,12 +108,13 @@ pub fn put_said(
     time: u64,
     said: &Said,
     text: &mut String,
-) -> Result<(), AllocError> {
+) -> Result<(), ScriptFault> {
     put_head(kind_text(kind), said.number, time, text)?;
     put_observed(sketch, said.observed, text)?;
     let links = in_order(alloc, sketch, said.cuts.as_slice())?;
     put_cuts(links.as_slice(), text)?;
-    put_blames(sketch, said.suspects.as_slice(), text)
+    put_blames(sketch, said.suspects.as_slice(), text)?;
+    Ok(())
 }
 
 /// Puts the word of a case of a report at a path that the graph does not have.

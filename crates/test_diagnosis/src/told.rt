@@ -1,9 +1,9 @@
 //! What a module says, as text.
 
-use crate::fault::ScriptFault;
 use fm_entry::{Broken, EventName, ListEvent, ListKind, Mark, Spoken, Suspect};
 use fm_status::Status;
 use std::alloc::{AllocError, Global};
+use test_words::ScriptFault;
 
 /// What was said so far: the last word of each case, and of the entries from a number on all words
 /// as text.
