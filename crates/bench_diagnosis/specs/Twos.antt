@@ -8,6 +8,11 @@ use Rattle.dx_engine.specs.Diagnosers.{DiagnoserOf}
 use Rattle.dx_meaning.specs.DiagnoserMeaning.{diagnoser_meaning}
 use Rattle.dx_rules.specs.Rulebooks.{rules_in}
 use Rattle.dx_standing.specs.Standing.{state_of}
+use Rattle.dx_state.specs.Configured.{Configuration, Rules, Single}
+
+-- the rules of the module of a number with one configuration
+abbrev pub single_rules : ℕ → Configuration → Rules
+single_rules own c = record { own = own; configurations = Single 0 c }
 
 -- how contracts see a diagnosis module as a module
 abbrev pub diagnosers : Ghosts DiagnoserOf

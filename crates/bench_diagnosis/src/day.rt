@@ -125,41 +125,40 @@ pub fn count(alloc: Global, count: u32) -> Result<Tally, BenchFault> {
     work(alloc, first, second, count)
 }
 
-/// Lets two modules take so many entries.
-fn step_both(
+/// Lets a module by itself take so many entries, which are not kept.
+fn step_all(
     alloc: Global,
-    first: Stepped<Diagnoser>,
-    second: Stepped<Diagnoser>,
+    stepped: Stepped<Diagnoser>,
     count: u32,
-) -> Result<(Stepped<Diagnoser>, Stepped<Diagnoser>), BenchFault> {
+) -> Result<Stepped<Diagnoser>, BenchFault> {
     let mut draws = Draws::new();
-    let mut first = first;
-    let mut second = second;
+    let mut stepped = stepped;
     'lines: for _line in 0..count {
-        let line = draws.line(alloc)?;
-        first = first.step(alloc, line.as_str())?;
-        second = second.step(alloc, line.as_str())?;
+        stepped = stepped.step(alloc, draws.line(alloc)?.as_str())?;
     }
-    Ok((first, second))
+    Ok(stepped)
 }
 
-/// The two diagnosis modules take so many entries by themselves, which are not kept, and each state
-/// is then saved and loaded so often.
-pub fn step(alloc: Global, count: u32, rounds: u32) -> Result<Tally, BenchFault> {
+/// The module of a number takes so many entries by itself, and its state is then saved and loaded
+/// so often.
+fn step_one(
+    alloc: Global,
+    own: u32,
+    rules: &str,
+    count: u32,
+    rounds: u32,
+) -> Result<Tally, BenchFault> {
     let parts = parts_text(alloc, 200, 40)?;
-    let (first, other_first) = twins(alloc, 0, PROCESSORS, parts.as_str())?;
-    let (second, other_second) = twins(alloc, 1, MEMORIES, parts.as_str())?;
-    let mut other_first = other_first;
-    let mut other_second = other_second;
-    let (first, second) = step_both(
-        alloc,
-        Stepped::new(0, first),
-        Stepped::new(1, second),
-        count,
-    )?;
-    save_often(alloc, first.hand.state(), &mut other_first, rounds)?;
-    save_often(alloc, second.hand.state(), &mut other_second, rounds)?;
-    let count = u64::from(count);
-    let tally = tally_of(alloc, first.hand.state(), count, first.words)?;
-    Ok(tally.with(tally_of(alloc, second.hand.state(), count, second.words)?))
+    let (module, other) = twins(alloc, own, rules, parts.as_str())?;
+    let stepped = step_all(alloc, Stepped::new(own, module), count)?;
+    save_often(alloc, stepped.hand.state(), other, rounds)?;
+    tally_of(alloc, stepped.hand.state(), u64::from(count), stepped.words)
+}
+
+/// Each of the two diagnosis modules takes so many entries by itself, and its state is then saved
+/// and loaded so often.
+pub fn step(alloc: Global, count: u32, rounds: u32) -> Result<Tally, BenchFault> {
+    let first = step_one(alloc, 0, PROCESSORS, count, rounds)?;
+    let second = step_one(alloc, 1, MEMORIES, count, rounds)?;
+    Ok(first.with(second))
 }

@@ -1,8 +1,10 @@
 //! Modules of the texts of rule files and of a topology.
 
 ghost use Rattle.std.specs.Prelude.{◌≡◌, IfOk};
-ghost use Rattle.dx_rules.specs.declared.rulebook.Configs.TheVariants as configs;
-ghost use Rattle.bench_diagnosis.specs.Twos.{AreTwins, diagnosers};
+ghost use Rattle.dx_meaning.specs.Fresh.{fresh_of};
+ghost use Rattle.dx_rules.specs.Rulebooks.{ruled_of, rules_in};
+ghost use Rattle.dx_standing.specs.Standing.{state_of};
+ghost use Rattle.bench_diagnosis.specs.Twos.{AreTwins, diagnosers, single_rules};
 
 use crate::tally::BenchFault;
 use dx_engine::Diagnoser;
@@ -60,17 +62,26 @@ fn ruled(alloc: Global, rules: &str, parts: &str) -> Result<Ruled, BenchFault> {
     }
 }
 
-/// The rules of a module with this one configuration.
-fn rulebook(own: u32, ruled: Ruled) -> Rulebook
-    ensures { result ≡ record {
-      own = own;
-      configs = configs.Single 0 ruled;
-    } }
+/// The module of a number with this one configuration, to which nothing has happened.
+fn module_of(alloc: Global, own: u32, ruled: Ruled) -> Result<Diagnoser, BenchFault>
+    ensures rules { IfOk result (λ d. rules_in d.rules ≡ single_rules own (ruled_of ruled)) }
+    ensures state { IfOk result
+        (λ d. state_of d.standing ≡ fresh_of (single_rules own (ruled_of ruled))) }
 {
-    Rulebook {
-        own,
-        configs: Configs::Single { number: 0, ruled },
+    let configs = Configs::Single { number: 0, ruled };
+    let rules = Rulebook { own, configs };
+    if !can_begin(&rules) {
+        return Err(BenchFault::Refused);
     }
+    Ok(Diagnoser::with_rules(alloc, rules)?)
+}
+
+/// The module of a number with the rules of a text, to which nothing has happened.
+pub fn module(alloc: Global, own: u32, rules: &str, parts: &str) -> Result<Diagnoser, BenchFault>
+    ensures { IfOk result (λ d. (diagnosers.meaning d).own ≡ own) }
+{
+    let ruled = ruled(alloc, rules, parts)?;
+    module_of(alloc, own, ruled)
 }
 
 /// Two modules of a number with these rules, made alike, to which nothing has happened.
@@ -82,13 +93,9 @@ pub fn twins(
 ) -> Result<(Diagnoser, Diagnoser), BenchFault>
     ensures { IfOk result (λ (first, second). AreTwins diagnosers own first second) }
 {
-    let first = ruled(alloc, rules, parts)?;
-    let second = rulebook(own, first.copy(alloc)?);
-    let first = rulebook(own, first);
-    if !can_begin(&first) || !can_begin(&second) {
-        return Err(BenchFault::Refused);
-    }
-    let first = Diagnoser::with_rules(alloc, first)?;
-    let second = Diagnoser::with_rules(alloc, second)?;
+    let ruled = ruled(alloc, rules, parts)?;
+    let copied = ruled.copy(alloc)?;
+    let first = module_of(alloc, own, ruled)?;
+    let second = module_of(alloc, own, copied)?;
     Ok((first, second))
 }

@@ -1,16 +1,9 @@
 //! The program `bench_diagnosis`: diagnosis modules that take generated entries, for the script
 //! bench/diagnosis.
 //!
-//! Its words are an operation and numbers. Of a chassis with 200 processors and 40 memories, whose
-//! rules are two rule files: `lines COUNT` prints so many generated lines of the input; `diagnose
-//! COUNT` has a core of two diagnosis modules take their entries; `count COUNT` one of two counters;
-//! `step COUNT` two diagnosis modules by themselves, which keep no entries; `save COUNT ROUNDS` then
-//! saves the state of each so often, and loads it again. `open PARTS CASES COUNT`: of so many
-//! processors, a module opens so many cases and takes as many reports as COUNT says, each of which
-//! joins one of them; `tick PARTS CASES COUNT`: it takes so many ticks. Each prints how many entries
-//! there were, how many words were said, and how many cases are open and solved. It ends with status
-//! 0, with 1 where memory ran out or a state did not load as itself, and with 2 where the words are
-//! others.
+//! Its words are an operation and numbers (README.md lists them). It prints how many entries there
+//! were, how many words were said, and how many cases are open and solved. It ends with status 0,
+//! with 1 where memory ran out or a state did not load, and with 2 where the words are others.
 #![tactic(auto)]
 
 mod cores;

@@ -1,6 +1,6 @@
 //! Many cases that are open at once.
 
-use crate::files::{PROCESSORS, parts_text, twins};
+use crate::files::{PROCESSORS, module, parts_text};
 use crate::steps::{Stepped, tally_of};
 use crate::tally::{BenchFault, Tally};
 use dx_engine::Diagnoser;
@@ -19,12 +19,11 @@ fn report(
 /// A module of so many processors, in which so many cases are open.
 fn opened(alloc: Global, parts: u32, cases: u32) -> Result<Stepped<Diagnoser>, BenchFault> {
     let parts = parts_text(alloc, parts, 0)?;
-    let (module, _) = twins(alloc, 0, PROCESSORS, parts.as_str())?;
-    let mut module = Stepped::new(0, module);
+    let mut opened = Stepped::new(0, module(alloc, 0, PROCESSORS, parts.as_str())?);
     'cases: for case in 0..cases {
-        module = report(alloc, module, u64::from(case))?;
+        opened = report(alloc, opened, u64::from(case))?;
     }
-    Ok(module)
+    Ok(opened)
 }
 
 fn tally(

@@ -67,9 +67,10 @@ pub fn tally_of(
 pub fn save_often(
     alloc: Global,
     module: &Diagnoser,
-    other: &mut Diagnoser,
+    other: Diagnoser,
     rounds: u32,
 ) -> Result<(), BenchFault> {
+    let mut other = other;
     for _round in 0..rounds {
         let mut bytes = Vec::new(alloc);
         module.save(&mut bytes)?;
