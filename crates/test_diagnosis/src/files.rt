@@ -1,6 +1,6 @@
 //! Modules of the texts of rule files and of a topology.
 
-ghost use Rattle.std.specs.Prelude.{◌≡◌, IfOk, IsTrue, map};
+ghost use Rattle.std.specs.Prelude.{◌≡◌, IfOk, IsTrue};
 ghost use Rattle.dx_meaning.specs.Fresh.{fresh_of};
 ghost use Rattle.dx_rules.specs.Rulebooks.{configurations_of, ruled_of, rules_in};
 ghost use Rattle.dx_standing.specs.Standing.{state_of};
@@ -56,49 +56,30 @@ fn ruled(alloc: Global, text: &str, parts: &str) -> Result<Ruled, ScriptFault> {
     })
 }
 
-/// What each rule file comes to.
-fn ruled_each(alloc: Global, texts: &[String], parts: &str) -> Result<Vec<Ruled>, ScriptFault> {
+/// What each rule file of a setup comes to.
+fn ruled_each(alloc: Global, setup: &Setup) -> Result<Vec<Ruled>, ScriptFault> {
     let mut list = Vec::new(alloc);
-    for text in texts {
-        list.push(ruled(alloc, text.as_str(), parts)?)?;
+    for text in setup.rules.as_slice() {
+        list.push(ruled(alloc, text.as_str(), setup.topology.as_str())?)?;
     }
     Ok(list)
 }
 
+/// What the one rule file of a setup comes to.
+fn ruled_once(alloc: Global, setup: &Setup) -> Result<Ruled, ScriptFault> {
+    let text = setup.rules.first().ok_or(ScriptFault::Words)?;
+    ruled(alloc, text.as_str(), setup.topology.as_str())
+}
+
 /// The configurations of the module of a setup.
 pub fn configs_of(alloc: Global, setup: &Setup) -> Result<Configs, ScriptFault> {
-    let mut list = ruled_each(alloc, setup.rules.as_slice(), setup.topology.as_str())?;
     match setup.number {
         Some(number) => {
-            let ruled = list.pop().ok_or(ScriptFault::Words)?;
+            let ruled = ruled_once(alloc, setup)?;
             Ok(Configs::Single { number, ruled })
         }
-        None => Ok(Configs::Listed(list)),
-    }
-}
-
-fn copy_list(alloc: Global, list: &[Ruled]) -> Result<Vec<Ruled>, NoMemory>
-    ensures { IfOk result (λ copies. map ruled_of copies.items ≡ map ruled_of list.now) }
-{
-    let mut copies = Vec::with_capacity(alloc, list.len())?;
-    'list: for ruled in list {
-        copies.push(ruled.copy(alloc)?)?;
-    }
-    Ok(copies)
-}
-
-/// Equal configurations.
-fn copy_configs(alloc: Global, configs: &Configs) -> Result<Configs, NoMemory>
-    ensures { IfOk result (λ copy. configurations_of copy ≡ configurations_of configs.now) }
-{
-    match configs {
-        Configs::Single { number, ruled } => {
-            let number = *number;
-            let ruled = ruled.copy(alloc)?;
-            Ok(Configs::Single { number, ruled })
-        }
-        Configs::Listed(list) => {
-            let list = copy_list(alloc, list.as_slice())?;
+        None => {
+            let list = ruled_each(alloc, setup)?;
             Ok(Configs::Listed(list))
         }
     }
@@ -139,12 +120,23 @@ pub fn module_of(alloc: Global, configs: Configs) -> Result<Diagnoser, ScriptFau
     }
 }
 
-/// Two modules with these configurations.
-pub fn twins(alloc: Global, configs: Configs) -> Result<(Diagnoser, Diagnoser), ScriptFault>
+/// Two modules with the one configuration of a setup.
+pub fn twins(
+    alloc: Global,
+    setup: &Setup,
+    number: u32,
+) -> Result<(Diagnoser, Diagnoser), ScriptFault>
     ensures { IfOk result (λ (own, kept). AreTwins diagnosers own kept) }
 {
-    let copied = copy_configs(alloc, &configs)?;
-    let own = module_of(alloc, configs)?;
-    let kept = module_of(alloc, copied)?;
+    let ruled = ruled_once(alloc, setup)?;
+    let copied = ruled.copy(alloc)?;
+    let own = module_of(alloc, Configs::Single { number, ruled })?;
+    let kept = module_of(
+        alloc,
+        Configs::Single {
+            number,
+            ruled: copied,
+        },
+    )?;
     Ok((own, kept))
 }

@@ -17,16 +17,37 @@ pub struct Ended {
     pub again: Diagnoser,
 }
 
-/// The bytes of the module's state after the entries of a setup. A core takes them, or a hand where
-/// there is a reload among them.
-fn state_after(alloc: Global, setup: &Setup, told: &mut Told) -> Result<Vec<u8>, ScriptFault> {
+/// The bytes of the module's state after the entries of a setup, which a hand takes.
+fn step_setup(alloc: Global, setup: &Setup, told: &mut Told) -> Result<Vec<u8>, ScriptFault> {
     let configs = configs_of(alloc, setup)?;
-    if has_reload(setup.entries.as_slice()) {
-        let own = module_of(alloc, configs)?;
-        return step_all(alloc, own, setup, told);
-    }
-    let (own, kept) = twins(alloc, configs)?;
+    let own = module_of(alloc, configs)?;
+    step_all(alloc, own, setup, told)
+}
+
+/// The same where a core takes them.
+fn play_setup(
+    alloc: Global,
+    setup: &Setup,
+    number: u32,
+    told: &mut Told,
+) -> Result<Vec<u8>, ScriptFault> {
+    let (own, kept) = twins(alloc, setup, number)?;
     play(alloc, own, kept, setup, told)
+}
+
+/// The same where a core takes them, or a hand if there is a reload among them or a list of
+/// configurations.
+fn state_after(alloc: Global, setup: &Setup, told: &mut Told) -> Result<Vec<u8>, ScriptFault> {
+    match setup.number {
+        Some(number) => {
+            if has_reload(setup.entries.as_slice()) {
+                step_setup(alloc, setup, told)
+            } else {
+                play_setup(alloc, setup, number, told)
+            }
+        }
+        None => step_setup(alloc, setup, told),
+    }
 }
 
 /// A module of a setup that has loaded a state.
@@ -52,25 +73,29 @@ pub fn compare(alloc: Global, found: &[u8], wanted: &[u8]) -> Result<String, Scr
     Ok(text)
 }
 
+/// The bytes of a module's state.
+fn bytes_of(alloc: Global, module: &Diagnoser) -> Result<Vec<u8>, ScriptFault> {
+    Ok(saved(alloc, module)?)
+}
+
 /// Whether a state that was loaded is saved to equal bytes, as text.
 pub fn is_kept(alloc: Global, module: &Diagnoser, state: &[u8]) -> Result<String, ScriptFault> {
-    let bytes = saved(alloc, module)?;
-    compare(alloc, bytes.as_slice(), state)
+    let bytes = bytes_of(alloc, module)?;
+    compare(alloc, &bytes, state)
+}
+
+/// Whether a module's state is saved to the bytes from which it was loaded, as text.
+fn loaded_text(alloc: Global, module: &Diagnoser, bytes: &[u8]) -> Result<String, ScriptFault> {
+    let again = bytes_of(alloc, module)?;
+    let is_same = again.as_slice() == bytes;
+    Ok(String::from_str(alloc, if is_same { "loads" } else { "loads as another" })?)
 }
 
 /// Whether bytes load as a state that is saved to equal bytes, as text.
 pub fn load_text(alloc: Global, setup: &Setup, bytes: &[u8]) -> Result<String, ScriptFault> {
-    let text = match loaded(alloc, setup, bytes) {
-        Ok(module) => {
-            let again = saved(alloc, &module)?;
-            if again.as_slice() == bytes {
-                "loads"
-            } else {
-                "loads as another"
-            }
-        }
-        Err(ScriptFault::NoSpelling) => "bad",
-        Err(fault) => return Err(fault),
-    };
-    Ok(String::from_str(alloc, text)?)
+    match loaded(alloc, setup, bytes) {
+        Ok(module) => loaded_text(alloc, &module, bytes),
+        Err(ScriptFault::NoSpelling) => Ok(String::from_str(alloc, "bad")?),
+        Err(fault) => Err(fault),
+    }
 }
