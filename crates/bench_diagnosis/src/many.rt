@@ -26,7 +26,7 @@ fn opened(alloc: Global, parts: u32, cases: u32) -> Result<Stepped<Diagnoser>, B
     Ok(opened)
 }
 
-fn tally(
+fn tally_after(
     alloc: Global,
     module: &Stepped<Diagnoser>,
     cases: u32,
@@ -44,7 +44,7 @@ pub fn open(alloc: Global, parts: u32, cases: u32, count: u32) -> Result<Tally, 
         case = case.saturating_add(7919) % u64::from(cases).max(1);
         module = report(alloc, module, case)?;
     }
-    tally(alloc, &module, cases, count)
+    tally_after(alloc, &module, cases, count)
 }
 
 /// Then so many ticks at the same moment.
@@ -53,5 +53,5 @@ pub fn tick(alloc: Global, parts: u32, cases: u32, count: u32) -> Result<Tally, 
     'ticks: for _tick in 0..count {
         module = module.step(alloc, "tick 1")?;
     }
-    tally(alloc, &module, cases, count)
+    tally_after(alloc, &module, cases, count)
 }

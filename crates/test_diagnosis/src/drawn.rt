@@ -63,7 +63,7 @@ impl Drawn {
 }
 
 /// Draws rules, and so many entries.
-fn drawn(alloc: Global, seed: u64, entries: u64) -> Result<Drawn, ScriptFault> {
+fn draw_all(alloc: Global, seed: u64, entries: u64) -> Result<Drawn, ScriptFault> {
     let mut draws = Draws::new(seed);
     let sketch = drawn_sketch(alloc, &mut draws)?;
     let mut drawn = Drawn::new(alloc, &sketch)?;
@@ -92,7 +92,7 @@ fn trial(
     entries: u64,
     counts: &mut Counts,
 ) -> Result<Option<String>, ScriptFault> {
-    let drawn = drawn(alloc, seed, entries)?;
+    let drawn = draw_all(alloc, seed, entries)?;
     counts.add(&drawn.plain.counts);
     let found = module_text(alloc, &drawn.setup)?;
     let found = found.as_str();
