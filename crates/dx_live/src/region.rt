@@ -229,12 +229,14 @@ fn local_table(
     Ok(made)
 }
 
-fn put_numbers(numbers: &mut [u32])
-    requires few { length numbers.old < 2 ^ 32 }
-    ensures each { (i : ℕ) → i < length numbers.old → slice_index numbers.new i ≡ i }
-    ensures size { length numbers.new ≡ length numbers.old }
+/// Puts the numbers below a count.
+fn put_numbers(count: usize, numbers: &mut [u32])
+    requires size { length numbers.old ≡ count }
+    requires few { count < 2 ^ 32 }
+    ensures numbers { AreNumbersBelow count numbers.new }
+    ensures ascend { ascends numbers.new ≡ true }
 {
-    for place in 0..numbers.len() {
+    for place in 0..count {
         numbers[place] = place as u32;
     }
 }
@@ -246,7 +248,7 @@ fn numbers_below(alloc: Global, count: usize) -> Result<Vec<u32>, NoMemory>
     ensures ascend { IfOk result (λ list. ascends list.items ≡ true) }
 {
     let mut numbers = vec![in alloc; 0; count]?;
-    put_numbers(numbers.as_mut_slice());
+    put_numbers(count, numbers.as_mut_slice());
     Ok(numbers)
 }
 

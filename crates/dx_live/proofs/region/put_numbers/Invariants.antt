@@ -3,6 +3,6 @@ use Rattle.dx_live.proofs.region.put_numbers.Given as goal
 
 abbrev pub invariant-loop-place : goal.invariant-loop-place
 invariant-loop-place l = record {
-  size : length l.numbers ≡ length l.fn.numbers;
+  size : length l.numbers ≡ l.count;
   each : (i : ℕ) → i < l.place → get_or l.numbers i 0 ≡ i;
 }

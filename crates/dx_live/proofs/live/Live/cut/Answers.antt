@@ -6,21 +6,39 @@ use Rattle.dx_live.proofs.live.Live.cut.Goals as goal
 
 pub cut_link-requires-clause-cuts : goal.cut_link-requires-clause-cuts
 cut_link-requires-clause-cuts g c =
-    let live = live_at c.args.graph.now c.incidence-whole.result.now c.incidence-whole.ensures.incidence
-    c.args.self.now c.requires in
-    rw c.table-table.ensures (rw (← c.self.view_is) at live.cuts)
+    let l : LiveValue = record {
+      region = c.self.inside.region;
+      sets = c.self.inside.sets;
+      cuts = c.self.inside.cuts;
+      here = c.self.inside.here;
+    } in
+    let live = live_at c.args.graph.now c.incidence-whole.result.now
+    c.incidence-whole.ensures.incidence l (rw (← c.self.view_is) at c.requires) in
+    rw c.table-table.ensures live.cuts
 
 pub cut_link-requires-clause-steady : goal.cut_link-requires-clause-steady
 cut_link-requires-clause-steady g c =
-    let live = live_at c.args.graph.now c.incidence-whole.result.now c.incidence-whole.ensures.incidence
-    c.args.self.now c.requires in
-    rw c.table-table.ensures (rw (← c.self.view_is) at live.steady)
+    let l : LiveValue = record {
+      region = c.self.inside.region;
+      sets = c.self.inside.sets;
+      cuts = c.self.inside.cuts;
+      here = c.self.inside.here;
+    } in
+    let live = live_at c.args.graph.now c.incidence-whole.result.now
+    c.incidence-whole.ensures.incidence l (rw (← c.self.view_is) at c.requires) in
+    rw c.table-table.ensures live.steady
 
 pub cut_link-requires-clause-over : goal.cut_link-requires-clause-over
 cut_link-requires-clause-over g c =
-    let live = live_at c.args.graph.now c.incidence-whole.result.now c.incidence-whole.ensures.incidence
-    c.args.self.now c.requires in
-    rw (← c.self.view_is) at live.over
+    let l : LiveValue = record {
+      region = c.self.inside.region;
+      sets = c.self.inside.sets;
+      cuts = c.self.inside.cuts;
+      here = c.self.inside.here;
+    } in
+    let live = live_at c.args.graph.now c.incidence-whole.result.now
+    c.incidence-whole.ensures.incidence l (rw (← c.self.view_is) at c.requires) in
+    live.over
 
 pub returns-in-Some-clause-live : goal.returns-in-Some-clause-live
 returns-in-Some-clause-live g c =

@@ -6,9 +6,15 @@ use Rattle.dx_live.proofs.live.Live.shrink.Goals as goal
 
 pub lose_member-requires : goal.lose_member-requires
 lose_member-requires g c =
-    let live = live_at c.args.graph.now c.incidence-whole.result.now c.incidence-whole.ensures.incidence
-    c.args.self.now c.requires.live in
-    rw c.table-table.ensures (rw (← c.self.view_is) at live.steady)
+    let l : LiveValue = record {
+      region = c.self.inside.region;
+      sets = c.self.inside.sets;
+      cuts = c.self.inside.cuts;
+      here = c.self.inside.here;
+    } in
+    let live = live_at c.args.graph.now c.incidence-whole.result.now
+    c.incidence-whole.ensures.incidence l (rw (← c.self.view_is) at c.requires.live) in
+    rw c.table-table.ensures live.steady
 
 pub returns-in-Some-clause-live : goal.returns-in-Some-clause-live
 returns-in-Some-clause-live g c =
