@@ -1,4 +1,4 @@
-use Rattle.std.proofs.Common.{◌∷◌, [], ℕ, List, length, ap, ◌∙◌, arith}
+use Rattle.std.proofs.Common.{◌∷◌, [], ℕ, List, length, ap, sym, ◌∙◌, arith}
 use Rattle.ev_graph.specs.Sets.{is_member}
 use Rattle.ev_graph.specs.Reached.{MarkedValue}
 use Rattle.ev_graph.proofs.Building.{can_search_forwards}
@@ -15,8 +15,8 @@ search-requires c =
     (rw c.count.ensures.count at c.in_ok-taken.ensures)
     (λ i l. start_below c.args.root (length v.uses) i c.requires l))
 
-pub returns-else-are_most-clause-region : goal.returns-else-are_most-clause-region
-returns-else-are_most-clause-region c =
+pub returns-clause-region : goal.returns-clause-region
+returns-clause-region c =
     let reach = rw (c.forwards.ensures.index, c.forwards.ensures.rows) at
     c.in_ok-search.ensures.reach in
     let table = rw (c.as_slice-4.ensures.value, c.as_slice-5.ensures.value) at
@@ -52,6 +52,30 @@ returns-else-are_most-clause-region c =
         c.count.ensures.few,
       );
     }) table
+
+pub returns-clause-part : goal.returns-clause-part
+returns-clause-part c = record {
+  nodes = λ e i.
+      let same = c.in_ok-nodes.ensures.same e
+      ∙ ap (λ (xs : List ℕ). is_member xs e) c.as_slice-2.ensures.items in
+      omega (
+        arith,
+        c.as_slice-2.ensures.below e (sym same ∙ i),
+        c.in_ok-search.ensures.size,
+        ap (λ (m : MarkedValue). m.size) c.in_ok-reached.ensures,
+        c.nodes.ensures.count,
+      );
+  places = λ j i.
+      let same = c.in_ok-places.ensures.same j
+      ∙ ap (λ (xs : List ℕ). is_member xs j) c.as_slice-3.ensures.items in
+      omega (
+        arith,
+        c.as_slice-3.ensures.below j (sym same ∙ i),
+        c.in_ok-search.ensures.places_size,
+        ap (λ (m : MarkedValue). m.size) c.in_ok-taken.ensures,
+        c.count.ensures.count,
+      );
+}
 
 pub returns-then-are_most-clause-region : goal.returns-then-are_most-clause-region
 returns-then-are_most-clause-region c =
