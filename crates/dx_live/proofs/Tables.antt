@@ -1,6 +1,6 @@
 -- Incidences of one graph: a live set and its cost are the same over each.
-use Rattle.std.proofs.Common.{◌≡◌, ◌+◌, ◌<◌, ◌≤◌, ◌++◌, ℕ, zero, suc, Bool, true, cond, List}
-use Rattle.std.proofs.Common.{[], ◌∷◌, length, map, get_or, eqb, leb, refl, sym, ap, subst, ◌∙◌}
+use Rattle.std.proofs.Common.{◌≡◌, ◌+◌, ◌<◌, ℕ, zero, suc, true, cond, List}
+use Rattle.std.proofs.Common.{[], ◌∷◌, length, get_or, leb, refl, sym, ap, subst, ◌∙◌}
 use Rattle.std.proofs.Common.{arith, inl, inr, replicate}
 use Rattle.std.specs.Prelude.{Option, Some, None}
 use Rattle.std.specs.List.{sum_by, count_by}
@@ -8,18 +8,17 @@ use Rattle.std.proofs.lemmas.List.{length-append, length-replicate, get_or_past,
 use Rattle.std.proofs.lemmas.List.{get_or_append_left, length_push}
 use Rattle.std.proofs.lemmas.List.Sums.{sum_by-cons}
 use Rattle.std.proofs.lemmas.Bool.{cases_lt, cases_eq, cond-true}
-use Rattle.ev_graph.specs.Sets.{NodeSet, is_member, has_mark, occurs}
+use Rattle.ev_graph.specs.Sets.{NodeSet, is_member, occurs}
 use Rattle.ev_graph.specs.Table.{row_at, IncidenceValue, IsIncidence, IsTranspose}
 use Rattle.ev_graph.specs.Lawful.{GraphValue, IsIncidenceOf}
-use Rattle.ev_graph.specs.declared.instances.Instance.{Instance}
 use Rattle.ev_graph.proofs.Occurrences.{transposed_in, row_in_range}
 use Rattle.dx_sets.specs.Sets.{SetsValue, sum_below, sum_held}
 use Rattle.dx_sets.specs.Engine.{CutsOf, cost}
 use Rattle.dx_sets.proofs.Sums.{sum_below_same}
 use Rattle.dx_sets.proofs.Filling.{count_below}
-use Rattle.dx_live.specs.Region.{KeptRegion, RegionValue, AreLocalCuts, table_over}
+use Rattle.dx_live.specs.Region.{table_over}
 use Rattle.dx_live.specs.Cuts.{CutsValue, cut_at}
-use Rattle.dx_live.specs.Live.{LiveValue, LiveOver, live_over, live_cost, places_with, index_of}
+use Rattle.dx_live.specs.Live.{LiveValue, LiveOver, live_over, places_with, index_of}
 use Rattle.dx_live.specs.Live.{graph_table, IsLiveOver, IsLiveOf, IsBestOver, IsLiveBest}
 use Rattle.dx_live.proofs.Costs.{sum_rows}
 

@@ -1,7 +1,6 @@
 -- The whole graph as the part of a node.
-use Rattle.std.proofs.Common.{◌≡◌, ◌+◌, ◌<◌, ◌^◌, ℕ, zero, suc, true, List, [], ◌∷◌, length, map}
+use Rattle.std.proofs.Common.{◌≡◌, ◌+◌, ◌<◌, ◌^◌, ℕ, suc, true, List, [], ◌∷◌, length, map}
 use Rattle.std.proofs.Common.{get_or, eqb, refl, sym, ap, subst, ◌∙◌, arith}
-use Rattle.std.specs.List.{filter}
 use Rattle.std.proofs.lemmas.Bool.{or_left, or_right, eq-eqb}
 use Rattle.ev_graph.specs.Sets.{is_member, ascends}
 use Rattle.ev_graph.specs.Table.{row_at, IncidenceValue, IsIncidence, wiring_of}

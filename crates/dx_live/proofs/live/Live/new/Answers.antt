@@ -1,4 +1,4 @@
-use Rattle.std.proofs.Common.{length, subst, arith}
+use Rattle.std.proofs.Common.{arith}
 use Rattle.dx_explain.proofs.Greatest.{root_below}
 use Rattle.dx_live.specs.Live.{LiveValue, live_over, no_cut, all_allowed}
 use Rattle.dx_live.proofs.Opening.{live_first, best_live, cost_first}
