@@ -57,12 +57,13 @@ no_pass false h = refl
 pub begun_parted : {X : Type 0} (p : X → Bool) (xs : List X) (n : ℕ) → n ≡ prefix_len p xs
     → IsPartitionedBy p xs
     → AllWithin (λ y. p y ≡ true) xs 0 n × AllWithin (λ y. p y ≡ false) xs n (length xs)
-begun_parted p xs n e parted =
-    (λ k d low less. prefix_len_passes p xs k d (omega (arith, e, less)),
-    λ k d low less. no_pass (p (get_or xs k d)) (λ so.
-    let stop : p (get_or xs n d) ≡ false =
-    rw e (prefix_len_stops p xs d (omega (arith, e, low, less))) in
-    true≢false (sym (parted n k d low less so) ∙ stop)))
+begun_parted p xs n e parted = (
+  λ k d low less. prefix_len_passes p xs k d (omega (arith, e, less)),
+  λ k d low less. no_pass (p (get_or xs k d)) (λ so.
+      let stop : p (get_or xs n d) ≡ false =
+      rw e (prefix_len_stops p xs d (omega (arith, e, low, less))) in
+      true≢false (sym (parted n k d low less so) ∙ stop)),
+)
 
 -- ---- the front of a list that passes, element by element
 module _ {X : Type 0} (p : X → Bool) (xs : List X) (at : ℕ)

@@ -103,13 +103,7 @@ fn has_column(columns: &[u32], iterator: usize) -> bool
 }
 
 /// Whether the rows that are not before begin at a place.
-fn begin_at(
-    columns: &[u32],
-    rows: &[Row],
-    front: &[u32],
-    last: Option<u64>,
-    at: usize,
-) -> bool
+fn begin_at(columns: &[u32], rows: &[Row], front: &[u32], last: Option<u64>, at: usize) -> bool
     requires { IsTable (record { columns = columns.now; rows = rows.now }) }
     ensures { IsTrue result → IsFirstFrom rows.now
         (bound_values columns.now front.now ++ option_to_list last) at }

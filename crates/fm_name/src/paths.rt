@@ -226,7 +226,9 @@ impl Ord for Fmri {
         ensures whole { result ≡ path_cmp self.now other.now }
         ensures by_parts { result ≡ parts_cmp (parts_of self.now) (parts_of other.now) }
     {
-        compare_tails(tail_bytes(self.text.as_str()), tail_bytes(other.text.as_str()))
+        let ours = tail_bytes(self.text.as_str());
+        let theirs = tail_bytes(other.text.as_str());
+        compare_tails(ours, theirs)
     }
 }
 
