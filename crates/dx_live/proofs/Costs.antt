@@ -43,7 +43,7 @@ sum_below_first : (n : ℕ) (f : ℕ → ℕ) → sum_below (suc n) f ≡ f 0 + 
 sum_below_first zero f = omega arith
 sum_below_first (suc n) f = omega (arith, sum_below_first n f)
 
-sum_rows : (f : List ℕ → ℕ) (rows : List (List ℕ))
+pub sum_rows : (f : List ℕ → ℕ) (rows : List (List ℕ))
     → sum_below (length rows) (λ j. f (row_at rows j)) ≡ sum_by f rows
 sum_rows f [] = refl
 sum_rows f (r ∷ rs) =

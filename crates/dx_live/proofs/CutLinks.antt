@@ -11,10 +11,10 @@ use Rattle.dx_sets.specs.Sets.{SetsValue}
 use Rattle.dx_sets.specs.Engine.{CutsOf}
 use Rattle.dx_sets.proofs.Filling.{steady_fit}
 use Rattle.dx_explain.proofs.Listed.{same_answer}
-use Rattle.dx_live.specs.Region.{RegionValue, AreLocalCuts, IsLinkOf, IsNoLinkOf}
+use Rattle.dx_live.specs.Region.{AreLocalCuts, IsLinkOf, IsNoLinkOf}
 use Rattle.ev_graph.proofs.Occurrences.{in_at}
 use Rattle.dx_live.specs.Cuts.{CutsValue, cut_at, CutIsMade}
-use Rattle.dx_live.specs.Live.{LiveValue, live_root, live_cuts, IsLiveOf, IsLiveBest}
+use Rattle.dx_live.specs.Live.{LiveOver, root_over, cuts_over, IsLiveOver, IsBestOver}
 use Rattle.dx_live.specs.Live.{cut_with}
 use Rattle.dx_live.proofs.Regions.{one_number}
 use Rattle.dx_live.proofs.Best.{best_on}
@@ -34,14 +34,14 @@ same_number xs a b x up a_in b_in is =
     (λ t. eq-eqb (get_or xs a 0) x (ap (λ (z : ℕ). get_or xs z 0) (eqb-true a b t) ∙ is))
     (λ t. eq-eqb a b (one_number xs a b up a_in b_in (eqb-true (get_or xs a 0) x t ∙ sym is)))
 
-module _ (g : GraphValue) (graph : IsGraph g) (l : LiveValue) (h : IsLiveOf g l) (gone : Link)
-    (cut : CutsOf) (allowed : NodeSet) (b : IsLiveBest g cut allowed l) where
+module _ (g : GraphValue) (graph : IsGraph g) (l : LiveOver) (h : IsLiveOver g l) (gone : Link)
+    (cut : CutsOf) (allowed : NodeSet) (b : IsBestOver g cut allowed l) where
   fewer_cuts : (j e : ℕ) → cut j e ≡ true → cut_with cut gone j e ≡ true
   fewer_cuts j e c = or_left (cut j e) (eqb j gone.instance && eqb e gone.effect) c
 
-  pub cut_best : (here : Link) → IsLinkOf l.region gone here → (d : CutsValue) (t : SetsValue)
+  pub cut_best : (here : Link) → IsLinkOf l.region.nodes l.region.places gone here → (d : CutsValue) (t : SetsValue)
       → CutIsMade l.region.table l.here here l.cuts l.sets d t
-      → IsLiveBest g (cut_with cut gone) allowed (record {
+      → IsBestOver g (cut_with cut gone) allowed (record {
         region = l.region;
         sets = t;
         cuts = d;
@@ -49,7 +49,7 @@ module _ (g : GraphValue) (graph : IsGraph g) (l : LiveValue) (h : IsLiveOf g l)
       })
   cut_best here is d t m = record {
     cuts = now;
-    best = best_on g graph (live_root l) l.here l.region (cut_with cut gone)
+    best = best_on g graph (root_over l) l.here l.region (cut_with cut gone)
         (cut_at l.region.table.effects d) h.region now h.here refl cut (has_mark l.sets.marks)
         (has_mark t.marks) (λ n. true) allowed allowed fewer_cuts m.shrinks
         (steady_fit l.region.table (cut_at l.region.table.effects d) h.region.incidence l.here t
@@ -74,16 +74,16 @@ module _ (g : GraphValue) (graph : IsGraph g) (l : LiveValue) (h : IsLiveOf g l)
           is.node_in is.node_is)));
     }
 
-  pub uncut_best : IsNoLinkOf l.region gone → IsLiveBest g (cut_with cut gone) allowed l
+  pub uncut_best : IsNoLinkOf l.region.nodes l.region.places gone → IsBestOver g (cut_with cut gone) allowed l
   uncut_best none = record {
     cuts = now;
-    best = best_on g graph (live_root l) l.here l.region (cut_with cut gone) (live_cuts l) h.region
+    best = best_on g graph (root_over l) l.here l.region (cut_with cut gone) (cuts_over l) h.region
         now h.here refl cut (has_mark l.sets.marks) (has_mark l.sets.marks) (λ n. true) allowed
         allowed fewer_cuts (λ e i. i)
-        (steady_fit l.region.table (live_cuts l) h.region.incidence l.here l.sets h.steady h.over)
+        (steady_fit l.region.table (cuts_over l) h.region.incidence l.here l.sets h.steady h.over)
         (λ Y f within avoid. within) (λ e i. i) (λ e i a. a) (λ Y w n i. refl) b.best;
   } where
-    now : AreLocalCuts l.region (cut_with cut gone) (live_cuts l)
+    now : AreLocalCuts l.region (cut_with cut gone) (cuts_over l)
     now = record {
       each = λ u n u_in i.
           let n_in = (h.region.effects u u_in).below n i in
@@ -100,9 +100,9 @@ module _ (g : GraphValue) (graph : IsGraph g) (l : LiveValue) (h : IsLiveOf g l)
     }
 
 -- what is kept of a live set
-pub live_with : (g : GraphValue) (l : LiveValue) (h : IsLiveOf g l) (here : Link) (d : CutsValue)
+pub live_with : (g : GraphValue) (l : LiveOver) (h : IsLiveOver g l) (here : Link) (d : CutsValue)
     (t : SetsValue) → CutIsMade l.region.table l.here here l.cuts l.sets d t
-    → IsLiveOf g (record { region = l.region; sets = t; cuts = d; here = l.here })
+    → IsLiveOver g (record { region = l.region; sets = t; cuts = d; here = l.here })
 live_with g l h here d t m = record {
   region = h.region;
   here = h.here;
@@ -113,16 +113,16 @@ live_with g l h here d t m = record {
 }
 
 -- where the instance or the effect is none of the part
-pub no_place : (p : RegionValue) (link : Link) → is_member p.places link.instance ≡ false
-    → IsNoLinkOf p link
-no_place p link none = record {
-  each = λ t l t_in l_in a b. both_ways (is_member p.places link.instance) none
-      (ap (is_member p.places) (sym a) ∙ in_at p.places t t_in);
+pub no_place : (nodes places : List ℕ) (link : Link) → is_member places link.instance ≡ false
+    → IsNoLinkOf nodes places link
+no_place nodes places link none = record {
+  each = λ t l t_in l_in a b. both_ways (is_member places link.instance) none
+      (ap (is_member places) (sym a) ∙ in_at places t t_in);
 }
 
-pub no_node : (p : RegionValue) (link : Link) → is_member p.nodes link.effect ≡ false
-    → IsNoLinkOf p link
-no_node p link none = record {
-  each = λ t l t_in l_in a b. both_ways (is_member p.nodes link.effect) none
-      (ap (is_member p.nodes) (sym b) ∙ in_at p.nodes l l_in);
+pub no_node : (nodes places : List ℕ) (link : Link) → is_member nodes link.effect ≡ false
+    → IsNoLinkOf nodes places link
+no_node nodes places link none = record {
+  each = λ t l t_in l_in a b. both_ways (is_member nodes link.effect) none
+      (ap (is_member nodes) (sym b) ∙ in_at nodes l l_in);
 }

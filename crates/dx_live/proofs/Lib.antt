@@ -9,3 +9,5 @@ pub mod Shrinks
 pub mod Marking
 pub mod CutLinks
 pub mod Opening
+pub mod Wholes
+pub mod Tables

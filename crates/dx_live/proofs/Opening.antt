@@ -19,13 +19,13 @@ use Rattle.ev_graph.specs.declared.instances.Instance.{Instance}
 use Rattle.ev_graph.proofs.Ascending.{rises}
 use Rattle.ev_graph.proofs.Building.{wiring_same}
 use Rattle.dx_sets.specs.Sets.{SetsValue}
-use Rattle.dx_sets.specs.Engine.{CutsOf, AreSized, AreFilled, IsSteady, SettlesTo}
+use Rattle.dx_sets.specs.Engine.{CutsOf, AreSized, AreFilled, IsSteady, SettlesTo, cost}
 use Rattle.dx_sets.proofs.Filling.{steady_fit}
 use Rattle.dx_live.specs.Region.{RegionValue, nodes_at, IsRegionOf, IsPartOf, IsLocalTable}
 use Rattle.dx_live.specs.Region.{AreLocalCuts}
 use Rattle.dx_live.specs.Cuts.{mark_place, AreStarts, AreAscending}
-use Rattle.dx_live.specs.Live.{LiveValue, live_root, live_cuts, live_cost, IsLiveOf}
-use Rattle.dx_live.specs.Live.{IsLiveBest, no_cut, all_allowed, IsWhole}
+use Rattle.dx_live.specs.Live.{LiveOver, root_over, cuts_over, IsLiveOver}
+use Rattle.dx_live.specs.Live.{IsBestOver, no_cut, all_allowed, IsWhole}
 use Rattle.dx_live.proofs.Marking.{filter_ascends}
 use Rattle.dx_live.proofs.Best.{best_first}
 use Rattle.dx_live.proofs.Costs.{live_bound}
@@ -108,53 +108,53 @@ region_ascends g graph root p h = record {
 
 module _ (g : GraphValue) (graph : IsGraph g) (v : IncidenceValue)
     (inc : IsIncidenceOf (length g.nodes) g.instances v) (root : ℕ)
-    (kind : is_root_node g.nodes root ≡ true) (l : LiveValue)
+    (kind : is_root_node g.nodes root ≡ true) (l : LiveOver)
     (region : IsRegionOf (wiring_of v) root l.region)
     (starts : AreStarts (length l.region.table.effects) l.region.table.effects l.cuts.starts
     (length l.cuts.marks)) (none : (e : ℕ) → has_mark l.cuts.marks e ≡ false)
-    (here_in : l.here < length l.region.nodes) (here_is : live_root l ≡ root)
-    (steady : IsSteady l.region.table (live_cuts l) l.here l.sets)
+    (here_in : l.here < length l.region.nodes) (here_is : root_over l ≡ root)
+    (steady : IsSteady l.region.table (cuts_over l) l.here l.sets)
     (over : l.sets.pending ≡ []) where
-  region_here : IsRegionOf (wiring g.instances) (live_root l) l.region
+  region_here : IsRegionOf (wiring g.instances) (root_over l) l.region
   region_here =
       let P : Wiring → Type 0 = λ w. IsRegionOf w root l.region in
       let Q : ℕ → Type 0 = λ r. IsRegionOf (wiring g.instances) r l.region in
       subst Q (sym here_is) (subst P (wiring_same (length g.nodes) g.instances v inc) region)
 
-  pub live_first : IsLiveOf g l
+  pub live_first : IsLiveOver g l
   live_first = record {
     region = region_here;
     here = here_in;
     cuts = record {
       starts = starts;
-      ascending = region_ascends g graph (live_root l) l.region region_here;
+      ascending = region_ascends g graph (root_over l) l.region region_here;
     };
     steady = steady;
     over = over;
     kind = ap (is_root_node g.nodes) here_is ∙ kind;
   }
 
-  uncut_first : AreLocalCuts l.region no_cut (live_cuts l)
+  uncut_first : AreLocalCuts l.region no_cut (cuts_over l)
   uncut_first = record {
     each = λ t n t_in i. and_right (is_member (row_at l.region.table.effects t) n)
         (has_mark l.cuts.marks (mark_place l.cuts (row_at l.region.table.effects t) t n))
         (none (mark_place l.cuts (row_at l.region.table.effects t) t n));
   }
 
-  pub best_live : IsWhole l.region.table (live_cuts l) l.here l.sets
-      → IsLiveBest g no_cut all_allowed l
+  pub best_live : IsWhole l.region.table (cuts_over l) l.here l.sets
+      → IsBestOver g no_cut all_allowed l
   best_live whole = record {
     cuts = uncut_first;
-    best = best_first g graph (live_root l) l.here l.region no_cut (live_cuts l) region_here
+    best = best_first g graph (root_over l) l.here l.region no_cut (cuts_over l) region_here
         uncut_first here_in refl (has_mark l.sets.marks)
         (ap (is_root_node g.nodes) here_is ∙ kind)
-        (steady_fit l.region.table (live_cuts l) region.incidence l.here l.sets steady over)
+        (steady_fit l.region.table (cuts_over l) region.incidence l.here l.sets steady over)
         (λ Y f low. whole.every Y f (λ n y. ap (λ (m : ℕ). ltb n m) region.node_count ∙ low n y));
   }
 
   pub cost_first : IsPartOf v l.region
       → IsLocalTable v l.region.nodes l.region.places l.region.table
-      → live_cost l ≤ length g.nodes + 2 * links g.instances
+      → cost l.region.table l.sets ≤ length g.nodes + 2 * links g.instances
   cost_first part local =
       live_bound g v l.region l.sets inc part local region.nodes_ascend region.places_ascend
       steady.exact.sized.marks over

@@ -29,7 +29,7 @@ contains_to (y ∷ ys) x zero l e = or_left (eqb y x) (is_member ys x) (eq-eqb y
 contains_to (y ∷ ys) x (suc k) l e =
     or_right (eqb y x) (is_member ys x) (contains_to ys x k (omega (arith, l)) e)
 
-strict_ascends : (xs : List ℕ) → IsStrictlyIncreasing xs → ascends xs ≡ true
+pub strict_ascends : (xs : List ℕ) → IsStrictlyIncreasing xs → ascends xs ≡ true
 strict_ascends [] h = refl
 strict_ascends (x ∷ []) h = refl
 strict_ascends (x ∷ y ∷ ys) h =

@@ -74,7 +74,7 @@ filter_map_same f p q (x ∷ xs) h =
           ∙ (rest ∙ sym (filter_no q (f x) (map f xs) (sym here ∙ fail)))
     ]
 
-filter_all : (p : ℕ → Bool) (xs : List ℕ) → ((x : ℕ) → is_member xs x ≡ true → p x ≡ true)
+pub filter_all : (p : ℕ → Bool) (xs : List ℕ) → ((x : ℕ) → is_member xs x ≡ true → p x ≡ true)
     → filter p xs ≡ xs
 filter_all p [] h = refl
 filter_all p (x ∷ xs) h =

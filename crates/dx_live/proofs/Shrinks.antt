@@ -19,7 +19,7 @@ use Rattle.dx_sets.proofs.Beginning.{exact_moved, given_moved}
 use Rattle.dx_sets.proofs.Filling.{steady_fit}
 use Rattle.dx_explain.specs.Explaining.{no_other_report}
 use Rattle.dx_live.specs.Region.{local, lifted}
-use Rattle.dx_live.specs.Live.{LiveValue, live_root, live_cuts, IsLiveOf, IsLiveBest}
+use Rattle.dx_live.specs.Live.{LiveOver, root_over, cuts_over, IsLiveOver, IsBestOver}
 use Rattle.dx_live.specs.Live.{all_but}
 use Rattle.dx_live.proofs.Regions.{lifted_at, lifted_nodes}
 use Rattle.dx_live.proofs.Best.{best_on}
@@ -56,12 +56,12 @@ cost_removed v s e =
           (removed_effects s e),
     )
 
-module _ (g : GraphValue) (graph : IsGraph g) (l : LiveValue) (h : IsLiveOf g l) (gone : ℕ)
+module _ (g : GraphValue) (graph : IsGraph g) (l : LiveOver) (h : IsLiveOver g l) (gone : ℕ)
     (report : is_report_node g.nodes gone ≡ true) (t : SetsValue)
-    (steady : IsSteady l.region.table (live_cuts l) l.here t) (over : t.pending ≡ [])
+    (steady : IsSteady l.region.table (cuts_over l) l.here t) (over : t.pending ≡ [])
     (shrinks : IsSubset (has_mark t.marks) (has_mark l.sets.marks))
     (gone_away : lifted l.region.nodes (has_mark t.marks) gone ≡ false)
-    (keeps : (Y : NodeSet) → IsFit (wiring_cut l.region.table (live_cuts l)) l.here Y
+    (keeps : (Y : NodeSet) → IsFit (wiring_cut l.region.table (cuts_over l)) l.here Y
     → IsSubset Y (has_mark l.sets.marks)
     → IsSubset Y (λ n. not (eqb (get_or l.region.nodes n 0) gone))
     → IsSubset Y (has_mark t.marks)) (allowed : NodeSet) where
@@ -99,8 +99,8 @@ module _ (g : GraphValue) (graph : IsGraph g) (l : LiveValue) (h : IsLiveOf g l)
             (eq-eqb x gone same)
       ]))
 
-  pub shrunk_best : (cut : CutsOf) → IsLiveBest g cut allowed l
-      → IsLiveBest g cut (all_but allowed gone) (record {
+  pub shrunk_best : (cut : CutsOf) → IsBestOver g cut allowed l
+      → IsBestOver g cut (all_but allowed gone) (record {
         region = l.region;
         sets = t;
         cuts = l.cuts;
@@ -108,18 +108,18 @@ module _ (g : GraphValue) (graph : IsGraph g) (l : LiveValue) (h : IsLiveOf g l)
       })
   shrunk_best cut b = record {
     cuts = b.cuts;
-    best = best_on g graph (live_root l) l.here l.region cut (live_cuts l) h.region b.cuts h.here
+    best = best_on g graph (root_over l) l.here l.region cut (cuts_over l) h.region b.cuts h.here
         refl cut (has_mark l.sets.marks) (has_mark t.marks)
         (λ n. not (eqb (get_or l.region.nodes n 0) gone)) allowed (all_but allowed gone)
         (λ j e c. c) shrinks
-        (steady_fit l.region.table (live_cuts l) h.region.incidence l.here t steady over) keeps less
+        (steady_fit l.region.table (cuts_over l) h.region.incidence l.here t steady over) keeps less
         stays avoids b.best;
   }
 
 -- it stays a live set of its graph
-pub shrunk_live : (g : GraphValue) (l : LiveValue) (h : IsLiveOf g l) (t : SetsValue)
-    → IsSteady l.region.table (live_cuts l) l.here t → t.pending ≡ []
-    → IsLiveOf g (record { region = l.region; sets = t; cuts = l.cuts; here = l.here })
+pub shrunk_live : (g : GraphValue) (l : LiveOver) (h : IsLiveOver g l) (t : SetsValue)
+    → IsSteady l.region.table (cuts_over l) l.here t → t.pending ≡ []
+    → IsLiveOver g (record { region = l.region; sets = t; cuts = l.cuts; here = l.here })
 shrunk_live g l h t steady over = record {
   region = h.region;
   here = h.here;
@@ -130,16 +130,16 @@ shrunk_live g l h t steady over = record {
 }
 
 -- where the report stands in the part, and has left
-module _ (l : LiveValue) (gone at : ℕ) (up : ascends l.region.nodes ≡ true)
+module _ (l : LiveOver) (gone at : ℕ) (up : ascends l.region.nodes ≡ true)
     (at_in : at < length l.region.nodes) (at_is : get_or l.region.nodes at 0 ≡ gone)
-    (t : SetsValue) (s : SettlesTo l.region.table (live_cuts l) l.here (removed l.sets at) t) where
+    (t : SetsValue) (s : SettlesTo l.region.table (cuts_over l) l.here (removed l.sets at) t) where
   pub left_away : lifted l.region.nodes (has_mark t.marks) gone ≡ false
   left_away = false_from_ne_true (lifted l.region.nodes (has_mark t.marks) gone) (λ i.
       both_ways (has_mark (removed l.sets at).marks at) (removed_gone l.sets at)
       (s.shrinks at (sym (lifted_at l.region.nodes (has_mark t.marks) at up at_in)
       ∙ (ap (lifted l.region.nodes (has_mark t.marks)) at_is ∙ i))))
 
-  pub left_keeps : (Y : NodeSet) → IsFit (wiring_cut l.region.table (live_cuts l)) l.here Y
+  pub left_keeps : (Y : NodeSet) → IsFit (wiring_cut l.region.table (cuts_over l)) l.here Y
       → IsSubset Y (has_mark l.sets.marks)
       → IsSubset Y (λ n. not (eqb (get_or l.region.nodes n 0) gone))
       → IsSubset Y (has_mark t.marks)
@@ -156,22 +156,22 @@ pub none_away : (nodes : List ℕ) (Z : NodeSet) (gone : ℕ) → is_member node
 none_away nodes Z gone none = false_from_ne_true (lifted nodes Z gone)
     (λ i. both_ways (is_member nodes gone) none (lifted_nodes nodes Z gone i))
 
-pub shrunk_none : (g : GraphValue) (graph : IsGraph g) (l : LiveValue) (h : IsLiveOf g l)
+pub shrunk_none : (g : GraphValue) (graph : IsGraph g) (l : LiveOver) (h : IsLiveOver g l)
     (gone : ℕ) → is_report_node g.nodes gone ≡ true → is_member l.region.nodes gone ≡ false
-    → (cut : CutsOf) (allowed : NodeSet) → IsLiveBest g cut allowed l
-    → IsLiveBest g cut (all_but allowed gone) l
+    → (cut : CutsOf) (allowed : NodeSet) → IsBestOver g cut allowed l
+    → IsBestOver g cut (all_but allowed gone) l
 shrunk_none g graph l h gone report none cut allowed b =
     shrunk_best g graph l h gone report l.sets h.steady h.over (λ e i. i)
     (none_away l.region.nodes (has_mark l.sets.marks) gone none) (λ Y f within avoid. within)
     allowed cut b
 
-pub shrunk_some : (g : GraphValue) (graph : IsGraph g) (l : LiveValue) (h : IsLiveOf g l)
+pub shrunk_some : (g : GraphValue) (graph : IsGraph g) (l : LiveOver) (h : IsLiveOver g l)
     (gone : ℕ) → is_report_node g.nodes gone ≡ true → (at : ℕ) → at < length l.region.nodes
     → get_or l.region.nodes at 0 ≡ gone → (t : SetsValue)
-    → IsSteady l.region.table (live_cuts l) l.here t → t.pending ≡ []
-    → SettlesTo l.region.table (live_cuts l) l.here (removed l.sets at) t
-    → (cut : CutsOf) (allowed : NodeSet) → IsLiveBest g cut allowed l
-    → IsLiveBest g cut (all_but allowed gone)
+    → IsSteady l.region.table (cuts_over l) l.here t → t.pending ≡ []
+    → SettlesTo l.region.table (cuts_over l) l.here (removed l.sets at) t
+    → (cut : CutsOf) (allowed : NodeSet) → IsBestOver g cut allowed l
+    → IsBestOver g cut (all_but allowed gone)
     (record { region = l.region; sets = t; cuts = l.cuts; here = l.here })
 shrunk_some g graph l h gone report at at_in at_is t steady over ends cut allowed b =
     shrunk_best g graph l h gone report t steady over

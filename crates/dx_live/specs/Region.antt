@@ -1,6 +1,7 @@
 -- The part of a graph that one root reaches, with numbers of its own.
 use Rattle.std.specs.Prelude.{◌≡◌, ◌==◌, ◌&&◌, ◌<◌, ◌^◌, ℕ, suc, zero, true, false, nat_lt}
 use Rattle.std.specs.Prelude.{List, [], ◌∷◌, length, map, slice_index, if◌then◌else◌}
+use Rattle.std.specs.Prelude.{Option, Some, None}
 use Rattle.std.specs.List.{filter}
 use Rattle.ev_graph.specs.Sets.{NodeSet, is_member, ascends}
 use Rattle.ev_graph.specs.Wiring.{Wiring, IsCauseOf}
@@ -14,6 +15,31 @@ pub record RegionValue : Type 0 where
   pub nodes : List ℕ
   pub places : List ℕ
   pub table : IncidenceValue
+
+-- what is kept of a part: its nodes, its instances, and its incidence unless that is the graph's
+pub record KeptRegion : Type 0 where
+  pub nodes : List ℕ
+  pub places : List ℕ
+  pub own : Option IncidenceValue
+
+-- the incidence of a part, where the graph has this one
+abbrev pub table_over : IncidenceValue → Option IncidenceValue → IncidenceValue
+table_over v None = v
+table_over v (Some t) = t
+
+abbrev pub region_over : IncidenceValue → KeptRegion → RegionValue
+region_over v p = record { nodes = p.nodes; places = p.places; table = table_over v p.own }
+
+-- the numbers below n
+pub record AreNumbersBelow (n : ℕ) (xs : List ℕ) : Type 0 where
+  pub count : length xs ≡ n
+  pub each : (i : ℕ) → i < n → slice_index xs i ≡ i
+
+-- it has all nodes and instances
+pub record IsWholeOf (v : IncidenceValue) (p : KeptRegion) : Type 0 where
+  pub nodes : AreNumbersBelow (length v.uses) p.nodes
+  pub places : AreNumbersBelow (length v.causes) p.places
+  pub own : p.own ≡ None
 
 -- the nodes with these local numbers
 abbrev pub nodes_at : List ℕ → List ℕ → List ℕ
@@ -88,15 +114,15 @@ pub record AreLocalCuts (p : RegionValue) (cut local_cut : CutsOf) : Type 0 wher
       → local_cut t l ≡ cut (slice_index p.places t) (slice_index p.nodes l)
 
 -- a link by local numbers; a link of which the part has not both the instance and the effect
-pub record IsLinkOf (p : RegionValue) (link local : Link) : Type 0 where
-  pub place_in : local.instance < length p.places
-  pub place_is : slice_index p.places local.instance ≡ link.instance
-  pub node_in : local.effect < length p.nodes
-  pub node_is : slice_index p.nodes local.effect ≡ link.effect
+pub record IsLinkOf (nodes places : List ℕ) (link local : Link) : Type 0 where
+  pub place_in : local.instance < length places
+  pub place_is : slice_index places local.instance ≡ link.instance
+  pub node_in : local.effect < length nodes
+  pub node_is : slice_index nodes local.effect ≡ link.effect
 
-pub record IsNoLinkOf (p : RegionValue) (link : Link) : Type 0 where
-  pub each : (t l : ℕ) → t < length p.places → l < length p.nodes
-      → slice_index p.places t ≡ link.instance → slice_index p.nodes l ≡ link.effect → ⊥
+pub record IsNoLinkOf (nodes places : List ℕ) (link : Link) : Type 0 where
+  pub each : (t l : ℕ) → t < length places → l < length nodes
+      → slice_index places t ≡ link.instance → slice_index nodes l ≡ link.effect → ⊥
 
 -- each instance with an effect needs a cause
 pub record AreCounted (w : Wiring) : Type 0 where

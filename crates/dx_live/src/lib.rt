@@ -5,7 +5,8 @@
 //! numbers of its own (`specs/Region`): a local number is a place among its nodes, and so is an
 //! instance's among its instances. Of an instance of the part all effects are in it, and of the
 //! causes those that the root reaches; so the part is no graph of its own, since K may exceed the
-//! causes that are left.
+//! causes that are left. Where the root reaches more than half of the instances, the part is the
+//! whole graph, and its incidence is not kept a second time (`table_over`).
 //!
 //! **Invariant.** Between calls all counters of the set are right, each member but the root is
 //! given, each instance of which a member is a cause has enough effects left, and nothing waits to

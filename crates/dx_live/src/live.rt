@@ -163,8 +163,9 @@ fn cut_link<L: Ledger>(
 
 /// The local numbers of a link, if its instance and its effect are of the part.
 fn local_link(region: &Region, link: Link) -> Option<Link>
-    ensures found { IfSome result (λ local. IsLinkOf region.now link local) }
-    ensures none { result ≡ None → IsNoLinkOf region.now link }
+    ensures found { IfSome result
+        (λ local. IsLinkOf region.now.nodes region.now.places link local) }
+    ensures none { result ≡ None → IsNoLinkOf region.now.nodes region.now.places link }
 {
     match place_among(region.places(), link.instance) {
         Some(instance) => match place_among(region.nodes(), link.effect) {
@@ -177,19 +178,21 @@ fn local_link(region: &Region, link: Link) -> Option<Link>
 
 impl Live {
     /// The greatest story of the root, with all reports allowed and no link cut. It takes the time
-    /// of what the root reaches and that of sorting it; while it runs, it takes 5 bytes for each
-    /// node and one for each instance of the graph.
+    /// of what the root reaches and that of sorting it, or the time of the graph if the root reaches
+    /// the most of it; while it runs, it takes 5 bytes for each node and one for each instance of
+    /// the graph.
     pub fn new(alloc: Global, graph: &Graph, root: u32) -> Result<Live, NoMemory>
         requires { is_root_node graph.now.nodes root ≡ true }
         ensures live { IfOk result (λ live. IsLiveOf graph.now live) }
         ensures root { IfOk result (λ live. live_root live ≡ root) }
         ensures best { IfOk result (λ live. IsLiveBest graph.now no_cut all_allowed live) }
         ensures cost { IfOk result (λ live.
-            live_cost live ≤ length graph.now.nodes + 2 * links graph.now.instances) }
+            live_cost graph.now live ≤ length graph.now.nodes + 2 * links graph.now.instances) }
     {
-        let region = Region::new(alloc, graph.incidence(), root)?;
+        let table = graph.incidence();
+        let region = Region::new(alloc, table, root)?;
         let here = number_of_root(region.nodes(), root);
-        let local = region.table();
+        let local = region.table(table);
         let cuts = Cuts::new(alloc, local)?;
         let sets = first_sets(alloc, local, &cuts, here)?;
         Ok(Live {
@@ -224,13 +227,13 @@ impl Live {
         ensures best { (cut : CutsOf) (allowed : NodeSet)
             → IsLiveBest graph.now cut allowed self.old
             → IsLiveBest graph.now cut (all_but allowed gone) self.new }
-        ensures cost { steps.new + live_cost self.new ≡ steps.old + live_cost self.old }
+        ensures cost { steps.new + live_cost graph.now self.new
+            ≡ steps.old + live_cost graph.now self.old }
     {
-        // This says that the graph is a lawful one.
-        let _ = graph.nodes();
+        let whole = graph.incidence();
         match place_among(self.region.nodes(), gone) {
             Some(at) => {
-                let table = self.region.table();
+                let table = self.region.table(whole);
                 let cuts = LocalCuts {
                     table,
                     cuts: &self.cuts,
@@ -250,14 +253,15 @@ impl Live {
         ensures best { (cut : CutsOf) (allowed : NodeSet)
             → IsLiveBest graph.now cut allowed self.old
             → IsLiveBest graph.now (cut_with cut gone) allowed self.new }
-        ensures cost { steps.new + live_cost self.new ≤ steps.old + live_cost self.old + 1 }
-        ensures counted { steps.old + live_cost self.old ≤ steps.new + live_cost self.new }
+        ensures cost { steps.new + live_cost graph.now self.new
+            ≤ steps.old + live_cost graph.now self.old + 1 }
+        ensures counted { steps.old + live_cost graph.now self.old
+            ≤ steps.new + live_cost graph.now self.new }
     {
-        // This says that the graph is a lawful one.
-        let _ = graph.nodes();
+        let whole = graph.incidence();
         match local_link(&self.region, gone) {
             Some(link) => {
-                let table = self.region.table();
+                let table = self.region.table(whole);
                 cut_link(
                     table,
                     link,

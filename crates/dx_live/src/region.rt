@@ -5,7 +5,8 @@ ghost use Rattle.std.specs.Prelude.{◌==◌, ◌&&◌, IfSome, None, OnOk, fals
 ghost use Rattle.ev_graph.specs.Sets.{is_member, ascends};
 ghost use Rattle.ev_graph.specs.Table.{IsIncidence, wiring_of};
 ghost use Rattle.dx_live.specs.Region.{IsLocalRow, AreLocalRows, IsLocalTable, IsRegionOf};
-ghost use Rattle.dx_live.specs.Region.{IsPartOf, ArePlacesOf};
+ghost use Rattle.dx_live.specs.Region.{IsPartOf, ArePlacesOf, AreNumbersBelow, IsWholeOf};
+ghost use Rattle.dx_live.specs.Region.{table_over, region_over};
 
 use ev_graph::{Incidence, Marked, NoMemory, Rows, search};
 use std::alloc::Global;
@@ -13,17 +14,20 @@ use std::marker::Model;
 
 /// What a root reaches: its nodes and instances, ascending, and what the instances say of places
 /// among the nodes. It takes 12 bytes a node, 20 an instance and 8 a link, of what is reached.
+/// Where that is more than half of the instances of a graph, the part is the whole graph, of which
+/// the incidence serves: it takes 4 bytes a node and 4 an instance then.
 #[derive(Drop)]
 pub struct Region {
     nodes: Vec<u32>,
     places: Vec<u32>,
-    table: Incidence,
+    /// What the instances say, none for the whole graph.
+    own: Option<Incidence>,
 }
 
 impl Model for Region {
-    ghost use Rattle.dx_live.specs.Region.{RegionValue};
+    ghost use Rattle.dx_live.specs.Region.{KeptRegion};
 
-    ghost Value = { RegionValue };
+    ghost Value = { KeptRegion };
 
     ghost use Rattle.std.specs.Prelude.{◌≡◌, ◌<◌, ◌^◌, true, length};
     ghost use Rattle.ev_graph.specs.Sets.{ascends};
@@ -31,7 +35,7 @@ impl Model for Region {
     ghost view = { λ p. record {
       nodes = p.nodes.items;
       places = p.places.items;
-      table = p.table;
+      own = p.own;
     } };
 
     ghost invariant = { λ p.
@@ -225,27 +229,74 @@ fn local_table(
     Ok(made)
 }
 
+/// Puts the numbers below a count.
+fn put_numbers(count: usize, numbers: &mut [u32])
+    requires size { length numbers.old ≡ count }
+    requires few { count < 2 ^ 32 }
+    ensures numbers { AreNumbersBelow count numbers.new }
+    ensures ascend { ascends numbers.new ≡ true }
+{
+    for place in 0..count {
+        numbers[place] = place as u32;
+    }
+}
+
+/// The numbers below a count.
+fn numbers_below(alloc: Global, count: usize) -> Result<Vec<u32>, NoMemory>
+    requires few { count < 2 ^ 32 }
+    ensures numbers { IfOk result (λ list. AreNumbersBelow count list.items) }
+    ensures ascend { IfOk result (λ list. ascends list.items ≡ true) }
+{
+    let mut numbers = vec![in alloc; 0; count]?;
+    put_numbers(count, numbers.as_mut_slice());
+    Ok(numbers)
+}
+
+/// The whole graph of an incidence.
+fn whole(alloc: Global, table: &Incidence) -> Result<Region, NoMemory>
+    ensures { IfOk result (λ part. IsWholeOf table.now part) }
+{
+    let nodes = numbers_below(alloc, table.nodes())?;
+    let places = numbers_below(alloc, table.count())?;
+    Ok(Region {
+        nodes,
+        places,
+        own: None,
+    })
+}
+
+/// Whether there are more than half of the instances.
+fn are_most(places: &[u32], table: &Incidence) -> bool {
+    places.len() > table.count() / 2
+}
+
 impl Region {
-    /// The part that a node reaches. It takes the time of what is reached and that of sorting it;
-    /// while it runs, it takes 5 bytes for each node and one for each instance of the graph.
+    /// The part that a node reaches. It takes the time of what is reached and that of sorting it,
+    /// or the time of the graph if that is reached for the most part; while it runs, it takes 5
+    /// bytes for each node and one for each instance of the graph.
     pub fn new(alloc: Global, table: &Incidence, root: u32) -> Result<Region, NoMemory>
         requires { root < length table.now.uses }
-        ensures region { IfOk result (λ part. IsRegionOf (wiring_of table.now) root part) }
-        ensures part { IfOk result (λ part. IsPartOf table.now part) }
-        ensures local { IfOk result
-            (λ part. IsLocalTable table.now part.nodes part.places part.table) }
+        ensures region { IfOk result
+            (λ part. IsRegionOf (wiring_of table.now) root (region_over table.now part)) }
+        ensures part { IfOk result (λ part. IsPartOf table.now (region_over table.now part)) }
+        ensures local { IfOk result (λ part.
+            IsLocalTable table.now part.nodes part.places (table_over table.now part.own)) }
     {
         let mut reached = Marked::new(alloc, table.nodes())?;
         let mut taken = Marked::new(alloc, table.count())?;
         let (index, rows) = table.forwards();
         search(index, rows, &[root], &mut reached, &mut taken)?;
+        if are_most(taken.as_slice(), table) {
+            let part = whole(alloc, table)?;
+            return Ok(part);
+        }
         let nodes = ascending_of(alloc, reached.as_slice())?;
         let places = ascending_of(alloc, taken.as_slice())?;
         let table = local_table(alloc, table, nodes.as_slice(), places.as_slice())?;
         Ok(Region {
             nodes,
             places,
-            table,
+            own: Some(table),
         })
     }
 
@@ -255,12 +306,11 @@ impl Region {
     {
         let nodes = Vec::from_slice(alloc, self.nodes.as_slice())?;
         let places = Vec::from_slice(alloc, self.places.as_slice())?;
-        let table = self.table.copy(alloc)?;
-        Ok(Region {
-            nodes,
-            places,
-            table,
-        })
+        let own = match &self.own {
+            Some(table) => Some(table.copy(alloc)?),
+            None => None,
+        };
+        Ok(Region { nodes, places, own })
     }
 
     /// The nodes, ascending.
@@ -281,10 +331,13 @@ impl Region {
         self.places.as_slice()
     }
 
-    /// The incidence of the part, by local numbers.
-    pub fn table(&self) -> &Incidence
-        ensures { result.now ≡ self.now.table }
+    /// The incidence of the part by local numbers, where this is the one of the graph.
+    pub fn table<'a>(&'a self, whole: &'a Incidence) -> &'a Incidence
+        ensures { result.now ≡ table_over whole.now self.now.own }
     {
-        &self.table
+        match &self.own {
+            Some(table) => table,
+            None => whole,
+        }
     }
 }

@@ -1,12 +1,15 @@
 -- The rows that agree with a binding stand together.
-use Rattle.std.proofs.Common.{◌≡◌, ◌≤◌, ◌+◌, ℕ, zero, suc, Bool, true, false, not, List, []}
+use Rattle.std.proofs.Common.{◌≡◌, ◌<◌, ◌≤◌, ◌+◌, ℕ, zero, suc, Bool, true, false, not, List, []}
 use Rattle.std.proofs.Common.{◌∷◌}
 use Rattle.std.proofs.Common.{◌++◌, length, take, drop, filter, get_or, refl, arith, ap, sym, ◌∙◌}
 use Rattle.std.proofs.Common.{subst, length-drop, ◌-◌}
-use Rattle.std.specs.List.{AllWithin}
+use mathlib.Core.Bool.{true≢false}
+use Rattle.std.specs.List.{AllWithin, prefix_len}
 use Rattle.std.specs.List.Sorted.{IsPartitionedBy}
 use Rattle.std.proofs.lemmas.Grind.{common_steps}
 use Rattle.std.proofs.lemmas.List.{append-nil, get_or-drop}
+use Rattle.std.proofs.lemmas.List.Sums.{prefix_len_passes, prefix_len_stops, prefix_len-drop_all}
+use Rattle.std.proofs.lemmas.List.Sums.{prefix_len-drop_no, prefix_len-drop_yes, prefix_len-le-length}
 use Rattle.std.proofs.lemmas.Option.{slice_get-get_or}
 use Rattle.ev_join.specs.declared.table.Row.{Row}
 use Rattle.ev_join.specs.Order.{IsNotBefore, is_not_before, is_begun, placing}
@@ -45,6 +48,41 @@ front_fails p (x ∷ xs) (suc i) h fails =
     let e = fails 0 x (omega arith) (omega arith) in
     rw e (front_fails p xs i (omega (arith, h))
     (λ k d l r. fails (suc k) d (omega arith) (omega arith)))
+
+-- where a list is parted, its front that passes is all that passes
+pub no_pass : (b : Bool) → (b ≡ true → ⊥) → b ≡ false
+no_pass true h = absurd (h refl)
+no_pass false h = refl
+
+pub begun_parted : {X : Type 0} (p : X → Bool) (xs : List X) (n : ℕ) → n ≡ prefix_len p xs
+    → IsPartitionedBy p xs
+    → AllWithin (λ y. p y ≡ true) xs 0 n × AllWithin (λ y. p y ≡ false) xs n (length xs)
+begun_parted p xs n e parted = (
+  λ k d low less. prefix_len_passes p xs k d (omega (arith, e, less)),
+  λ k d low less. no_pass (p (get_or xs k d)) (λ so.
+      let stop : p (get_or xs n d) ≡ false =
+      rw e (prefix_len_stops p xs d (omega (arith, e, low, less))) in
+      true≢false (sym (parted n k d low less so) ∙ stop)),
+)
+
+-- ---- the front of a list that passes, element by element
+module _ {X : Type 0} (p : X → Bool) (xs : List X) (at : ℕ)
+    (so_far : prefix_len p (drop at xs) + at ≡ prefix_len p xs) where
+  pub one_passes : (x : X) → at < length xs → x ≡ get_or xs at x → p x ≡ true
+      → prefix_len p (drop (at + 1) xs) + (at + 1) ≡ prefix_len p xs
+  one_passes x lt is passes =
+      let e = prefix_len-drop_yes p xs at x lt (sym (ap p is) ∙ passes) in
+      omega (arith, e, so_far)
+
+  pub one_stops : (x : X) → at < length xs → x ≡ get_or xs at x → p x ≡ false
+      → at ≡ prefix_len p xs
+  one_stops x lt is fails =
+      let e = prefix_len-drop_no p xs at x lt (sym (ap p is) ∙ fails) in omega (arith, e, so_far)
+
+  pub all_pass : length xs ≤ at → length xs ≡ prefix_len p xs
+  all_pass le =
+      let e = prefix_len-drop_all p xs at le in
+      omega (arith, e, so_far, le, prefix_len-le-length p xs)
 
 -- ---- rows that begin with what a binding gives
 module _ (t : TableValue) (h : IsTable t) (k : List ℕ) where

@@ -9,3 +9,4 @@ pub mod Steps
 pub mod Sorted
 pub mod Ordered
 pub mod Collecting
+pub mod Nearby

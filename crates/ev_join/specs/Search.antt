@@ -1,7 +1,9 @@
 -- The search for the first candidate from a list of numbers on.
 use Rattle.std.specs.Prelude.{◌≡◌, ℕ, ◌<◌, ◌≤◌, ◌+◌, ◌*◌, ◌-◌, zero, suc, List}
-use Rattle.std.specs.Prelude.{[], ◌∷◌, ◌++◌, length, Option, Some, None}
-use Rattle.ev_join.specs.Order.{IsNotBefore, AreSmall}
+use Rattle.std.specs.Prelude.{[], ◌∷◌, ◌++◌, length, Option, Some, None, true, false, not}
+use Rattle.std.specs.List.{AllWithin}
+use Rattle.ev_join.specs.declared.table.Row.{Row}
+use Rattle.ev_join.specs.Order.{IsNotBefore, AreSmall, is_not_before}
 use Rattle.ev_join.specs.Tables.{TableValue}
 use Rattle.ev_join.specs.Candidates.{HasRows, IsCandidate}
 
@@ -9,6 +11,13 @@ use Rattle.ev_join.specs.Candidates.{HasRows, IsCandidate}
 abbrev pub IsLeastFrom : (ℕ → Type 0) → ℕ → Option ℕ → Type 0
 IsLeastFrom P x None = (z : ℕ) → x ≤ z → P z → ⊥
 IsLeastFrom P x (Some v) = (x ≤ v) × (P v × ((z : ℕ) → x ≤ z → P z → v ≤ z))
+
+-- the rows before a place are before some numbers, and none of those from it on is
+pub record IsFirstFrom (rows : List Row) (values : List ℕ) (at : ℕ) : Type 0 where
+  pub within : at ≤ length rows
+  pub before : AllWithin (λ (r : Row). not (is_not_before r.values values) ≡ true) rows 0 at
+  pub from : AllWithin (λ (r : Row). not (is_not_before r.values values) ≡ false) rows at
+      (length rows)
 
 -- the beginning of a binding, with one more number
 pub record GoesOn (tables : List TableValue) (front : List ℕ) (z : ℕ) : Type 0 where

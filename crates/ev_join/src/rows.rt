@@ -1,13 +1,14 @@
 //! Rows in the order of their numbers, searched by the beginning of a binding.
 
-ghost use Rattle.std.specs.Prelude.{◌≡◌, ◌==◌, ◌∷◌, [], ◌++◌, option_to_list};
-ghost use Rattle.std.specs.List.{list_any};
+ghost use Rattle.std.specs.Prelude.{◌≡◌, ◌==◌, ◌∷◌, [], ◌++◌, option_to_list, IsTrue};
+ghost use Rattle.std.specs.List.{list_any, prefix_len};
 ghost use Rattle.ev_join.specs.Order.{is_begun, is_not_before, number_behind};
 ghost use Rattle.ev_join.specs.Order.{placing, view_placing};
-ghost use Rattle.ev_join.specs.Search.{IsLeastFrom};
+ghost use Rattle.ev_join.specs.Search.{IsFirstFrom, IsLeastFrom};
 ghost use Rattle.ev_join.specs.Tables.{IsTable, HasRow, bound_values, rows_at};
 
 use crate::table::Row;
+use std::cell::Cell;
 
 /// Where the numbers of a row stand to others: before them, past them, or they begin with them and
 /// these follow.
@@ -101,8 +102,59 @@ fn has_column(columns: &[u32], iterator: usize) -> bool
     columns.iter().any(|column| *column as usize == iterator)
 }
 
+/// Whether the rows that are not before begin at a place.
+fn begin_at(columns: &[u32], rows: &[Row], front: &[u32], last: Option<u64>, at: usize) -> bool
+    requires { IsTable (record { columns = columns.now; rows = rows.now }) }
+    ensures { IsTrue result → IsFirstFrom rows.now
+        (bound_values columns.now front.now ++ option_to_list last) at }
+{
+    if at >= rows.len() {
+        return false;
+    }
+    if !is_not_before(&rows[at], columns, front, last) {
+        return false;
+    }
+    if at == 0 {
+        return true;
+    }
+    !is_not_before(&rows[at - 1], columns, front, last)
+}
+
+/// The place of the first row that is not before. It is sought where one was found last, then right
+/// behind, and then among all.
+fn first_from(
+    columns: &[u32],
+    rows: &[Row],
+    near: &Cell<usize>,
+    front: &[u32],
+    last: Option<u64>,
+) -> usize
+    requires { IsTable (record { columns = columns.now; rows = rows.now }) }
+    ensures { IsFirstFrom rows.now (bound_values columns.now front.now ++ option_to_list last)
+        result }
+{
+    let here = near.get();
+    if begin_at(columns, rows, front, last, here) {
+        return here;
+    }
+    let next = here.wrapping_add(1);
+    if begin_at(columns, rows, front, last, next) {
+        near.set(next);
+        return next;
+    }
+    let at = rows.partition_point(|row| !is_not_before(row, columns, front, last));
+    near.set(at);
+    at
+}
+
 /// The least number, from a value on, with which some row goes on from the beginning of a binding.
-pub(crate) fn least_value(columns: &[u32], rows: &[Row], front: &[u32], value: u64) -> Option<u64>
+pub(crate) fn least_value(
+    columns: &[u32],
+    rows: &[Row],
+    near: &Cell<usize>,
+    front: &[u32],
+    value: u64,
+) -> Option<u64>
     requires table { IsTable (record { columns = columns.now; rows = rows.now }) }
     requires open { HasRow rows.now (bound_values columns.now front.now) }
     ensures { IsLeastFrom (λ z. HasRow rows.now (bound_values columns.now (front.now ++ z ∷ [])))
@@ -111,22 +163,40 @@ pub(crate) fn least_value(columns: &[u32], rows: &[Row], front: &[u32], value: u
     if !has_column(columns, front.len()) {
         return Some(value);
     }
-    let at = rows.partition_point(|row| !is_not_before(row, columns, front, Some(value)));
+    let at = first_from(columns, rows, near, front, Some(value));
     if at >= rows.len() {
         return None;
     }
     number_behind(&rows[at], columns, front)
 }
 
-/// The rows that agree with a binding.
-pub(crate) fn rows_at<'a>(columns: &[u32], rows: &'a [Row], binding: &[u32]) -> &'a [Row]
+/// How many rows in front agree with a binding. It looks at these and at the one behind them.
+fn begun_len(columns: &[u32], rows: &[Row], binding: &[u32]) -> usize
+    ensures { result ≡ prefix_len
+        (λ r. is_begun (placing r.values (bound_values columns.now binding.now))) rows.now }
+{
+    'rows: for at in 0..rows.len() {
+        if !is_begun(&rows[at], columns, binding) {
+            return at;
+        }
+    }
+    rows.len()
+}
+
+/// The rows that agree with a binding, in the time of a search for the first and of the rows.
+pub(crate) fn rows_at<'a>(
+    columns: &[u32],
+    rows: &'a [Row],
+    near: &Cell<usize>,
+    binding: &[u32],
+) -> &'a [Row]
     requires { IsTable (record { columns = columns.now; rows = rows.now }) }
     ensures { result.now
         ≡ rows_at (record { columns = columns.now; rows = rows.now }) binding.now }
 {
-    let first = rows.partition_point(|row| !is_not_before(row, columns, binding, None));
+    let first = first_from(columns, rows, near, binding, None);
     let (_, behind) = rows.split_at(first);
-    let count = behind.partition_point(|row| is_begun(row, columns, binding));
+    let count = begun_len(columns, behind, binding);
     let (found, _) = behind.split_at(count);
     found
 }

@@ -7,6 +7,7 @@ ghost use Rattle.ev_join.specs.Tables.{IsTable, HasRow, RisesFrom, bound_values,
 
 use crate::rows::{least_value, rows_at};
 use fm_bytes::{Items, NoMemory};
+use std::cell::Cell;
 use std::marker::Model;
 
 /// A row of a table: a number for each column, and the number of what it stands for.
@@ -17,11 +18,13 @@ pub struct Row {
 }
 
 /// A table: columns, which are the ascending numbers of iterators, and rows in the order of their
-/// numbers.
+/// numbers. It keeps where a search last came to, since the next one mostly comes to the same row or
+/// the next; nothing but time rests on that place.
 #[derive(Debug, Drop)]
 pub struct Table {
     columns: Vec<u32>,
     rows: Vec<Row>,
+    near: Cell<usize>,
 }
 
 impl Model for Table {
@@ -43,7 +46,12 @@ impl Table {
     {
         let mut rows = rows;
         rows.sort_by(|a, b| a.values.as_slice().cmp(b.values.as_slice()))?;
-        let table = Table { columns, rows };
+        let near = Cell::new(0);
+        let table = Table {
+            columns,
+            rows,
+            near,
+        };
         Ok(table)
     }
 
@@ -66,7 +74,7 @@ impl Table {
         ensures rows { result.now ≡ rows_at self.now binding.now }
         ensures lawful { IsTable self.now }
     {
-        rows_at(&self.columns, &self.rows, binding)
+        rows_at(&self.columns, &self.rows, &self.near, binding)
     }
 
     /// The least number, from a value on, with which a beginning of a binding has a row.
@@ -76,6 +84,6 @@ impl Table {
             (λ z. HasRow self.now.rows (bound_values self.now.columns (front.now ++ z ∷ [])))
             value result }
     {
-        least_value(&self.columns, &self.rows, front, value)
+        least_value(&self.columns, &self.rows, &self.near, front, value)
     }
 }

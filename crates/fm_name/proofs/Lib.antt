@@ -4,3 +4,4 @@ pub mod Digits
 pub mod Scanning
 pub mod PartScans
 pub mod Same
+pub mod Alike

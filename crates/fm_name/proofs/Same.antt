@@ -108,7 +108,7 @@ same_tails xs ys p q e =
     ∙ (ap (join_with_byte 47) (same_texts _ _ p q e) ∙ join_with_byte-slice_split 47 ys)
 
 -- a path is the scheme and its parts
-path_texts : (xs : List ℕ) → IsTrue (is_path xs)
+pub path_texts : (xs : List ℕ) → IsTrue (is_path xs)
     → (xs ≡ codes "hc:///" ++ drop 6 xs)
     × IsTrue (list_all is_part (slice_split (λ b. b == 47) (drop 6 xs)))
 unfolding is_path are_parts

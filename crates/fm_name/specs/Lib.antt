@@ -8,3 +8,4 @@ pub mod Cut
 pub mod OrderLaws
 pub mod Tail
 pub mod InlineText
+pub mod Shared

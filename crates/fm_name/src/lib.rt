@@ -11,7 +11,8 @@
 //! again. `read_class`, `read_pattern` and `read_fmri` answer one exactly where the grammar has the
 //! text. Components and parts are read byte by byte, with a small state: at each byte, what the
 //! state and the bytes that are left come to is what the grammar says of the whole
-//! (`proofs/Scanning`, `proofs/PartScans`).
+//! (`proofs/Scanning`, `proofs/PartScans`). Two paths are compared from the last slash on at which
+//! both are still the same (`tail_order`, `proofs/Alike`).
 //!
 //! Classes are in the order of their bytes, paths in that of their parts: by name, then by the
 //! value of the instance, a path before those under it (`specs/Order`). `Ord` of each type is that
@@ -29,6 +30,7 @@ mod inline_text;
 mod parts;
 mod paths;
 mod patterns;
+mod tail_order;
 mod tails;
 
 pub use classes::{Category, Class, read_class};

@@ -8,7 +8,6 @@ ghost use Rattle.fm_name.specs.Cut.{texts_left};
 
 use crate::grammar::{begins_with_letter, spells_component};
 use fm_bytes::read_numeral;
-use std::cmp::Ordering;
 
 /// The text before the first slash, and what is left after it.
 pub fn cut(text: &str) -> (&str, Option<&str>)
@@ -59,11 +58,11 @@ pub fn is_name(text: &str) -> bool
 
 /// The number that the digits of an instance mean.
 #[tactic(auto, using(crate::proofs::Digits::instance_read))]
-fn instance_value(digits: &str) -> u32
+pub(crate) fn instance_value(digits: &[u8]) -> u32
     requires { IsTrue (is_instance digits.now) }
     ensures { result ≡ number_of digits.now }
 {
-    match read_numeral(digits.as_bytes(), u64::from(u32::MAX)) {
+    match read_numeral(digits, u64::from(u32::MAX)) {
         Some(value) => value as u32,
         None => unreachable!(),
     }
@@ -77,21 +76,9 @@ pub fn read_part(text: &str) -> (&str, u32)
     ensures instance { result.1 ≡ (part_of text.now).instance }
 {
     match text.split_once('=') {
-        Some((name, digits)) => (name, instance_value(digits)),
+        Some((name, digits)) => (name, instance_value(digits.as_bytes())),
         None => unreachable!(),
     }
-}
-
-/// The order of two parts.
-#[tactic(auto, unfolding(crate::specs::Order::part_cmp))]
-fn compare_parts(ours: &str, theirs: &str) -> Ordering
-    requires ours { IsTrue (is_part ours.now) }
-    requires theirs { IsTrue (is_part theirs.now) }
-    ensures { result ≡ part_cmp (part_of ours.now) (part_of theirs.now) }
-{
-    let (name, instance) = read_part(ours);
-    let (other_name, other_instance) = read_part(theirs);
-    name.cmp(other_name).then(instance.cmp(&other_instance))
 }
 
 /// Whether two parts are the same.
@@ -103,28 +90,6 @@ fn same_part(ours: &str, theirs: &str) -> bool
     let (name, instance) = read_part(ours);
     let (other_name, other_instance) = read_part(theirs);
     name == other_name && instance == other_instance
-}
-
-/// The order of two texts of parts joined by slashes.
-#[tactic(auto, using(crate::proofs::Cutting::shorter), unfolding(crate::specs::Order::parts_cmp))]
-pub fn compare_tails(ours: &str, theirs: &str) -> Ordering
-    requires ours { IsTrue (list_all is_part (slash_texts ours.now)) }
-    requires theirs { IsTrue (list_all is_part (slash_texts theirs.now)) }
-    ensures { result ≡ parts_cmp (map part_of (slash_texts ours.now))
-        (map part_of (slash_texts theirs.now)) }
-{
-    let (first, rest) = cut_part(ours);
-    let (other_first, other_rest) = cut_part(theirs);
-    match compare_parts(first, other_first) {
-        Ordering::Less => Ordering::Less,
-        Ordering::Greater => Ordering::Greater,
-        Ordering::Equal => match (rest, other_rest) {
-            (None, None) => Ordering::Equal,
-            (None, Some(_)) => Ordering::Less,
-            (Some(_), None) => Ordering::Greater,
-            (Some(ours), Some(theirs)) => compare_tails(ours, theirs),
-        },
-    }
 }
 
 /// Whether the parts of one text begin with those of another.

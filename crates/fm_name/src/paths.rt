@@ -14,7 +14,8 @@ ghost use Rattle.fm_name.specs.Path.{instances_of};
 ghost use Rattle.fm_name.specs.Order.{path_cmp, parts_cmp, is_under};
 
 use crate::inline_text::InlineText;
-use crate::parts::{begins_with_parts, compare_tails, count_texts, cut_part, part_text, read_part};
+use crate::parts::{begins_with_parts, count_texts, cut_part, part_text, read_part};
+use crate::tail_order::compare_tails;
 use crate::tails::joins_parts;
 use arrayvec::ArrayVec;
 use fm_bytes::{Copies, NoMemory};
@@ -79,6 +80,17 @@ fn tail_of(text: &str) -> &str
         Some(tail) => tail,
         None => unreachable!(),
     }
+}
+
+/// The bytes of the parts of a path, joined by slashes.
+#[tactic(auto, using(crate::proofs::Alike::root_len), unfolding(crate::specs::Path::on_path))]
+fn tail_bytes(text: &str) -> &[u8]
+    requires { IsTrue (is_path text.now) }
+    ensures same { result.now ≡ drop 6 text.now }
+    ensures parts { IsTrue (list_all is_part (slash_texts result.now)) }
+{
+    let (_, tail) = text.as_bytes().split_at(6);
+    tail
 }
 
 impl Fmri {
@@ -214,8 +226,9 @@ impl Ord for Fmri {
         ensures whole { result ≡ path_cmp self.now other.now }
         ensures by_parts { result ≡ parts_cmp (parts_of self.now) (parts_of other.now) }
     {
-        let by_parts = compare_tails(tail_of(self.text.as_str()), tail_of(other.text.as_str()));
-        by_parts.then(self.text.as_str().cmp(other.text.as_str()))
+        let ours = tail_bytes(self.text.as_str());
+        let theirs = tail_bytes(other.text.as_str());
+        compare_tails(ours, theirs)
     }
 }
 

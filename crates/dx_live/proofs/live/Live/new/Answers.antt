@@ -1,10 +1,8 @@
-use Rattle.std.proofs.Common.{length, subst, arith}
-use Rattle.ev_graph.specs.Wiring.{Wiring}
-use Rattle.ev_graph.proofs.Building.{wiring_same}
+use Rattle.std.proofs.Common.{arith}
 use Rattle.dx_explain.proofs.Greatest.{root_below}
-use Rattle.dx_live.specs.Region.{IsRegionOf}
-use Rattle.dx_live.specs.Live.{LiveValue}
-use Rattle.dx_live.proofs.Opening.{region_ascends, live_first, best_live, cost_first}
+use Rattle.dx_live.specs.Live.{LiveValue, live_over, no_cut, all_allowed}
+use Rattle.dx_live.proofs.Opening.{live_first, best_live, cost_first}
+use Rattle.dx_live.proofs.Tables.{best_of, cost_at}
 use Rattle.dx_live.proofs.live.Live.new.Goals as goal
 
 pub new-requires : goal.new-requires
@@ -12,7 +10,7 @@ new-requires c =
     omega (
       arith,
       root_below c.args.graph.now.nodes c.args.root c.requires,
-      c.incidence.ensures.incidence.nodes,
+      c.incidence-table.ensures.incidence.nodes,
     )
 
 pub number_of_root-here-requires-clause-there : goal.number_of_root-here-requires-clause-there
@@ -27,12 +25,18 @@ returns-clause-live c =
       cuts = c.in_ok-cuts.cuts;
       here = c.number_of_root-here.result;
     } in
-    live_first c.args.graph.now c.incidence.ensures.graph c.incidence.result.now
-    c.incidence.ensures.incidence c.args.root c.requires l c.in_ok-region.ensures.region
-    (rw c.table-local.ensures at c.in_ok-cuts.ensures.starts) c.in_ok-cuts.ensures.none
-    (rw c.nodes.ensures.nodes at c.number_of_root-here.ensures.inside)
-    (rw c.nodes.ensures.nodes at c.number_of_root-here.ensures.is)
-    (rw c.table-local.ensures at c.in_ok-sets.ensures.steady) c.in_ok-sets.ensures.over
+    let v = c.incidence-table.result.now in
+    record {
+      table = v;
+      incidence = c.incidence-table.ensures.incidence;
+      over = live_first c.args.graph.now c.incidence-table.ensures.graph v
+          c.incidence-table.ensures.incidence c.args.root c.requires (live_over v l)
+          c.in_ok-region.ensures.region
+          (rw c.table-local.ensures at c.in_ok-cuts.ensures.starts) c.in_ok-cuts.ensures.none
+          (rw c.nodes.ensures.nodes at c.number_of_root-here.ensures.inside)
+          (rw c.nodes.ensures.nodes at c.number_of_root-here.ensures.is)
+          (rw c.table-local.ensures at c.in_ok-sets.ensures.steady) c.in_ok-sets.ensures.over;
+    }
 
 pub returns-clause-root : goal.returns-clause-root
 returns-clause-root c = rw c.nodes.ensures.nodes at c.number_of_root-here.ensures.is
@@ -45,13 +49,16 @@ returns-clause-best c =
       cuts = c.in_ok-cuts.cuts;
       here = c.number_of_root-here.result;
     } in
-    best_live c.args.graph.now c.incidence.ensures.graph c.incidence.result.now
-    c.incidence.ensures.incidence c.args.root c.requires l c.in_ok-region.ensures.region
+    let v = c.incidence-table.result.now in
+    best_of c.args.graph.now v c.incidence-table.ensures.incidence no_cut all_allowed l
+    (best_live c.args.graph.now c.incidence-table.ensures.graph v
+    c.incidence-table.ensures.incidence c.args.root c.requires (live_over v l)
+    c.in_ok-region.ensures.region
     (rw c.table-local.ensures at c.in_ok-cuts.ensures.starts) c.in_ok-cuts.ensures.none
     (rw c.nodes.ensures.nodes at c.number_of_root-here.ensures.inside)
     (rw c.nodes.ensures.nodes at c.number_of_root-here.ensures.is)
     (rw c.table-local.ensures at c.in_ok-sets.ensures.steady) c.in_ok-sets.ensures.over
-    (rw c.table-local.ensures at c.in_ok-sets.ensures.every)
+    (rw c.table-local.ensures at c.in_ok-sets.ensures.every))
 
 pub returns-clause-cost : goal.returns-clause-cost
 returns-clause-cost c =
@@ -61,10 +68,17 @@ returns-clause-cost c =
       cuts = c.in_ok-cuts.cuts;
       here = c.number_of_root-here.result;
     } in
-    cost_first c.args.graph.now c.incidence.ensures.graph c.incidence.result.now
-    c.incidence.ensures.incidence c.args.root c.requires l c.in_ok-region.ensures.region
-    (rw c.table-local.ensures at c.in_ok-cuts.ensures.starts) c.in_ok-cuts.ensures.none
-    (rw c.nodes.ensures.nodes at c.number_of_root-here.ensures.inside)
-    (rw c.nodes.ensures.nodes at c.number_of_root-here.ensures.is)
-    (rw c.table-local.ensures at c.in_ok-sets.ensures.steady) c.in_ok-sets.ensures.over
-    c.in_ok-region.ensures.part c.in_ok-region.ensures.local
+    let v = c.incidence-table.result.now in
+    omega (
+      arith,
+      cost_at c.args.graph.now v c.incidence-table.ensures.incidence c.in_ok-region.region.own
+          c.in_ok-sets.sets,
+      cost_first c.args.graph.now c.incidence-table.ensures.graph v
+          c.incidence-table.ensures.incidence c.args.root c.requires (live_over v l)
+          c.in_ok-region.ensures.region
+          (rw c.table-local.ensures at c.in_ok-cuts.ensures.starts) c.in_ok-cuts.ensures.none
+          (rw c.nodes.ensures.nodes at c.number_of_root-here.ensures.inside)
+          (rw c.nodes.ensures.nodes at c.number_of_root-here.ensures.is)
+          (rw c.table-local.ensures at c.in_ok-sets.ensures.steady) c.in_ok-sets.ensures.over
+          c.in_ok-region.ensures.part c.in_ok-region.ensures.local,
+    )
