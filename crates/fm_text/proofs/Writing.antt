@@ -1,14 +1,14 @@
 -- What is written reads back.
-use Rattle.std.proofs.Common.{◌≡◌, ◌<◌, ◌≤◌, ◌+◌, ◌-◌, ◌*◌, ◌/◌, ◌%◌, ◌^◌, ℕ, true, false, List, []}
-use Rattle.std.proofs.Common.{◌∷◌, ◌++◌, length, replicate, zero, suc, take, drop, nat_lt, add-one}
+use Rattle.std.proofs.Common.{◌≡◌, ◌<◌, ◌≤◌, ◌+◌, ◌-◌, ◌*◌, ◌/◌, ◌%◌, ◌^◌, ℕ, true, List, []}
+use Rattle.std.proofs.Common.{◌∷◌, ◌++◌, length, replicate, zero, suc, take, drop, nat_lt, add-one, set}
 use Rattle.std.proofs.Common.{lit<, length-append, append-nil, refl, arith, Some, ap, sym, ◌∙◌}
 use Rattle.std.specs.Prelude.{◌==◌, decimal}
 use Rattle.std.specs.List.{list_all, position_or_len}
 use Rattle.std.specs.Char.{is_ascii_digit}
 use Rattle.std.specs.Str.Parse.{digits_value}
 use Rattle.std.proofs.lemmas.Grind.{common_steps}
-use Rattle.std.specs.Fmt.{padded_integral, format_spec, styled_decimal, char_count}
-use Rattle.std.proofs.lemmas.List.{length-replicate}
+use Rattle.std.proofs.lemmas.List.{length-replicate, take-append-drop, take-replicate, drop_all}
+use Rattle.std.proofs.lemmas.List.{drop-replicate, drop-append-le, drop-set}
 use Rattle.std.specs.Str.{all_ascii_digits}
 use Rattle.std.proofs.Math.Seq.{take-append_seam}
 use Rattle.std.proofs.lemmas.Fmt.{digits_decimal, digits_value-decimal, decimal_nonempty}
@@ -18,22 +18,51 @@ use Rattle.fm_bytes.specs.Decimals.{are_digits}
 use Rattle.fm_text.specs.Time.{value_of, fraction_of, moment_from, has_dot, time_of}
 use Rattle.fm_text.specs.Time.{time_text, nine_digits}
 
-padded_is : (ds : List ℕ) → padded_integral (format_spec 32 0 4 9 (2 ^ 64 - 1)) false [] ds
-    ≡ nine_digits ds
-unfolding padded_integral char_count
-padded_is ds =
-    let e : 9 - length ds - 0 - 0 ≡ 9 - length ds = omega arith in
-    ap (λ n. replicate n 48 ++ (ds ++ [])) e
-    ∙ ap (λ r. replicate (9 - length ds) 48 ++ r) (append-nil ds)
+pub nine_at_most : (n : ℕ) → n < 1000000000 → length (decimal n) ≤ 9
+nine_at_most n h = length-decimal-le 9 n (lit< tt) h (omega arith)
 
--- what a format writes is the text of the moment
-pub written : (moment : ℕ) (shown text : List ℕ)
-    → shown ≡ styled_decimal (format_spec 32 0 4 9 (2 ^ 64 - 1)) (moment % 1000000000)
-    → text ≡ decimal (moment / 1000000000) ++ (46 ∷ shown) → text ≡ time_text moment
+pub twenty_at_most : (n : ℕ) → n < 2 ^ 64 → length (decimal n) ≤ 20
+twenty_at_most n h = length-decimal-le 20 n (lit< tt) (omega arith) h
+
+-- what stands from a place on, of zeros behind which digits were written
+behind : (zeros start : ℕ) (digits text : List ℕ)
+    → drop start text ≡ digits ++ drop zeros (replicate zeros 48)
+    → take start text ≡ take start (replicate zeros 48) → start ≤ zeros
+    → text ≡ replicate start 48 ++ digits
+behind zeros start digits text d t h =
+    sym (take-append-drop start text)
+    ∙ ap (λ r. r ++ drop start text) (t ∙ take-replicate start zeros 48 h)
+    ∙ ap (λ r. replicate start 48 ++ r)
+    (d ∙ ap (λ r. digits ++ r) (drop_all zeros (replicate zeros 48)
+    (rw length-replicate (omega arith))) ∙ append-nil digits)
+
+-- what stands behind the dot
+nine_behind : (start : ℕ) (digits : List ℕ) → start + length digits ≡ 30 → 21 ≤ start
+    → drop 21 (replicate start 48 ++ digits) ≡ nine_digits digits
+nine_behind start digits h l =
+    drop-append-le 21 (replicate start 48) digits (rw length-replicate l)
+    ∙ ap (λ r. r ++ digits) (drop-replicate 21 start 48
+    ∙ ap (λ n. replicate n 48) (let e : start - 21 ≡ 9 - length digits = omega arith in e))
+
+-- what is written into thirty places from behind is the text of the moment
+pub written : (moment start begin : ℕ) (text both : List ℕ)
+    → start + length (decimal (moment % 1000000000)) ≡ 30
+    → drop start text ≡ decimal (moment % 1000000000) ++ drop 30 (replicate 30 48)
+    → take start text ≡ take start (replicate 30 48)
+    → drop begin both ≡ decimal (moment / 1000000000) ++ drop 20 (set text 20 46)
+    → drop begin both ≡ time_text moment
 unfolding time_text
-written moment shown text e f =
-    f ∙ ap (λ r. decimal (moment / 1000000000) ++ (46 ∷ r))
-    (e ∙ padded_is (decimal (moment % 1000000000)))
+written moment start begin text both sum d t e =
+    let digits = decimal (moment % 1000000000) in
+    let short = nine_at_most (moment % 1000000000) (omega arith) in
+    let whole = behind 30 start digits text d t (omega (arith, sum)) in
+    let long : length text ≡ 30 =
+    ap length whole ∙ length-append (replicate start 48) digits
+    ∙ rw length-replicate sum in
+    e ∙ ap (λ r. decimal (moment / 1000000000) ++ r)
+    (drop-set text 20 46 (omega (arith, long))
+    ∙ ap (λ r. 46 ∷ r) (ap (λ r. drop 21 r) whole
+    ∙ nine_behind start digits sum (omega (arith, sum, short))))
 
 -- digits before a dot are cut off at it
 pos_digits : (ds rest : List ℕ) → list_all is_ascii_digit ds ≡ true
@@ -78,7 +107,7 @@ nine_long ds h = simp (length-append, length-replicate) (omega arith)
 fraction_back : (n : ℕ) → n < 1000000000 → fraction_of (nine_digits (decimal n)) ≡ Some n
 fraction_back n h =
     let small : n < 2 ^ 64 = omega arith in
-    let short = length-decimal-le 9 n (lit< tt) h small in
+    let short = nine_at_most n h in
     let long = nine_long (decimal n) short in
     let plain = all_digits (decimal n) ∙ digits_decimal own n small in
     fraction_back_at (nine_digits (decimal n)) n long

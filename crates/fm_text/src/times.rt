@@ -3,6 +3,7 @@ ghost use Rattle.fm_text.specs.Time.{value_of, time_text, fraction_of, moment_fr
 
 use crate::numbers::read_number;
 use fm_bytes::NoMemory;
+use itoa::write_digits;
 
 /// Nanoseconds in a second.
 const SECOND: u64 = 1_000_000_000;
@@ -15,10 +16,11 @@ pub fn write_time(moment: u64, out: &mut Vec<u8>) -> Result<(), NoMemory>
     ensures err { OnErr result (out.new.items ≡ out.old.items) }
     ensures reads_back { moment < 2 ^ 62 → time_of (time_text moment) ≡ Some moment }
 {
-    let seconds = moment / SECOND;
-    let nanoseconds = moment % SECOND;
-    let text = format!(in *out.allocator(); "{seconds}.{nanoseconds:09}")?;
-    out.extend_from_slice(text.as_bytes())?;
+    let mut text = [b'0'; 30];
+    write_digits(moment % SECOND, &mut text, 30);
+    text[20] = b'.';
+    let begin = write_digits(moment / SECOND, &mut text, 20);
+    out.extend_from_slice(&text[begin..])?;
     Ok(())
 }
 
