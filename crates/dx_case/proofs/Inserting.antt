@@ -288,6 +288,10 @@ module _ (x : Link) (xs : List Link) (at : ℕ) (place : IsPlaceOf is_before_lin
   link_behind y l is later d =
       ap (is_before_link x) (get_or_default xs at d y l ∙ sym is) ∙ later
 
+-- how long a list is that is another one
+pub same_count : {A : Type 0} (n : ℕ) (xs ys : List A) → xs ≡ ys → length xs ≡ n → n ≡ length ys
+same_count n xs ys e l = sym l ∙ ap length e
+
 -- a list that was written back through a slice
 pub write_back : {A : Type 0} (n : ℕ) (new old : List A) → length new ≡ length old
     → n ≡ length old → take n (new ++ drop (length new) old) ≡ new

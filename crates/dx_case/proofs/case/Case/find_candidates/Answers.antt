@@ -1,4 +1,4 @@
-use Rattle.std.proofs.Common.{◌≡◌, ◌∷◌, [], ◌∙◌, ℕ, true, length, sym, ap, subst, arith}
+use Rattle.std.proofs.Common.{◌≡◌, ◌∷◌, [], ◌∙◌, ℕ, true, sym, ap, subst}
 use Rattle.std.specs.List.{filter}
 use Rattle.std.proofs.lemmas.List.{get_or_read}
 use Rattle.ev_graph.specs.Sets.{is_member}
@@ -7,7 +7,7 @@ use Rattle.ev_graph.proofs.Occurrences.{all_in, in_at}
 use Rattle.dx_live.specs.Live.{no_cut, all_allowed}
 use Rattle.dx_case.specs.Candidates.{keeps}
 use Rattle.dx_case.proofs.Fresh.{report_below}
-use Rattle.dx_case.proofs.Inserting.{write_back}
+use Rattle.dx_case.proofs.Inserting.{write_back, same_count}
 use Rattle.dx_case.proofs.Steps.{lives_of, opened_case}
 use Rattle.dx_case.proofs.case.Case.find_candidates.Goals as goal
 
@@ -44,7 +44,8 @@ returns-clause-case c =
     c.change_each.ensures in
     let kept = c.settle.ensures.kept ∙ ap (filter (keeps observed))
     (write_back fresh.candidates.len mid fresh.candidates.items changed.count
-    (omega (arith, ap length c.as_mut_slice.ensures.value, c.as_mut_slice.ensures.len))) in
+    (same_count fresh.candidates.len _ fresh.candidates.items c.as_mut_slice.ensures.value
+    c.as_mut_slice.ensures.len)) in
     rw (
       s.opened,
       s.time,

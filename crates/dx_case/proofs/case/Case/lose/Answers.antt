@@ -1,7 +1,7 @@
-use Rattle.std.proofs.Common.{length, ap, ◌∙◌, arith}
+use Rattle.std.proofs.Common.{ap, ◌∙◌}
 use Rattle.std.specs.List.{filter}
 use Rattle.dx_case.specs.Candidates.{keeps}
-use Rattle.dx_case.proofs.Inserting.{write_back}
+use Rattle.dx_case.proofs.Inserting.{write_back, same_count}
 use Rattle.dx_case.proofs.case.Case.lose.Goals as goal
 
 pub returns-clause-changed : goal.returns-clause-changed
@@ -19,6 +19,7 @@ returns-clause-changed c =
       kept = c.settle.ensures.kept
           ∙ ap (filter (keeps c.args.self.now.observed.items))
           (write_back c.args.self.now.candidates.len new old changed.count
-          (omega (arith, ap length c.as_mut_slice.ensures.value, c.as_mut_slice.ensures.len)));
+          (same_count c.args.self.now.candidates.len _ old c.as_mut_slice.ensures.value
+          c.as_mut_slice.ensures.len));
       waiting = c.settle.ensures.waiting;
     }
