@@ -17,14 +17,21 @@ pub struct Cuts {
     /// Where the marks of each instance begin.
     starts: Vec<u32>,
     marks: Vec<bool>,
+    /// Whether some link may be cut: where none is, no mark is looked for.
+    is_marked: bool,
 }
 
 impl Model for Cuts {
+    ghost use Rattle.std.specs.Prelude.{◌≡◌, ℕ, false};
+    ghost use Rattle.ev_graph.specs.Sets.{has_mark};
     ghost use Rattle.dx_live.specs.Cuts.{CutsValue};
 
     ghost Value = { CutsValue };
 
     ghost view = { λ c. record { starts = c.starts.items; marks = c.marks.items } };
+
+    ghost invariant = { λ c.
+        c.is_marked ≡ false → (e : ℕ) → has_mark c.marks.items e ≡ false };
 }
 
 fn starts_of(alloc: Global, table: &Incidence) -> Result<(Vec<u32>, u32), NoMemory>
@@ -54,7 +61,11 @@ impl Cuts {
     {
         let (starts, total) = starts_of(alloc, table)?;
         let marks = vec![in alloc; false; total as usize]?;
-        Ok(Cuts { starts, marks })
+        Ok(Cuts {
+            starts,
+            marks,
+            is_marked: false,
+        })
     }
 
     /// Equal marks.
@@ -63,7 +74,11 @@ impl Cuts {
     {
         let starts = Vec::from_slice(alloc, self.starts.as_slice())?;
         let marks = Vec::from_slice(alloc, self.marks.as_slice())?;
-        Ok(Cuts { starts, marks })
+        Ok(Cuts {
+            starts,
+            marks,
+            is_marked: self.is_marked,
+        })
     }
 
     /// Where the mark of an effect stands, of the instance with these effects.
@@ -94,6 +109,9 @@ impl Cuts {
         ensures { result ≡ (is_member effects.now effect
             && has_mark self.now.marks (mark_place self.now effects.now place effect)) }
     {
+        if !self.is_marked {
+            return false;
+        }
         match self.place_of(effects, place, effect) {
             Some(at) => self.has(at),
             None => false,
@@ -105,6 +123,7 @@ impl Cuts {
         requires { at < length self.old.marks }
         ensures { self.new ≡ record self.old { marks = slice_set self.old.marks at true } }
     {
+        self.is_marked = true;
         self.marks[at] = true;
     }
 }
