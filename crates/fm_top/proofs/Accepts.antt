@@ -6,6 +6,14 @@ use Rattle.std.specs.Prelude.{MatchResult}
 use Rattle.std.specs.Io.KnownBytes.{Appends, Consumes, IsAtEnd}
 use Rattle.std.specs.Result.{IfErr, OnOk}
 use Rattle.std.proofs.lemmas.List.{length-map}
+use Rattle.fm_answers.specs.Accounts.{Accounts}
+use Rattle.fm_answers.specs.Answers.{answers}
+use Rattle.fm_answers.specs.StreamsAt.{SourceAt, SinkAt}
+use Rattle.fm_answers.specs.Running.{Line, Taken, StopsAt, RanAll, RanUntil}
+use Rattle.fm_answers.specs.Stops.{of_store}
+use Rattle.fm_answers.specs.declared.stops.Stop.{Stop}
+use Rattle.fm_answers.specs.declared.stops.Stop.TheVariants.{Read, Write, Disk, Memory, Full}
+use Rattle.fm_answers.proofs.Weaker.{all_weaker, until_weaker}
 use Rattle.fm_core.specs.Book.{ModuleState}
 use Rattle.fm_entry.specs.Entries.{entry_bytes}
 use Rattle.fm_entry.specs.declared.entry.Entry.{Entry}
@@ -45,72 +53,12 @@ use Rattle.fm_store.proofs.OpeningLaws.{reads_as_book}
 use Rattle.fm_store.proofs.StoreReads.{left_active, says_left, store_reads}
 use Rattle.fm_top.specs.Accepting.{AcceptRan, AcceptedAll, AcceptedUntil, NotOpened, OpeningStops}
 use Rattle.fm_top.specs.Accepting.{DisksAccount, Grew, ImageReads, LimitIs}
-use Rattle.fm_top.specs.Accounts.{Accounts}
-use Rattle.fm_top.specs.Answers.{answers}
 use Rattle.fm_top.specs.Kept.{BookAt}
 use Rattle.fm_top.specs.Lending.{six_paired}
-use Rattle.fm_top.specs.Outside.{SourceAt, SinkAt, disks_at}
+use Rattle.fm_top.specs.Outside.{disks_at}
 use Rattle.fm_top.specs.Recording.{payloads_of, store_with, FullCause, BookLeft, Recorded}
-use Rattle.fm_top.specs.Running.{Line, Taken, StopsAt, RanAll, RanUntil}
-use Rattle.fm_top.specs.Stops.{of_store}
-use Rattle.fm_top.specs.declared.stops.Stop.{Stop}
-use Rattle.fm_top.specs.declared.stops.Stop.TheVariants.{Read, Write, Disk, Memory, Full}
 use Rattle.fm_top.proofs.Lending.{six_of_paired}
 use Rattle.fm_top.proofs.SixDisks.{told_all, images_all, all_only_read, rose_any, none_counts}
-
--- a run, in weaker words of what became of the entries
-stops_weaker : (strong weak : Taken) (puts : List ℕ → Type 0) (answered : List Line → List ℕ)
-    (lines : List Line) (line : Line) (stop : Stop)
-    → ((es : List Entry) (last : Option (Stop × Entry)) → strong es last → weak es last)
-    → StopsAt strong puts answered lines line stop → StopsAt weak puts answered lines line stop
-stops_weaker strong weak puts answered lines line Write on (m, past, put, took) =
-    (m, past, put, on _ None took)
-stops_weaker strong weak puts answered lines line Disk on (put, (entry, only, last)) =
-    (put, (entry, only, on _ (Some (Disk, entry)) last))
-stops_weaker strong weak puts answered lines line (Full kind) on (put, (entry, only, last)) =
-    (put, (entry, only, on _ (Some (Full kind, entry)) last))
-stops_weaker strong weak puts answered lines line Memory on (put, took) =
-    (put, elim took [ inl none ↦ inl (on _ None none) | inr one ↦ inr (on _ None one) ])
-stops_weaker strong weak puts answered lines line _ on stops = absurd stops
-
-pub all_weaker : (strong weak : Taken) (puts : List ℕ → Type 0) (is_told : Bool) (next : ℕ)
-    (consumes : List ℕ → Type 0) (at_end : Type 0)
-    → ((es : List Entry) (last : Option (Stop × Entry)) → strong es last → weak es last)
-    → RanAll strong puts is_told next consumes at_end
-    → RanAll weak puts is_told next consumes at_end
-all_weaker strong weak puts is_told next consumes at_end on ran = record {
-  read = ran.read;
-  consumed = ran.consumed;
-  whole = ran.whole;
-  within = ran.within;
-  put = ran.put;
-  took = on _ None ran.took;
-}
-
-pub until_weaker : (strong weak : Taken) (puts : List ℕ → Type 0) (is_told : Bool) (next : ℕ)
-    (consumes : List ℕ → Type 0) (at_end : Type 0) (stop : Stop)
-    → ((es : List Entry) (last : Option (Stop × Entry)) → strong es last → weak es last)
-    → RanUntil strong puts is_told next consumes at_end stop
-    → RanUntil weak puts is_told next consumes at_end stop
-until_weaker strong weak puts is_told next consumes at_end stop on (inl ran) = inl (record {
-  read = ran.read;
-  more = ran.more;
-  consumed = ran.consumed;
-  within = ran.within;
-  why = ran.why;
-  put = ran.put;
-  took = on _ None ran.took;
-})
-until_weaker strong weak puts is_told next consumes at_end stop on (inr ran) = inr (record {
-  read = ran.read;
-  consumed = ran.consumed;
-  within = ran.within;
-  lines = ran.lines;
-  line = ran.line;
-  there = ran.there;
-  stops = stops_weaker strong weak puts (answers is_told 1 next) ran.lines ran.line stop on
-      ran.stops;
-})
 
 -- ---- which limit is reached
 

@@ -2,21 +2,21 @@
 use Rattle.std.proofs.Common.{◌≡◌, ◌⊎◌, inl, inr, List, true, Result, Ok, Err, subst}
 use Rattle.std.specs.Result.{MatchResult}
 use Rattle.std.specs.Io.KnownBytes.{Appends}
+use Rattle.fm_answers.specs.Answers.{answers, entries_of}
+use Rattle.fm_answers.specs.Running.{Line}
+use Rattle.fm_answers.specs.declared.stops.Stop.{Stop}
+use Rattle.fm_answers.specs.declared.stops.Stop.TheVariants.{Act}
 use Rattle.fm_core.specs.Book.{ModuleState, next_number}
 use Rattle.fm_line.specs.Lines.{lines_of}
 use Rattle.fm_logs.specs.Contents.{Contents}
 use Rattle.fm_logs.specs.StoreBook.{StoreBook}
 use Rattle.fm_modules_laws.proofs.OneBook.{books_one}
 use Rattle.fm_store.specs.StoreLeft.{ReadsLike}
-use Rattle.fm_top.specs.Answers.{answers, entries_of}
 use Rattle.fm_top.specs.Headline.{HasAll, HasAnswered, Held, HoldsOfBook, WereAnswered}
 use Rattle.fm_top.specs.Headline.{HasAfter, HasEach, HeldAfter}
 use Rattle.fm_top.specs.Kept.{BookAt}
 use Rattle.fm_top.specs.Outside.{Leaves, Outside}
 use Rattle.fm_top.specs.Recording.{store_with}
-use Rattle.fm_top.specs.Running.{Line}
-use Rattle.fm_top.specs.declared.stops.Stop.{Stop}
-use Rattle.fm_top.specs.declared.stops.Stop.TheVariants.{Act}
 
 -- what is held of one book, which is there
 pub record HeldOf (before after : Outside) (told : Contents) (ran : Result (Unit {0}) Stop)

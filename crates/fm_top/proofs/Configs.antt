@@ -4,6 +4,7 @@ use Rattle.std.proofs.Common.{◌∙◌, ap, subst}
 use Rattle.std.specs.Global.{Vec}
 use Rattle.dx_engine.specs.Diagnosers.{DiagnoserOf}
 use Rattle.fm_admin.proofs.Tellings.{drain_undamaged, drain_why, drained_of, drained_open}
+use Rattle.fm_command.specs.declared.words.AdminCommand.TheVariants.{Config}
 use Rattle.fm_config.specs.Sizes.{IsConfText}
 use Rattle.fm_core.specs.Book.{ModuleState}
 use Rattle.fm_core.specs.Hands.{HandOf}
@@ -21,7 +22,6 @@ use Rattle.fm_summary.specs.DrainedSummary.{diagnosers}
 use Rattle.fm_settled.specs.BaseLimits.{figures_of}
 use Rattle.fm_top.specs.Admin.{AdminDone, AdminRefused}
 use Rattle.fm_top.specs.Limits.{DrainLimit}
-use Rattle.fm_top.specs.declared.words.AdminCommand.TheVariants.{Config}
 use Rattle.fm_top.proofs.Fmds.{reads_floored}
 use Rattle.fm_top.proofs.Texts.{same_counts, told_limit, told_refused}
 

@@ -2,23 +2,24 @@
 use Rattle.std.proofs.Common.{◌≡◌, ◌⊎◌, ℕ, ◌∷◌, List, Bool, true, Option, Some, Result, Ok}
 use Rattle.std.proofs.Common.{Err, OnOk, IfErr, MatchResult, map, refl, sym, subst, inl, inr}
 use Rattle.std.specs.Io.KnownBytes.{Appends, Consumes, IsAtEnd}
+use Rattle.fm_answers.specs.Accounts.{Accounts}
+use Rattle.fm_answers.specs.Ending.{EndsAs}
+use Rattle.fm_answers.specs.StreamsAt.{SinkAt}
+use Rattle.fm_answers.specs.Replaying.{ReplayedAll, ReplayStops}
+use Rattle.fm_answers.specs.Running.{Taken, RanUntil}
+use Rattle.fm_answers.specs.declared.status.ToolStatus.{ToolStatus}
+use Rattle.fm_answers.specs.declared.stops.Stop.{Stop}
+use Rattle.fm_answers.specs.declared.stops.Stop.TheVariants.{Damaged, Read, Write, Disk, Memory}
+use Rattle.fm_answers.specs.declared.stops.Stop.TheVariants.{Full, Act}
+use Rattle.fm_command.specs.declared.words.Command.{Command}
+use Rattle.fm_command.specs.declared.words.Command.TheVariants.{Accept, Replay}
 use Rattle.fm_logs.specs.Contents.{Contents}
 use Rattle.fm_top.specs.Accepting.{AcceptRan, AcceptedUntil, Grew, NotOpened, OpeningStops}
-use Rattle.fm_top.specs.Accounts.{Accounts}
 use Rattle.fm_top.specs.Calls.{IsCaused, Does, Handed, WorksOn}
-use Rattle.fm_top.specs.Ending.{EndsAs}
 use Rattle.fm_top.specs.Headline.{AreFromBefore}
 use Rattle.fm_top.specs.Kept.{BookAt}
 use Rattle.fm_top.specs.Order.{Goes, IsOutsideFault, IsLimit, looks, world_of}
-use Rattle.fm_top.specs.Outside.{Outside, SinkAt, Tells, disk_counts, counts_of}
-use Rattle.fm_top.specs.Replaying.{ReplayedAll, ReplayStops}
-use Rattle.fm_top.specs.Running.{Taken, RanUntil}
-use Rattle.fm_top.specs.declared.status.ToolStatus.{ToolStatus}
-use Rattle.fm_top.specs.declared.stops.Stop.{Stop}
-use Rattle.fm_top.specs.declared.stops.Stop.TheVariants.{Damaged, Read, Write, Disk, Memory}
-use Rattle.fm_top.specs.declared.stops.Stop.TheVariants.{Full, Act}
-use Rattle.fm_top.specs.declared.words.Command.{Command}
-use Rattle.fm_top.specs.declared.words.Command.TheVariants.{Accept, Replay}
+use Rattle.fm_top.specs.Outside.{Outside, Tells, disk_counts, counts_of}
 use Rattle.fm_top.proofs.Headlines.{headline_accept}
 
 -- what is said of the words of a command is said of the words

@@ -6,6 +6,7 @@ use Rattle.std.specs.Global.{Vec}
 use Rattle.dx_engine.specs.Diagnosers.{DiagnoserOf}
 use Rattle.fm_admin.specs.Dumping.{DumpsErrors, IsErrorsOf, IsErrorsText, IsFaultsText}
 use Rattle.fm_admin.specs.Telling.{TellRefused, TellsBook, WasDrained}
+use Rattle.fm_command.specs.declared.words.AdminCommand.TheVariants.{Dump}
 use Rattle.fm_conclude.specs.Concluding.{NoDiskFailed}
 use Rattle.fm_core.specs.Book.{ModuleState}
 use Rattle.fm_core.specs.Hands.{HandOf}
@@ -29,7 +30,6 @@ use Rattle.fm_store.specs.StoreOf.{StoreBaseOf, StoreOf, StoreStandsFor, of_two}
 use Rattle.fm_summary.specs.DrainedSummary.{diagnosers}
 use Rattle.fm_top.specs.Admin.{AdminDone}
 use Rattle.fm_top.specs.Dump.{IsDump, error_log}
-use Rattle.fm_top.specs.declared.words.AdminCommand.TheVariants.{Dump}
 use Rattle.fm_top.proofs.Texts.{left_drained, same_counts, told_limit, told_refused}
 
 module _ {D : Type 0} (g : Ghosts D) where

@@ -1,6 +1,14 @@
 -- What `esc` did, in the words of the whole call.
 use Rattle.std.proofs.Common.{◌≡◌, inl, inr, ℕ, List, [], ◌∷◌, map, refl, sym, subst, OnOk, IfErr}
 use Rattle.std.proofs.Common.{Option, Some, None, Result, Ok, Err}
+use Rattle.fm_answers.specs.Ending.{EndsAs}
+use Rattle.fm_answers.specs.StreamsAt.{SinkAt, source_at}
+use Rattle.fm_answers.specs.Refusing.{PutCut}
+use Rattle.fm_answers.specs.Stops.{of_compiling, of_input}
+use Rattle.fm_answers.specs.declared.status.ToolStatus.{ToolStatus}
+use Rattle.fm_answers.specs.declared.stops.Stop.{Stop}
+use Rattle.fm_answers.specs.declared.stops.Stop.TheVariants.{Write, Memory}
+use Rattle.fm_command.specs.declared.words.Command.TheVariants.{Esc, EscInput}
 use Rattle.fm_outer.specs.declared.source.Source.{Ghosts}
 use Rattle.fm_esc.specs.Compiling.{CompileCause, IsCompiled}
 use Rattle.fm_esc.specs.InputListing.{InputCause, IsListed}
@@ -11,19 +19,12 @@ use Rattle.fm_esc.specs.declared.faults.InputFault.TheVariants as inputs
 use Rattle.fm_esc.specs.declared.graphs.GraphForm.{GraphForm}
 use Rattle.fm_sources.specs.Sources.{given}
 use Rattle.fm_top.specs.Calls.{IsCaused, Does}
-use Rattle.fm_top.specs.Ending.{EndsAs}
 use Rattle.fm_top.specs.Esc.{EscEnds, EscInputEnds, TextEnds}
 use Rattle.fm_top.specs.Esc.{after_listing}
 use Rattle.fm_top.specs.Headline.{AreFromBefore}
 use Rattle.fm_top.specs.Order.{Goes, Look, at_rules, at_topology, at_graphs, looks, world_of}
-use Rattle.fm_top.specs.Outside.{Outside, SinkAt, standing, source_at, given_of}
+use Rattle.fm_top.specs.Outside.{Outside, standing, given_of}
 use Rattle.fm_top.specs.Outside.{disk_counts, counts_of}
-use Rattle.fm_top.specs.Refusing.{PutCut}
-use Rattle.fm_top.specs.Stops.{of_compiling, of_input}
-use Rattle.fm_top.specs.declared.status.ToolStatus.{ToolStatus}
-use Rattle.fm_top.specs.declared.stops.Stop.{Stop}
-use Rattle.fm_top.specs.declared.stops.Stop.TheVariants.{Write, Memory}
-use Rattle.fm_top.specs.declared.words.Command.TheVariants.{Esc, EscInput}
 use Rattle.fm_top.proofs.Inits.{refused_goes, refused_caused, done_quiet}
 use Rattle.fm_top.proofs.Standing.{reads_standing, gave_text}
 

@@ -2,11 +2,18 @@
 use Rattle.std.proofs.Common.{◌≡◌, inl, inr, ℕ, List, refl, sym, subst, Some}
 use Rattle.std.proofs.Common.{OnOk, IfErr, Result, Ok, Err}
 use Rattle.std.specs.declared.option.Option.{Option}
+use Rattle.fm_answers.specs.Ending.{EndsAs}
+use Rattle.fm_answers.specs.StreamsAt.{SinkAt}
+use Rattle.fm_answers.specs.declared.status.ToolStatus.{ToolStatus}
+use Rattle.fm_answers.specs.declared.stops.Stop.{Stop}
+use Rattle.fm_answers.specs.declared.stops.Stop.TheVariants.{Read, Write, Disk, Damaged, Memory}
+use Rattle.fm_answers.specs.declared.stops.Stop.TheVariants.{Full}
+use Rattle.fm_answers.specs.declared.stops.Stop.TheVariants.{Act, NotFound}
+use Rattle.fm_command.specs.declared.words.Command.TheVariants.{Explain}
 use Rattle.fm_logs.specs.Contents.{Contents}
 use Rattle.fm_top.specs.Accepting.{OpeningStops}
 use Rattle.fm_top.specs.Admin.{StoreUntold}
 use Rattle.fm_top.specs.Calls.{IsCaused, Does}
-use Rattle.fm_top.specs.Ending.{EndsAs}
 use Rattle.fm_top.specs.Esc.{TextEnds}
 use Rattle.fm_top.specs.Explain.{ExplainRan, ExplainTried, ExplainedOf, StoreWithout}
 use Rattle.fm_top.specs.Fmd.{ConcludingStops}
@@ -14,12 +21,7 @@ use Rattle.fm_top.specs.Headline.{Headline, HoldsOfBook, LikeBook}
 use Rattle.fm_top.specs.Kept.{BookAt}
 use Rattle.fm_top.specs.Limits.{draining_limit}
 use Rattle.fm_top.specs.Order.{Goes, looks, world_of}
-use Rattle.fm_top.specs.Outside.{Outside, SinkAt, Tells, counts_of}
-use Rattle.fm_top.specs.declared.status.ToolStatus.{ToolStatus}
-use Rattle.fm_top.specs.declared.stops.Stop.{Stop}
-use Rattle.fm_top.specs.declared.stops.Stop.TheVariants.{Read, Write, Disk, Damaged, Memory, Full}
-use Rattle.fm_top.specs.declared.stops.Stop.TheVariants.{Act, NotFound}
-use Rattle.fm_top.specs.declared.words.Command.TheVariants.{Explain}
+use Rattle.fm_top.specs.Outside.{Outside, Tells, counts_of}
 use Rattle.fm_top.proofs.Doing.{Rests, quiet_counts}
 use Rattle.fm_top.proofs.Escs.{ok_no_err}
 use Rattle.fm_top.proofs.Texts.{like_drained}

@@ -6,6 +6,8 @@ use Rattle.std.specs.Option.{option_map}
 use Rattle.dx_engine.specs.Diagnosers.{DiagnoserOf}
 use Rattle.fm_admin.specs.Explaining.{IsExplanationOf}
 use Rattle.fm_admin.specs.Telling.{TellRefused, TellsBook, WasDrained}
+use Rattle.fm_answers.specs.Stops.{of_store}
+use Rattle.fm_answers.specs.declared.stops.Stop.{Stop}
 use Rattle.fm_core.specs.Book.{ModuleState}
 use Rattle.fm_core.specs.Drained.{drained}
 use Rattle.fm_core.specs.Hands.{HandOf}
@@ -33,8 +35,6 @@ use Rattle.fm_top.specs.Headline.{HoldsOfBook, LikeBook}
 use Rattle.fm_top.specs.Kept.{BookAt}
 use Rattle.fm_top.specs.Limits.{draining_limit}
 use Rattle.fm_top.specs.Outside.{Tells, disks_at}
-use Rattle.fm_top.specs.Stops.{of_store}
-use Rattle.fm_top.specs.declared.stops.Stop.{Stop}
 use Rattle.fm_top.proofs.Accepts.{opening_account, opening_stops}
 use Rattle.fm_top.proofs.Fmds.{OpenAt}
 use Rattle.fm_top.proofs.OpenedDisks.{none_rose, opened_at, some_rose, store_left}

@@ -5,6 +5,18 @@ use Rattle.std.specs.List.{AllZip}
 use Rattle.std.specs.Io.KnownBytes.{Appends, Consumes}
 use Rattle.std.proofs.KnownBytes.{Appends-nil, Consumes-nil}
 use Rattle.fm_act.specs.Reconciled.{ActuatorState, FirstFailed, Settled}
+use Rattle.fm_answers.specs.Ended.{ended}
+use Rattle.fm_answers.specs.Ending.{EndsAs}
+use Rattle.fm_answers.specs.StreamsAt.{SourceAt, SinkAt}
+use Rattle.fm_answers.specs.StreamsAt.{source_at}
+use Rattle.fm_answers.specs.Stops.{of_compiling}
+use Rattle.fm_answers.specs.declared.status.ToolStatus.{ToolStatus}
+use Rattle.fm_answers.specs.declared.stops.Stop.{Stop}
+use Rattle.fm_answers.specs.declared.stops.Stop.TheVariants.{Read, Write, Disk, Damaged, Memory}
+use Rattle.fm_answers.specs.declared.stops.Stop.TheVariants.{Full}
+use Rattle.fm_answers.specs.declared.stops.Stop.TheVariants.{Differs, Act}
+use Rattle.fm_answers.proofs.AnswerLists.{answers_none, entries_none}
+use Rattle.fm_command.specs.declared.words.Command.TheVariants.{Fmd}
 use Rattle.fm_core.specs.Book.{next_number}
 use Rattle.fm_logs.specs.Contents.{Contents}
 use Rattle.fm_outer.specs.Failures.{Rose}
@@ -16,8 +28,6 @@ use Rattle.fm_sources.specs.declared.sources.Sources.{Sources}
 use Rattle.fm_store.specs.StoreLeft.{ReadsLike}
 use Rattle.fm_top.specs.Accepting.{AcceptedAll, AcceptedUntil, NotOpened}
 use Rattle.fm_top.specs.Calls.{IsCaused, Does}
-use Rattle.fm_top.specs.Ended.{ended}
-use Rattle.fm_top.specs.Ending.{EndsAs}
 use Rattle.fm_top.specs.Fmd.{ConcludingStops, FmdRan, KeepSame, SettlingEnds, SourcesRead}
 use Rattle.fm_top.specs.Fmd.{StoreDiffers, StoreRan, StoreStops}
 use Rattle.fm_top.specs.Headline.{HasEach, Headline, Unopened}
@@ -25,16 +35,9 @@ use Rattle.fm_top.specs.Order.{AllPass, FirstFinds, Goes, at_store, at_same, loo
 use Rattle.fm_top.specs.Init.{AreUnwritten}
 use Rattle.fm_top.specs.Kept.{BookAt}
 use Rattle.fm_top.specs.Limits.{WorkLimit}
-use Rattle.fm_top.specs.Outside.{Outside, SourceAt, SinkAt, Tells, Leaves, RoseAt, act_counts}
-use Rattle.fm_top.specs.Outside.{DisksAt, counts_of, source_at}
+use Rattle.fm_top.specs.Outside.{Outside, Tells, Leaves, RoseAt, act_counts}
+use Rattle.fm_top.specs.Outside.{DisksAt, counts_of}
 use Rattle.fm_top.specs.Recording.{store_with}
-use Rattle.fm_top.specs.Stops.{of_compiling}
-use Rattle.fm_top.specs.declared.status.ToolStatus.{ToolStatus}
-use Rattle.fm_top.specs.declared.stops.Stop.{Stop}
-use Rattle.fm_top.specs.declared.stops.Stop.TheVariants.{Read, Write, Disk, Damaged, Memory, Full}
-use Rattle.fm_top.specs.declared.stops.Stop.TheVariants.{Differs, Act}
-use Rattle.fm_top.specs.declared.words.Command.TheVariants.{Fmd}
-use Rattle.fm_top.proofs.AnswerLists.{answers_none, entries_none}
 use Rattle.fm_top.proofs.BookHeld.{HeldAfterOf, HeldOf, held_after_each}
 use Rattle.fm_top.proofs.Doing.{run_ends}
 use Rattle.fm_top.proofs.Escs.{cause_caused, cause_goes, cause_standing, ok_no_err}

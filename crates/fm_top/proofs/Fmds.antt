@@ -6,6 +6,14 @@ use Rattle.std.specs.List.{slice_get}
 use Rattle.std.specs.Prelude.{MatchResult}
 use Rattle.std.proofs.lemmas.List.{length-map}
 use Rattle.dx_engine.specs.Diagnosers.{DiagnoserOf}
+use Rattle.fm_answers.specs.Accounts.{Accounts}
+use Rattle.fm_answers.specs.Answers.{entries_of}
+use Rattle.fm_answers.specs.StreamsAt.{SourceAt, SinkAt}
+use Rattle.fm_answers.specs.Stops.{of_store}
+use Rattle.fm_answers.specs.declared.stops.Stop.{Stop}
+use Rattle.fm_answers.specs.declared.stops.Stop.TheVariants.{Read, Write, Disk}
+use Rattle.fm_answers.specs.declared.stops.Stop.TheVariants.{Differs}
+use Rattle.fm_answers.proofs.Weaker.{until_weaker}
 use Rattle.fm_conclude.specs.Concluding.{ConcludesBook, IsConcluded}
 use Rattle.fm_conclude.specs.declared.concluding.Conclusion.{Conclusion}
 use Rattle.fm_core.specs.Book.{ModuleState}
@@ -48,23 +56,17 @@ use Rattle.fm_store.proofs.OpeningLaws.{reads_as_book}
 use Rattle.fm_store.proofs.StoreReads.{entries_left, left_active, records_left, says_left}
 use Rattle.fm_summary.specs.DrainedSummary.{diagnosers}
 use Rattle.fm_top.specs.Accepting.{AcceptedAll, DisksAccount}
-use Rattle.fm_top.specs.Accounts.{Accounts}
-use Rattle.fm_top.specs.Answers.{entries_of}
 use Rattle.fm_top.specs.Fmd.{ConcludingStops, DrainedFrom, KeepSame, StoreConcluded}
 use Rattle.fm_top.specs.Fmd.{StoreDiffers, StoreRan, StoreStops}
 use Rattle.fm_top.specs.FmdStore.{StoreFinished, StoreHalts, StoreIsOther, StoreWorks}
 use Rattle.fm_top.specs.Headline.{HoldsOfBook}
 use Rattle.fm_top.specs.Kept.{BookAt, IsAsRead}
 use Rattle.fm_top.specs.Limits.{concluding_limit}
-use Rattle.fm_top.specs.Outside.{SourceAt, SinkAt, Tells, Leaves, disks_at}
+use Rattle.fm_top.specs.Outside.{Tells, Leaves, disks_at}
 use Rattle.fm_top.specs.Recording.{store_with, Recorded}
 use Rattle.fm_top.specs.RecordingLaws.{recorded_none}
-use Rattle.fm_top.specs.Stops.{of_store}
-use Rattle.fm_top.specs.declared.stops.Stop.{Stop}
-use Rattle.fm_top.specs.declared.stops.Stop.TheVariants.{Read, Write, Disk}
-use Rattle.fm_top.specs.declared.stops.Stop.TheVariants.{Differs}
 use Rattle.fm_top.proofs.Accepts.{disks_account, grew_of, of_no_stream, opening_account}
-use Rattle.fm_top.proofs.Accepts.{opening_stops, until_weaker}
+use Rattle.fm_top.proofs.Accepts.{opening_stops}
 use Rattle.fm_top.proofs.BookHeld.{same_book}
 use Rattle.fm_top.proofs.Exactness.{exact_with}
 use Rattle.fm_top.proofs.SixDisks.{told_all, images_all, all_only_read, rose_any, none_counts}

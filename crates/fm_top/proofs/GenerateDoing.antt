@@ -3,6 +3,13 @@ use Rattle.std.proofs.Common.{◌≡◌, ◌∙◌, ◌⊎◌, inl, inr, ℕ, �
 use Rattle.std.proofs.Common.{append-nil, take, refl, sym, ap, subst, Some, None, OnOk, IfErr, Result, Ok, Err}
 use Rattle.std.proofs.Math.Seq.{take-append-add, take-append_seam, take-length}
 use Rattle.fm_act.specs.Reconciled.{ActuatorState}
+use Rattle.fm_answers.specs.Ending.{EndsAs}
+use Rattle.fm_answers.specs.StreamsAt.{SinkAt}
+use Rattle.fm_answers.specs.declared.status.ToolStatus.{ToolStatus}
+use Rattle.fm_answers.specs.declared.stops.Stop.{Stop}
+use Rattle.fm_answers.specs.declared.stops.Stop.TheVariants.{Read, Write, Disk, Damaged, Memory}
+use Rattle.fm_answers.specs.declared.stops.Stop.TheVariants.{Full, Act}
+use Rattle.fm_command.specs.declared.words.Command.TheVariants.{Generate, GeneratedLines}
 use Rattle.fm_conclude.specs.declared.concluding.Conclusion.{Conclusion}
 use Rattle.fm_core.specs.Book.{ModuleState}
 use Rattle.fm_entry.specs.declared.entry.Entry.{Entry}
@@ -13,7 +20,6 @@ use Rattle.fm_store.specs.StoreLeft.{ReadsLike, ReadsLikeEither}
 use Rattle.fm_top.specs.Accepting.{Grew, GrewFrom, OpeningStops}
 use Rattle.fm_top.specs.Admin.{StoreUnopened}
 use Rattle.fm_top.specs.Calls.{IsCaused, Does}
-use Rattle.fm_top.specs.Ending.{EndsAs}
 use Rattle.fm_top.specs.Esc.{TextEnds}
 use Rattle.fm_top.specs.Fmd.{ConcludingStops, ReadsBased, SettlingEnds}
 use Rattle.fm_top.specs.Generate.{GenerateConcluded, GenerateRan, GenerateStops, GenerateTried}
@@ -25,13 +31,8 @@ use Rattle.fm_top.specs.Headline.{LikeBook, Unopened}
 use Rattle.fm_top.specs.Kept.{BookAt}
 use Rattle.fm_top.specs.Limits.{concluding_limit}
 use Rattle.fm_top.specs.Order.{AllPass, FirstFinds, Goes, at_early, at_store, looks, world_of}
-use Rattle.fm_top.specs.Outside.{Outside, SinkAt, DisksAt, Tells, Leaves, counts_of}
+use Rattle.fm_top.specs.Outside.{Outside, DisksAt, Tells, Leaves, counts_of}
 use Rattle.fm_top.specs.Recording.{store_with}
-use Rattle.fm_top.specs.declared.status.ToolStatus.{ToolStatus}
-use Rattle.fm_top.specs.declared.stops.Stop.{Stop}
-use Rattle.fm_top.specs.declared.stops.Stop.TheVariants.{Read, Write, Disk, Damaged, Memory}
-use Rattle.fm_top.specs.declared.stops.Stop.TheVariants.{Full, Act}
-use Rattle.fm_top.specs.declared.words.Command.TheVariants.{Generate, GeneratedLines}
 use Rattle.fm_top.proofs.BookHeld.{same_book}
 use Rattle.fm_top.proofs.Doing.{Rests, quiet_counts}
 use Rattle.fm_top.proofs.Escs.{ok_no_err}

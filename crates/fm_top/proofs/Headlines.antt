@@ -3,6 +3,13 @@ use Rattle.std.proofs.Common.{inl, inr, ℕ, List, [], ◌∷◌, ◌++◌, true
 use Rattle.std.proofs.Common.{◌+◌, ◌≤◌, Result, Ok, Err, refl, sym, ◌∙◌, ap, subst, arith, append-nil}
 use Rattle.std.proofs.Math.Seq.{take-append_seam, take-length}
 use Rattle.std.specs.Io.KnownBytes.{Appends, Consumes, IsAtEnd}
+use Rattle.fm_answers.specs.Answers.{answers, entries_of}
+use Rattle.fm_answers.specs.Ended.{ended}
+use Rattle.fm_answers.specs.Running.{Line, AreRead, StopsAt, RanUntil}
+use Rattle.fm_answers.specs.declared.stops.Stop.{Stop}
+use Rattle.fm_answers.specs.declared.stops.Stop.TheVariants.{Write, Disk, Memory, Full}
+use Rattle.fm_answers.proofs.AnswerLists.{entries_append, entries_one, answers_append}
+use Rattle.fm_command.specs.declared.words.Command.TheVariants.{Accept}
 use Rattle.fm_core.specs.Book.{next_number}
 use Rattle.fm_init.specs.Making.{HasStore}
 use Rattle.fm_journal.specs.Format.{IsJournal}
@@ -12,17 +19,10 @@ use Rattle.fm_logs.specs.ReadsAsBook.{EachSpells, SpellsConf}
 use Rattle.fm_saved.specs.declared.conf.Conf.{Conf}
 use Rattle.fm_store.specs.StoreLeft.{ReadsLike}
 use Rattle.fm_top.specs.Accepting.{AcceptRan, AcceptedUntil, Grew}
-use Rattle.fm_top.specs.Answers.{answers, entries_of}
-use Rattle.fm_top.specs.Ended.{ended}
 use Rattle.fm_top.specs.Headline.{WereAnswered, HasAnswered, Headline}
 use Rattle.fm_top.specs.Kept.{BookAt}
 use Rattle.fm_top.specs.Outside.{Outside, Tells}
 use Rattle.fm_top.specs.Recording.{store_with}
-use Rattle.fm_top.specs.Running.{Line, AreRead, StopsAt, RanUntil}
-use Rattle.fm_top.specs.declared.stops.Stop.{Stop}
-use Rattle.fm_top.specs.declared.stops.Stop.TheVariants.{Write, Disk, Memory, Full}
-use Rattle.fm_top.specs.declared.words.Command.TheVariants.{Accept}
-use Rattle.fm_top.proofs.AnswerLists.{entries_append, entries_one, answers_append}
 use Rattle.fm_top.proofs.BookHeld.{HeldOf, held_each}
 
 -- all of these lines were answered whole

@@ -2,6 +2,14 @@
 use Rattle.std.proofs.Common.{◌≡◌, inl, inr, ℕ, zero, suc, List, [], ◌∷◌, map, refl, sym}
 use Rattle.std.proofs.Common.{subst, OnOk, IfErr, IfSome, Result, Ok, Err, Some}
 use Rattle.std.specs.Prelude.{MatchResult}
+use Rattle.fm_answers.specs.Ending.{EndsAs}
+use Rattle.fm_answers.specs.StreamsAt.{SourceAt}
+use Rattle.fm_answers.specs.StreamsAt.{source_at}
+use Rattle.fm_answers.specs.Stops.{of_sources}
+use Rattle.fm_answers.specs.declared.status.ToolStatus.{ToolStatus}
+use Rattle.fm_answers.specs.declared.stops.Stop.{Stop}
+use Rattle.fm_answers.specs.declared.stops.Stop.TheVariants.{Disk, Memory, Full, Exists}
+use Rattle.fm_command.specs.declared.words.Command.TheVariants.{Init}
 use Rattle.fm_outer.specs.declared.source.Source.{Ghosts}
 use Rattle.fm_journal.specs.Crash.{IsEmptyOrNone}
 use Rattle.fm_journal.specs.declared.fault.FullKind.TheVariants.{Payload}
@@ -19,18 +27,12 @@ use Rattle.fm_logs.specs.declared.disks.Disks.{Disks}
 use Rattle.fm_topo.specs.Topology.{Topology}
 use Rattle.fm_topo.specs.declared.faults.TopoKind.{TopoKind}
 use Rattle.fm_top.specs.Calls.{IsCaused, Does, WorksOn, handed}
-use Rattle.fm_top.specs.Ending.{EndsAs}
 use Rattle.fm_top.specs.Init.{InitEnds, MakingEnds, SourcesRefused, AreUnwritten}
 use Rattle.fm_top.specs.Init.{HasNoStore, conf_with}
 use Rattle.fm_top.specs.Order.{Goes, World, Look, Passes, at_rules, at_topology, at_no_store}
 use Rattle.fm_top.specs.Order.{looks, world_of}
-use Rattle.fm_top.specs.Outside.{Outside, SourceAt, DisksAt, Tells, Leaves, RoseAt, standing}
-use Rattle.fm_top.specs.Outside.{given_of, source_at, source_counts, disk_counts, counts_of}
-use Rattle.fm_top.specs.Stops.{of_sources}
-use Rattle.fm_top.specs.declared.status.ToolStatus.{ToolStatus}
-use Rattle.fm_top.specs.declared.stops.Stop.{Stop}
-use Rattle.fm_top.specs.declared.stops.Stop.TheVariants.{Disk, Memory, Full, Exists}
-use Rattle.fm_top.specs.declared.words.Command.TheVariants.{Init}
+use Rattle.fm_top.specs.Outside.{Outside, DisksAt, Tells, Leaves, RoseAt, standing}
+use Rattle.fm_top.specs.Outside.{given_of, source_counts, disk_counts, counts_of}
 use Rattle.fm_top.proofs.Headlines.{has_store}
 use Rattle.fm_top.proofs.Standing.{reads_standing}
 

@@ -1,6 +1,8 @@
 -- The making of a store, in the words of the disks as they stand.
 use Rattle.std.proofs.Common.{◌≡◌, inl, inr, ⊎_elim, ℕ, List, Option, Some, None, refl, sym, ◌∙◌}
 use Rattle.std.proofs.Common.{[], ◌∷◌, ap, subst, IfSome, Err}
+use Rattle.fm_answers.specs.Stops.{of_store}
+use Rattle.fm_answers.specs.declared.stops.Stop.TheVariants.{Full}
 use Rattle.fm_outer.specs.declared.disk.Disk.{Ghosts}
 use Rattle.fm_outer.proofs.Moments.{CountsNow, leaves-now}
 use Rattle.fm_journal.specs.Crash.{IsEmptyOrNone}
@@ -19,8 +21,6 @@ use Rattle.fm_top.specs.Init.{MakingEnds}
 use Rattle.fm_top.specs.Outside.{disk_at, disks_at, disk_counts}
 use Rattle.fm_top.specs.Outside.{RoseAt}
 use Rattle.fm_top.specs.Lending.{paired}
-use Rattle.fm_top.specs.Stops.{of_store}
-use Rattle.fm_top.specs.declared.stops.Stop.TheVariants.{Full}
 use Rattle.fm_top.proofs.Lending.{second_of_pair}
 use Rattle.fm_top.proofs.SixDisks.{told_all, images_all}
 

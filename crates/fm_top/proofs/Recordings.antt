@@ -2,6 +2,9 @@
 use Rattle.std.proofs.Common.{◌≡◌, ℕ, Bool, true, false, List, [], ◌∷◌, length}
 use Rattle.std.proofs.Common.{None, Some, Result, Ok, Err, refl, sym, ◌∙◌, ap, subst}
 use Rattle.std.proofs.Common.{append-nil}
+use Rattle.fm_answers.specs.Refusing.{TakeStops}
+use Rattle.fm_answers.specs.Stops.{of_store}
+use Rattle.fm_answers.specs.declared.stops.Stop.TheVariants.{Full}
 use Rattle.fm_core.specs.Book.{ModuleState, IsAdmitted}
 use Rattle.fm_core.proofs.Runs.{lawful_accepted}
 use Rattle.fm_entry.specs.Entries.{is_reload}
@@ -24,9 +27,6 @@ use Rattle.fm_store.specs.StoreOf.{newest_sequence, StoreOf, StoreBaseOf, StoreS
 use Rattle.fm_store.proofs.StoreAccepts.{active_disk}
 use Rattle.fm_top.specs.Recording.{Recorded}
 use Rattle.fm_top.specs.RecordingLaws.{recorded_none, with_none}
-use Rattle.fm_top.specs.Refusing.{TakeStops}
-use Rattle.fm_top.specs.Stops.{of_store}
-use Rattle.fm_top.specs.declared.stops.Stop.TheVariants.{Full}
 
 -- an entry that is no Reload may come at any place
 no_reload : (known n : ℕ) (e : Entry) → is_reload e ≡ false → ReloadsRise known n (e ∷ [])

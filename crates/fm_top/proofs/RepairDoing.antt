@@ -3,26 +3,28 @@ use Rattle.std.proofs.Common.{◌≡◌, ◌⊎◌, inl, inr, ℕ, List, ◌∷�
 use Rattle.std.proofs.Common.{sym, subst, Some, OnOk, IfErr, Result, Ok, Err}
 use Rattle.fm_act.specs.Reconciled.{ActuatorState}
 use Rattle.fm_admin.specs.declared.repairing.Repaired.{Repaired}
+use Rattle.fm_answers.specs.Answers.{ok_text}
+use Rattle.fm_answers.specs.Ending.{EndsAs}
+use Rattle.fm_answers.specs.StreamsAt.{SinkAt}
+use Rattle.fm_answers.specs.declared.status.ToolStatus.{ToolStatus}
+use Rattle.fm_answers.specs.declared.stops.Stop.{Stop}
+use Rattle.fm_answers.specs.declared.stops.Stop.TheVariants.{Read, Write, Disk, Damaged, Memory}
+use Rattle.fm_answers.specs.declared.stops.Stop.TheVariants.{Full, NotFaulty, Act}
+use Rattle.fm_command.specs.RepairAsked.{RepairAsked}
+use Rattle.fm_command.specs.declared.words.Command.TheVariants.{Repair}
 use Rattle.fm_logs.specs.Contents.{Contents}
 use Rattle.fm_logs.specs.StoreBook.{store_accepted}
 use Rattle.fm_store.specs.StoreLeft.{ReadsLike}
 use Rattle.fm_top.specs.Accepting.{OpeningStops}
-use Rattle.fm_top.specs.Answers.{ok_text}
 use Rattle.fm_top.specs.Calls.{IsCaused, Does}
-use Rattle.fm_top.specs.Ending.{EndsAs}
 use Rattle.fm_top.specs.Fmd.{ConcludingStops, SettlingEnds}
 use Rattle.fm_top.specs.Headline.{HasRepaired, HeldRepair, HoldsOfBook, Headline}
 use Rattle.fm_top.specs.Kept.{BookAt}
 use Rattle.fm_top.specs.Order.{Goes, looks, world_of}
-use Rattle.fm_top.specs.Outside.{Outside, SinkAt, Tells, counts_of}
+use Rattle.fm_top.specs.Outside.{Outside, Tells, counts_of}
 use Rattle.fm_top.specs.Repair.{MayHaveRepair, RepairRan, RepairTried, RepairedOf, StoreUnmarked}
 use Rattle.fm_top.specs.Repair.{StoreUnrepaired, repair_limit}
-use Rattle.fm_top.specs.RepairEntry.{HasRepair, RepairAsked}
-use Rattle.fm_top.specs.declared.status.ToolStatus.{ToolStatus}
-use Rattle.fm_top.specs.declared.stops.Stop.{Stop}
-use Rattle.fm_top.specs.declared.stops.Stop.TheVariants.{Read, Write, Disk, Damaged, Memory}
-use Rattle.fm_top.specs.declared.stops.Stop.TheVariants.{Full, NotFaulty, Act}
-use Rattle.fm_top.specs.declared.words.Command.TheVariants.{Repair}
+use Rattle.fm_top.specs.RepairEntry.{HasRepair}
 use Rattle.fm_top.proofs.Escs.{ok_no_err}
 use Rattle.fm_top.proofs.FmdDoing.{acts_quiet, settled_caused}
 use Rattle.fm_top.proofs.Texts.{like_drained}

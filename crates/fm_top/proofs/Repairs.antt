@@ -9,6 +9,10 @@ use Rattle.fm_admin.specs.Repairing.{TookAndDrained}
 use Rattle.fm_admin.specs.Telling.{TellsBook, WasDrained}
 use Rattle.fm_admin.specs.declared.marking.RepairOrder.{RepairOrder}
 use Rattle.fm_admin.specs.declared.repairing.Repaired.{Repaired}
+use Rattle.fm_answers.specs.Stops.{of_store}
+use Rattle.fm_answers.specs.declared.stops.Stop.{Stop}
+use Rattle.fm_answers.specs.declared.stops.Stop.TheVariants.{Full, NotFaulty}
+use Rattle.fm_command.specs.RepairAsked.{RepairAsked}
 use Rattle.fm_conclude.specs.Concluding.{NoDiskFailed, SomeDiskFailed}
 use Rattle.fm_core.specs.Book.{ModuleState}
 use Rattle.fm_core.specs.Hands.{HandOf}
@@ -46,10 +50,7 @@ use Rattle.fm_top.specs.Recording.{Recorded}
 use Rattle.fm_top.specs.RecordingLaws.{with_none}
 use Rattle.fm_top.specs.Repair.{MayHaveRepair, RepairDone, RepairHalts, RepairOnBook, RepairTried}
 use Rattle.fm_top.specs.Repair.{RepairedOf, UnmarkedOf, repair_limit}
-use Rattle.fm_top.specs.RepairEntry.{IsEntryAt, IsEntryOf, RepairAsked, order_by}
-use Rattle.fm_top.specs.Stops.{of_store}
-use Rattle.fm_top.specs.declared.stops.Stop.{Stop}
-use Rattle.fm_top.specs.declared.stops.Stop.TheVariants.{Full, NotFaulty}
+use Rattle.fm_top.specs.RepairEntry.{IsEntryAt, IsEntryOf, order_by}
 use Rattle.fm_top.proofs.Accepts.{limit_of, opening_account, opening_stops}
 use Rattle.fm_top.proofs.Fmds.{OpenAt}
 use Rattle.fm_top.proofs.OpenedDisks.{none_rose, opened_at, some_rose, store_left}

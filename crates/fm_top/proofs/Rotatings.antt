@@ -4,6 +4,7 @@ use Rattle.std.proofs.Common.{Ok, Err, refl, sym, ap, subst, arith}
 use Rattle.std.specs.Global.{Vec}
 use Rattle.dx_engine.specs.Diagnosers.{DiagnoserOf}
 use Rattle.fm_admin.specs.Rotation.{IsRotated, RotatesDrained, RotationRefused, StandsRotated}
+use Rattle.fm_command.specs.declared.words.AdminCommand.TheVariants.{Rotate}
 use Rattle.fm_conclude.specs.Concluding.{NoDiskFailed}
 use Rattle.fm_core.specs.Book.{ModuleState, next_number}
 use Rattle.fm_core.specs.Hands.{HandOf}
@@ -24,7 +25,6 @@ use Rattle.fm_store.specs.StoreOf.{StoreOf, StoreStandsFor}
 use Rattle.fm_store.proofs.StoreReads.{entries_left, left_active, says_left}
 use Rattle.fm_summary.specs.DrainedSummary.{diagnosers}
 use Rattle.fm_top.specs.Admin.{AdminDone, AdminRefused, ReadsRotated, rotated_text}
-use Rattle.fm_top.specs.declared.words.AdminCommand.TheVariants.{Rotate}
 use Rattle.fm_top.proofs.Fmds.{floored_based, reads_floored}
 
 none_of : {X : Type 0} (xs : List X) → length xs ≡ 0 → xs ≡ []

@@ -1,6 +1,7 @@
 -- What was read of sources, in the words of the sources as they stand.
 use Rattle.std.proofs.Common.{inl, inr, ℕ, zero, suc, List, [], ◌∷◌, map, ap, Result, Ok}
 use Rattle.std.proofs.Common.{Err}
+use Rattle.fm_answers.specs.StreamsAt.{source_at}
 use Rattle.fm_outer.specs.declared.source.Source.{Ghosts}
 use Rattle.fm_sources.specs.Sources.{given, GaveRules, GaveTopology, RulesRefused}
 use Rattle.fm_sources.specs.Sources.{TopologyRefused, FilesGave, RefusedAt}
@@ -11,7 +12,7 @@ use Rattle.fm_sources.specs.declared.faults.SourceFault.TheVariants as faults
 use Rattle.fm_sources.specs.declared.files.RuleFile.{RuleFile}
 use Rattle.fm_sources.specs.declared.sources.Sources.{Sources}
 use Rattle.fm_topo.specs.Topology.{Topology}
-use Rattle.fm_top.specs.Outside.{source_at, standing}
+use Rattle.fm_top.specs.Outside.{standing}
 
 module _ {S : Type 0} (g : Ghosts S) where
   pub gave_text : (limit : ℕ) (old new : S) (text : List ℕ) → GaveText g limit old new text

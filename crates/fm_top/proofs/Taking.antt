@@ -2,12 +2,12 @@
 use Rattle.std.proofs.Common.{◌≡◌, ◌∙◌, List, [], ◌∷◌, ◌++◌, Option, None, Some, refl, sym, ap}
 use Rattle.std.proofs.Common.{subst, append_assoc, append-nil}
 use Rattle.std.specs.Prelude.{option_to_list}
+use Rattle.fm_answers.specs.Refusing.{TakeStops}
+use Rattle.fm_answers.specs.Running.{Taken}
+use Rattle.fm_answers.specs.declared.stops.Stop.{Stop}
+use Rattle.fm_answers.specs.declared.stops.Stop.TheVariants.{Disk, Memory, Full}
 use Rattle.fm_entry.specs.declared.entry.Entry.{Entry}
 use Rattle.fm_top.specs.Generate.{TakingStops, TookFirst, TookUntil}
-use Rattle.fm_top.specs.Refusing.{TakeStops}
-use Rattle.fm_top.specs.Running.{Taken}
-use Rattle.fm_top.specs.declared.stops.Stop.{Stop}
-use Rattle.fm_top.specs.declared.stops.Stop.TheVariants.{Disk, Memory, Full}
 
 -- one more was given
 pub given_one : (o : Option Entry) (entry : Entry) (left rest : List Entry) → o ≡ Some entry

@@ -4,6 +4,12 @@ use Rattle.std.specs.Global.{Vec}
 use Rattle.std.proofs.Common.{sym}
 use Rattle.dx_engine.specs.Diagnosers.{DiagnoserOf}
 use Rattle.fm_admin.specs.declared.repairing.Repaired.{Repaired as RepairedEntry}
+use Rattle.fm_answers.specs.Accounts.{Accounts}
+use Rattle.fm_answers.specs.StreamsAt.{SourceAt, SinkAt}
+use Rattle.fm_answers.specs.Stops.{of_store}
+use Rattle.fm_answers.specs.declared.stops.Stop.{Stop}
+use Rattle.fm_answers.specs.declared.stops.Stop.TheVariants.{Read, Write}
+use Rattle.fm_command.specs.RepairAsked.{RepairAsked}
 use Rattle.fm_conclude.specs.declared.concluding.Conclusion.{Conclusion}
 use Rattle.fm_core.specs.Hands.{HandOf}
 use Rattle.fm_logs.specs.Contents.{Contents, AreTold, WereOnlyRead, disk_named}
@@ -18,16 +24,11 @@ use Rattle.fm_sources.specs.declared.sources.Sources.{Sources}
 use Rattle.fm_store.specs.StoreLeft.{store_disk, AreDisksOf}
 use Rattle.fm_store.specs.StoreOf.{StoreOf}
 use Rattle.fm_top.specs.Accepting.{AcceptRan}
-use Rattle.fm_top.specs.Accounts.{Accounts}
 use Rattle.fm_top.specs.Fmd.{StoreRan}
 use Rattle.fm_top.specs.Generate.{GenerateTried, LinesTried}
-use Rattle.fm_top.specs.Outside.{SourceAt, SinkAt, DisksAt, disks_at}
+use Rattle.fm_top.specs.Outside.{DisksAt, disks_at}
 use Rattle.fm_top.specs.Repair.{RepairTried}
-use Rattle.fm_top.specs.RepairEntry.{RepairAsked}
-use Rattle.fm_top.specs.Stops.{of_store}
 use Rattle.fm_top.specs.Tasks.{TaskDoes, TaskRan}
-use Rattle.fm_top.specs.declared.stops.Stop.{Stop}
-use Rattle.fm_top.specs.declared.stops.Stop.TheVariants.{Read, Write}
 use Rattle.fm_top.specs.declared.tasks.StoreTask.{StoreTask}
 use Rattle.fm_top.specs.declared.tasks.StoreTask.TheVariants.{Accept, Fmd, Admin, Repair, Explain}
 use Rattle.fm_top.specs.declared.tasks.StoreTask.TheVariants.{Generate, GeneratedLines}

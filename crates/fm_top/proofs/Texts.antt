@@ -6,6 +6,11 @@ use Rattle.std.specs.List.{slice_get}
 use Rattle.dx_engine.specs.Diagnosers.{DiagnoserOf}
 use Rattle.fm_admin.specs.Telling.{IsFaultyOf, StandsTold, TellRefused, TellsBook, WasDrained}
 use Rattle.fm_admin.proofs.Tellings.{tell_full}
+use Rattle.fm_answers.specs.Accounts.{Accounts}
+use Rattle.fm_answers.specs.Stops.{of_store}
+use Rattle.fm_answers.specs.declared.stops.Stop.{Stop}
+use Rattle.fm_command.specs.declared.words.AdminCommand.{AdminCommand}
+use Rattle.fm_command.specs.declared.words.AdminCommand.TheVariants.{Faulty}
 use Rattle.fm_conclude.specs.Concluding.{NoDiskFailed, SomeDiskFailed}
 use Rattle.fm_core.specs.Book.{ModuleState}
 use Rattle.fm_core.specs.Drained.{drained}
@@ -33,7 +38,6 @@ use Rattle.fm_store.specs.StoreOf.{StoreOf, StoreStandsFor}
 use Rattle.fm_store.proofs.StoreReads.{left_active, says_left}
 use Rattle.fm_summary.specs.DrainedSummary.{diagnosers}
 use Rattle.fm_top.specs.Accepting.{DisksAccount}
-use Rattle.fm_top.specs.Accounts.{Accounts}
 use Rattle.fm_top.specs.Admin.{AdminDone, AdminOnBook, AdminRefused, TextAsked, ToldOf}
 use Rattle.fm_top.specs.Admin.{command_limit}
 use Rattle.fm_top.specs.DrainedBook.{ReadsDrained}
@@ -43,10 +47,6 @@ use Rattle.fm_top.specs.Headline.{HoldsOfBook, LikeBook}
 use Rattle.fm_top.specs.Kept.{BookAt}
 use Rattle.fm_top.specs.Limits.{DrainLimit}
 use Rattle.fm_top.specs.Outside.{Tells, Leaves, disks_at}
-use Rattle.fm_top.specs.Stops.{of_store}
-use Rattle.fm_top.specs.declared.stops.Stop.{Stop}
-use Rattle.fm_top.specs.declared.words.AdminCommand.{AdminCommand}
-use Rattle.fm_top.specs.declared.words.AdminCommand.TheVariants.{Faulty}
 use Rattle.fm_top.proofs.Accepts.{opening_account, opening_stops}
 use Rattle.fm_top.proofs.BookHeld.{same_book}
 use Rattle.fm_top.proofs.Fmds.{OpenAt, reads_floored}

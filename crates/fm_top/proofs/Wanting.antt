@@ -2,16 +2,17 @@
 use Rattle.std.proofs.Common.{◌≡◌, inl, inr, ℕ, zero, suc, List, [], take, refl, subst, arith}
 use Rattle.std.proofs.Common.{Option, Some, None, Err}
 use Rattle.std.specs.Io.KnownBytes.{Appends}
+use Rattle.fm_answers.specs.Ending.{EndsAs}
+use Rattle.fm_answers.specs.StreamsAt.{SinkAt}
+use Rattle.fm_answers.specs.declared.status.ToolStatus.{ToolStatus}
+use Rattle.fm_answers.specs.declared.stops.Stop.{Stop}
+use Rattle.fm_answers.specs.declared.stops.Stop.TheVariants.{Memory, Usage, Write}
+use Rattle.fm_command.specs.Words.{TakesMemory}
+use Rattle.fm_command.specs.declared.words.Command.{Command}
+use Rattle.fm_command.specs.declared.words.Command.TheVariants.{Admin, Repair}
 use Rattle.fm_top.specs.Calls.{Does}
-use Rattle.fm_top.specs.Ending.{EndsAs}
 use Rattle.fm_top.specs.Init.{AreUnwritten}
-use Rattle.fm_top.specs.Outside.{Outside, SinkAt}
-use Rattle.fm_top.specs.Words.{TakesMemory}
-use Rattle.fm_top.specs.declared.status.ToolStatus.{ToolStatus}
-use Rattle.fm_top.specs.declared.stops.Stop.{Stop}
-use Rattle.fm_top.specs.declared.stops.Stop.TheVariants.{Memory, Usage, Write}
-use Rattle.fm_top.specs.declared.words.Command.{Command}
-use Rattle.fm_top.specs.declared.words.Command.TheVariants.{Admin, Repair}
+use Rattle.fm_top.specs.Outside.{Outside}
 use Rattle.fm_top.proofs.AdminDoing.{does_tell}
 use Rattle.fm_top.proofs.Doing.{Rests}
 use Rattle.fm_top.proofs.RepairDoing.{does_repair}

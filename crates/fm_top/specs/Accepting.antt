@@ -3,6 +3,12 @@ use Rattle.std.specs.Prelude.{◌≡◌, ◌⊎◌, ℕ, List, ◌∷◌, [], �
 use Rattle.std.specs.Prelude.{Result, Ok, Err, MatchResult}
 use Rattle.std.specs.declared.option.Option.{Option}
 use Rattle.std.specs.Io.KnownBytes.{Appends, Consumes, IsAtEnd}
+use Rattle.fm_answers.specs.Accounts.{Accounts}
+use Rattle.fm_answers.specs.StreamsAt.{SourceAt, SinkAt}
+use Rattle.fm_answers.specs.Running.{Taken, RanAll, RanUntil}
+use Rattle.fm_answers.specs.declared.stops.Stop.{Stop}
+use Rattle.fm_answers.specs.declared.stops.Stop.TheVariants.{Read, Write, Disk, Damaged, Memory}
+use Rattle.fm_answers.specs.declared.stops.Stop.TheVariants.{Full}
 use Rattle.fm_core.specs.Book.{ModuleState, next_number}
 use Rattle.fm_entry.specs.declared.entry.Entry.{Entry}
 use Rattle.fm_journal.specs.Format.{end_of}
@@ -11,14 +17,10 @@ use Rattle.fm_logs.specs.Contents.{Contents, active_of_two}
 use Rattle.fm_logs.specs.ReadsAsBook.{IsLog, SpellsEntry, SaysBook}
 use Rattle.fm_logs.specs.StoreBook.{StoreBook}
 use Rattle.fm_store.specs.StoreLeft.{ReadsLike, ReadsLikeEither}
-use Rattle.fm_top.specs.Accounts.{Accounts}
 use Rattle.fm_top.specs.Init.{AreUnwritten}
 use Rattle.fm_top.specs.Kept.{BookAt, FirstDamage}
-use Rattle.fm_top.specs.Outside.{SourceAt, SinkAt, DisksAt, Tells, Leaves, disk_counts, RoseAt}
+use Rattle.fm_top.specs.Outside.{DisksAt, Tells, Leaves, disk_counts, RoseAt}
 use Rattle.fm_top.specs.Recording.{payloads_of, store_with, FullCause}
-use Rattle.fm_top.specs.Running.{Taken, RanAll, RanUntil}
-use Rattle.fm_top.specs.declared.stops.Stop.{Stop}
-use Rattle.fm_top.specs.declared.stops.Stop.TheVariants.{Read, Write, Disk, Damaged, Memory, Full}
 
 -- What an image reads like, once these entries are acknowledged: where a disk failed at one more,
 -- it has that one or not.

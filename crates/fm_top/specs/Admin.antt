@@ -6,6 +6,10 @@ use Rattle.std.specs.Global.{Vec}
 use Rattle.dx_engine.specs.Diagnosers.{DiagnoserOf}
 use Rattle.fm_admin.specs.Limits.{DrainOrRotation}
 use Rattle.fm_admin.specs.Telling.{IsFaultyOf}
+use Rattle.fm_answers.specs.StreamsAt.{SinkAt}
+use Rattle.fm_answers.specs.declared.stops.Stop.{Stop}
+use Rattle.fm_command.specs.declared.words.AdminCommand.{AdminCommand}
+use Rattle.fm_command.specs.declared.words.AdminCommand.TheVariants.{Config, Dump, Faulty, Rotate}
 use Rattle.fm_conclude.specs.Concluding.{NoDiskFailed, SomeDiskFailed}
 use Rattle.fm_config.specs.Sizes.{IsConfText}
 use Rattle.fm_core.specs.Book.{ModuleState, next_number}
@@ -35,10 +39,7 @@ use Rattle.fm_top.specs.Headline.{HoldsOfBook, LikeBook}
 use Rattle.fm_top.specs.Init.{AreUnwritten}
 use Rattle.fm_top.specs.Kept.{BookAt}
 use Rattle.fm_top.specs.Limits.{DrainLimit, WorkLimit}
-use Rattle.fm_top.specs.Outside.{SinkAt, DisksAt, Tells, Leaves}
-use Rattle.fm_top.specs.declared.stops.Stop.{Stop}
-use Rattle.fm_top.specs.declared.words.AdminCommand.{AdminCommand}
-use Rattle.fm_top.specs.declared.words.AdminCommand.TheVariants.{Config, Dump, Faulty, Rotate}
+use Rattle.fm_top.specs.Outside.{DisksAt, Tells, Leaves}
 
 -- `rotated N`
 abbrev pub rotated_text : ℕ → List ℕ

@@ -1,9 +1,18 @@
 -- What a call of the fault manager does, by its command.
 use Rattle.std.specs.Prelude.{◌≡◌, ℕ, List, Option, None, Some, Result, Err, OnOk, IfErr}
+use Rattle.fm_answers.specs.Ending.{EndsAs}
+use Rattle.fm_answers.specs.StreamsAt.{SinkAt}
+use Rattle.fm_answers.specs.Replaying.{ReplayRan}
+use Rattle.fm_answers.specs.declared.status.ToolStatus.{ToolStatus}
+use Rattle.fm_answers.specs.declared.stops.Stop.{Stop}
+use Rattle.fm_answers.specs.declared.stops.Stop.TheVariants.{Usage, Read, Write, Disk, Act}
+use Rattle.fm_command.specs.declared.words.Command.{Command}
+use Rattle.fm_command.specs.declared.words.Command.TheVariants.{Accept, Fmd, Replay, Init, Esc}
+use Rattle.fm_command.specs.declared.words.Command.TheVariants.{EscInput, Admin, Repair, Explain}
+use Rattle.fm_command.specs.declared.words.Command.TheVariants.{Generate, GeneratedLines}
 use Rattle.fm_outer.specs.Failures.{Rose}
 use Rattle.fm_top.specs.Accepting.{AcceptRan}
 use Rattle.fm_top.specs.Admin.{AdminRan}
-use Rattle.fm_top.specs.Ending.{EndsAs}
 use Rattle.fm_top.specs.Esc.{EscEnds, EscInputEnds}
 use Rattle.fm_top.specs.Explain.{ExplainRan}
 use Rattle.fm_top.specs.Fmd.{FmdRan}
@@ -11,18 +20,10 @@ use Rattle.fm_top.specs.Generate.{GenerateRan, LinesRan}
 use Rattle.fm_top.specs.Order.{Goes, looks, world_of}
 use Rattle.fm_top.specs.Headline.{Headline}
 use Rattle.fm_top.specs.Init.{InitRan}
-use Rattle.fm_top.specs.Outside.{Outside, SinkAt, source_counts, disk_counts, counts_of, RoseAt}
+use Rattle.fm_top.specs.Outside.{Outside, source_counts, disk_counts, counts_of, RoseAt}
 use Rattle.fm_top.specs.Outside.{given_of, standing, act_counts}
 use Rattle.fm_top.specs.Repair.{RepairRan}
-use Rattle.fm_top.specs.Replaying.{ReplayRan}
 use Rattle.fm_logs.specs.declared.disks.Disks.{Disks}
-use Rattle.fm_top.specs.declared.status.ToolStatus.{ToolStatus}
-use Rattle.fm_top.specs.declared.stops.Stop.{Stop}
-use Rattle.fm_top.specs.declared.stops.Stop.TheVariants.{Usage, Read, Write, Disk, Act}
-use Rattle.fm_top.specs.declared.words.Command.{Command}
-use Rattle.fm_top.specs.declared.words.Command.TheVariants.{Accept, Fmd, Replay, Init, Esc}
-use Rattle.fm_top.specs.declared.words.Command.TheVariants.{EscInput, Admin, Repair, Explain}
-use Rattle.fm_top.specs.declared.words.Command.TheVariants.{Generate, GeneratedLines}
 
 -- EACH FAULT OF THE OUTSIDE, one line a fault: it comes only where a count of that kind rose
 abbrev pub IsCaused : Outside → Outside → Stop → Type 0

@@ -2,6 +2,11 @@
 -- sink.
 use Rattle.std.specs.Prelude.{◌≡◌, ◌⊎◌, ℕ, List, Option, Some, None, Result, Ok, Err}
 use Rattle.std.specs.Io.KnownBytes.{Appends}
+use Rattle.fm_answers.specs.StreamsAt.{SinkAt}
+use Rattle.fm_answers.specs.Refusing.{PutCut}
+use Rattle.fm_answers.specs.Stops.{of_compiling, of_input}
+use Rattle.fm_answers.specs.declared.stops.Stop.{Stop}
+use Rattle.fm_answers.specs.declared.stops.Stop.TheVariants.{DamagedInput}
 use Rattle.fm_esc.specs.Compiling.{CompileCause, IsCompiled}
 use Rattle.fm_esc.specs.InputListing.{InputCause, IsListed}
 use Rattle.fm_esc.specs.declared.faults.CompileFault.{CompileFault}
@@ -9,11 +14,6 @@ use Rattle.fm_esc.specs.declared.faults.InputFault.{InputFault}
 use Rattle.fm_esc.specs.declared.graphs.GraphForm.{GraphForm}
 use Rattle.fm_outer.specs.declared.source.Source.{Ghosts}
 use Rattle.fm_sources.specs.Sources.{Given}
-use Rattle.fm_top.specs.Outside.{SinkAt}
-use Rattle.fm_top.specs.Refusing.{PutCut}
-use Rattle.fm_top.specs.Stops.{of_compiling, of_input}
-use Rattle.fm_top.specs.declared.stops.Stop.{Stop}
-use Rattle.fm_top.specs.declared.stops.Stop.TheVariants.{DamagedInput}
 
 -- a text was put whole, and the sink did not fail
 pub record PutText (out out_now : SinkAt) (text : List ℕ) : Type 0 where

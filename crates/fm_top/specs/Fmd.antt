@@ -5,6 +5,15 @@ use Rattle.ev_file.specs.declared.made.Made.{Made}
 use Rattle.fm_act.specs.Reconciled.{ActuatorState, Reconciled}
 use Rattle.fm_act.specs.declared.faults.ActRefused.{ActRefused}
 use Rattle.fm_act.specs.declared.faults.ActRefused.TheVariants as refused
+use Rattle.fm_answers.specs.Accounts.{Accounts}
+use Rattle.fm_answers.specs.Answers.{entries_of}
+use Rattle.fm_answers.specs.StreamsAt.{SourceAt, SinkAt}
+use Rattle.fm_answers.specs.Refusing.{PutCut}
+use Rattle.fm_answers.specs.Stops.{of_compiling}
+use Rattle.fm_answers.specs.declared.stops.Stop.{Stop}
+use Rattle.fm_answers.specs.declared.stops.Stop.TheVariants.{Read, Write, Disk, Damaged, Memory}
+use Rattle.fm_answers.specs.declared.stops.Stop.TheVariants.{Full}
+use Rattle.fm_answers.specs.declared.stops.Stop.TheVariants.{Differs, Act}
 use Rattle.fm_conclude.specs.declared.concluding.Conclusion.{Conclusion}
 use Rattle.fm_core.specs.Book.{ModuleState}
 use Rattle.fm_core.specs.Drained.{drained}
@@ -20,22 +29,15 @@ use Rattle.fm_sources.specs.Sources.{ReadsSources}
 use Rattle.fm_sources.specs.declared.sources.Sources.{Sources}
 use Rattle.fm_summary.specs.DrainedSummary.{AreWantedOf, IsSummaryOf}
 use Rattle.fm_top.specs.Accepting.{AcceptedAll, AcceptedUntil, DisksAccount, Grew, NotOpened}
-use Rattle.fm_top.specs.Accounts.{Accounts}
-use Rattle.fm_top.specs.Answers.{entries_of}
 use Rattle.fm_top.specs.Esc.{PutText}
 use Rattle.fm_top.specs.Exact.{IsExactWith}
 use Rattle.fm_top.specs.Headline.{HoldsOfBook}
 use Rattle.fm_top.specs.Init.{AreUnwritten}
 use Rattle.fm_top.specs.Kept.{BookAt, KeepsAsRead, KeepsOther}
 use Rattle.fm_top.specs.Limits.{ReachesWorkLimit, WorkLimit, concluding_limit}
-use Rattle.fm_top.specs.Outside.{Outside, SourceAt, SinkAt, DisksAt, Tells, Leaves, disk_counts}
+use Rattle.fm_top.specs.Outside.{Outside, DisksAt, Tells, Leaves, disk_counts}
 use Rattle.fm_top.specs.Outside.{given_of, standing}
 use Rattle.fm_top.specs.Recording.{store_with}
-use Rattle.fm_top.specs.Refusing.{PutCut}
-use Rattle.fm_top.specs.Stops.{of_compiling}
-use Rattle.fm_top.specs.declared.stops.Stop.{Stop}
-use Rattle.fm_top.specs.declared.stops.Stop.TheVariants.{Read, Write, Disk, Damaged, Memory, Full}
-use Rattle.fm_top.specs.declared.stops.Stop.TheVariants.{Differs, Act}
 
 -- The image reads as a book that comes of this one by draining, with its base at its end.
 pub record ReadsBased (fresh : List ModuleState) (k : StoreBook) (image : Contents) : Type 0 where

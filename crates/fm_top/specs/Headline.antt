@@ -3,23 +3,24 @@ use Rattle.std.specs.Prelude.{◌≡◌, ◌⊎◌, ℕ, ◌+◌, ◌≤◌, Lis
 use Rattle.std.specs.Prelude.{MatchResult}
 use Rattle.std.specs.Prelude.{OnOk, Ok, Err}
 use Rattle.std.specs.Io.KnownBytes.{Appends, Consumes, IsAtEnd}
+use Rattle.fm_answers.specs.Answers.{answers, entries_of}
+use Rattle.fm_answers.specs.Running.{Line, AreRead}
+use Rattle.fm_answers.specs.declared.stops.Stop.{Stop}
+use Rattle.fm_answers.specs.declared.stops.Stop.TheVariants.{Act, NotFaulty}
+use Rattle.fm_command.specs.RepairAsked.{RepairAsked}
+use Rattle.fm_command.specs.declared.words.Command.{Command}
+use Rattle.fm_command.specs.declared.words.Command.TheVariants.{Accept, Fmd, Init, Admin, Repair}
+use Rattle.fm_command.specs.declared.words.Command.TheVariants.{Explain, Generate, GeneratedLines}
 use Rattle.fm_core.specs.Book.{next_number}
 use Rattle.fm_entry.specs.declared.entry.Entry.{Entry}
 use Rattle.fm_line.specs.Lines.{lines_of}
 use Rattle.fm_logs.specs.Contents.{Contents}
 use Rattle.fm_store.specs.StoreLeft.{ReadsLike, ReadsLikeEither}
-use Rattle.fm_top.specs.Answers.{answers, entries_of}
 use Rattle.fm_top.specs.GenerateStart.{AreGeneratedAt}
 use Rattle.fm_top.specs.Kept.{BookAt}
 use Rattle.fm_top.specs.Outside.{Outside, DisksAt, Tells, Leaves}
 use Rattle.fm_top.specs.Recording.{store_with}
-use Rattle.fm_top.specs.RepairEntry.{HasRepair, RepairAsked}
-use Rattle.fm_top.specs.Running.{Line, AreRead}
-use Rattle.fm_top.specs.declared.stops.Stop.{Stop}
-use Rattle.fm_top.specs.declared.words.Command.{Command}
-use Rattle.fm_top.specs.declared.stops.Stop.TheVariants.{Act, NotFaulty}
-use Rattle.fm_top.specs.declared.words.Command.TheVariants.{Accept, Fmd, Init, Admin, Repair}
-use Rattle.fm_top.specs.declared.words.Command.TheVariants.{Explain, Generate, GeneratedLines}
+use Rattle.fm_top.specs.RepairEntry.{HasRepair}
 
 -- Of these lines all but the last one at most were answered whole, and what was put is a front of
 -- their answers: so whoever was told `ok` has the entry among theirs. `next` is the number of the

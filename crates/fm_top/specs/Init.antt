@@ -1,6 +1,9 @@
 -- What `init` does: to the sources of the rule files and the topology, and to the six disks.
 use Rattle.std.specs.Prelude.{◌≡◌, ◌⊎◌, ℕ, ◌<◌, ◌^◌, List, length, map, IfSome, Result, Ok, Err}
 use Rattle.std.specs.Prelude.{MatchResult}
+use Rattle.fm_answers.specs.Stops.{of_sources}
+use Rattle.fm_answers.specs.declared.stops.Stop.{Stop}
+use Rattle.fm_answers.specs.declared.stops.Stop.TheVariants.{Disk, Memory, Full, Exists}
 use Rattle.fm_journal.specs.Crash.{IsEmptyOrNone}
 use Rattle.fm_journal.specs.declared.fault.FullKind.TheVariants.{Payload}
 use Rattle.fm_logs.specs.Contents.{Contents}
@@ -14,9 +17,6 @@ use Rattle.fm_sources.specs.declared.sources.Sources.{Sources}
 use Rattle.fm_init.specs.Making.{HasStore, IsNewStore}
 use Rattle.fm_top.specs.Outside.{Outside, DiskAt, DisksAt, disk_by_name, Tells, Leaves, disk_counts}
 use Rattle.fm_top.specs.Outside.{RoseAt, given_of, standing}
-use Rattle.fm_top.specs.Stops.{of_sources}
-use Rattle.fm_top.specs.declared.stops.Stop.{Stop}
-use Rattle.fm_top.specs.declared.stops.Stop.TheVariants.{Disk, Memory, Full, Exists}
 
 -- the configuration of a namespace and of what was read: the texts as they were handed in
 abbrev pub conf_with : List ℕ → Sources → Conf

@@ -1,13 +1,8 @@
 pub mod Accepting
-pub mod Accounts
 pub mod Admin
-pub mod Answers
 pub mod Calls
-pub mod Draining
 pub mod DrainedBook
 pub mod Dump
-pub mod Ended
-pub mod Ending
 pub mod Esc
 pub mod Exact
 pub mod Explain
@@ -17,7 +12,6 @@ pub mod Fmd
 pub mod FmdStore
 pub mod Generate
 pub mod GenerateStart
-pub mod Halting
 pub mod Headline
 pub mod Init
 pub mod Kept
@@ -26,14 +20,6 @@ pub mod Order
 pub mod Outside
 pub mod Recording
 pub mod RecordingLaws
-pub mod Refusing
 pub mod Repair
 pub mod RepairEntry
-pub mod Replaying
-pub mod Running
-pub mod Status
-pub mod Stops
-pub mod Tallied
-pub mod TallyLaws
 pub mod Tasks
-pub mod Words

@@ -3,6 +3,18 @@
 use Rattle.std.specs.Prelude.{◌≡◌, ◌⊎◌, ℕ, List, [], ◌∷◌, Option, IfSome, Result}
 use Rattle.std.specs.Prelude.{MatchResult, Some, None, Ok}
 use Rattle.ev_file.specs.declared.made.Made.{Made}
+use Rattle.fm_answers.specs.declared.stops.Stop.{Stop}
+use Rattle.fm_answers.specs.declared.stops.Stop.TheVariants.{Rules, Topology, Damaged, Read, Write}
+use Rattle.fm_answers.specs.declared.stops.Stop.TheVariants.{Disk, Memory, Full, Exists}
+use Rattle.fm_answers.specs.declared.stops.Stop.TheVariants.{Graph, DamagedInput, Differs}
+use Rattle.fm_answers.specs.declared.stops.Stop.TheVariants.{NotFaulty, Act}
+use Rattle.fm_answers.specs.declared.stops.Stop.TheVariants.{NotFound}
+use Rattle.fm_answers.specs.StreamsAt.{SourceAt}
+use Rattle.fm_command.specs.declared.words.Command.{Command}
+use Rattle.fm_command.specs.declared.words.Command.TheVariants.{Accept, Fmd, Replay, Init, Esc}
+use Rattle.fm_command.specs.declared.words.Command.TheVariants.{EscInput, Admin, Repair, Explain}
+use Rattle.fm_command.specs.declared.words.Command.TheVariants.{Generate, GeneratedLines}
+use Rattle.fm_command.specs.RepairAsked.{RepairAsked}
 use Rattle.fm_esc.specs.Compiling.{AreGraphs, IsFirstPast}
 use Rattle.fm_esc.specs.InputListing.{InputCause, IsListed}
 use Rattle.fm_esc.specs.declared.faults.GraphLimit.{GraphLimit}
@@ -21,20 +33,11 @@ use Rattle.fm_init.specs.Making.{HasStore}
 use Rattle.fm_journal.specs.declared.fault.FullKind.TheVariants.{Numbers}
 use Rattle.fm_topo.specs.Topology.{Topology as PartSet}
 use Rattle.fm_topo.specs.declared.faults.TopoKind.{TopoKind}
-use Rattle.fm_top.specs.declared.stops.Stop.{Stop}
-use Rattle.fm_top.specs.declared.stops.Stop.TheVariants.{Rules, Topology, Damaged, Read, Write}
-use Rattle.fm_top.specs.declared.stops.Stop.TheVariants.{Disk, Memory, Full, Exists}
-use Rattle.fm_top.specs.declared.stops.Stop.TheVariants.{Graph, DamagedInput, Differs, NotFaulty, Act}
-use Rattle.fm_top.specs.declared.stops.Stop.TheVariants.{NotFound}
-use Rattle.fm_top.specs.declared.words.Command.{Command}
-use Rattle.fm_top.specs.declared.words.Command.TheVariants.{Accept, Fmd, Replay, Init, Esc}
-use Rattle.fm_top.specs.declared.words.Command.TheVariants.{EscInput, Admin, Repair, Explain}
-use Rattle.fm_top.specs.declared.words.Command.TheVariants.{Generate, GeneratedLines}
 use Rattle.fm_top.specs.ExplainedRow.{HasNoRow}
 use Rattle.fm_top.specs.GenerateStart.{BeginsEarly, BeginsLate}
 use Rattle.fm_top.specs.Kept.{BookAt, FirstDamage, KeepsAsRead, KeepsOther}
-use Rattle.fm_top.specs.Outside.{Outside, SourceAt, disk_by_name, given_of, standing}
-use Rattle.fm_top.specs.RepairEntry.{MarksNothing, RepairAsked}
+use Rattle.fm_top.specs.Outside.{Outside, disk_by_name, given_of, standing}
+use Rattle.fm_top.specs.RepairEntry.{MarksNothing}
 
 -- what the looks depend on: what the input and the sources have, and have left behind the looks;
 -- and the bytes that each disk reads as, where it tells them

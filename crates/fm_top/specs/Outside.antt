@@ -2,25 +2,15 @@
 -- faults.
 use Rattle.std.specs.Prelude.{◌≡◌, ℕ, List, [], ◌∷◌, map, slice_get, Option, Some}
 use Rattle.fm_act.specs.Reconciled.{ActuatorState}
+use Rattle.fm_answers.specs.StreamsAt.{SourceAt, SinkAt}
 use Rattle.fm_logs.specs.Contents.{Contents, content_named}
 use Rattle.fm_logs.specs.declared.disks.DiskName.{DiskName}
 use Rattle.fm_logs.specs.declared.disks.DiskName.TheVariants.{Conf, ErrA, ErrB, SlotA, SlotB, Flt}
 use Rattle.fm_outer.specs.Failures.{Rose}
 use Rattle.fm_outer.specs.declared.source.Source.{Ghosts as SourceGhosts}
-use Rattle.fm_outer.specs.declared.sink.Sink.{Ghosts as SinkGhosts}
 use Rattle.fm_outer.specs.declared.disk.Disk.{Ghosts as DiskGhosts}
 use Rattle.fm_logs.specs.declared.disks.Disks.{Disks}
 use Rattle.fm_sources.specs.Sources.{Given, given}
-
--- the bytes that a source has left, where it tells them
-pub record SourceAt : Type 0 where
-  pub left : Option (List ℕ)
-  pub failures : ℕ
-
--- the bytes that were put, where the sink tells them
-pub record SinkAt : Type 0 where
-  pub bytes : Option (List ℕ)
-  pub failures : ℕ
 
 -- what a read of a disk gives, where it tells that, and the images that a crash may leave
 pub record DiskAt : Type 1 where
@@ -45,12 +35,6 @@ pub record Outside : Type 1 where
   pub acts : List ActuatorState
 
 -- each object as it stands
-
-abbrev pub source_at : {S : Type 0} → SourceGhosts S → S → SourceAt
-source_at g source = record { left = g.left source; failures = g.failures source }
-
-abbrev pub sink_at : {K : Type 0} → SinkGhosts K → K → SinkAt
-sink_at g sink = record { bytes = g.put_bytes sink; failures = g.failures sink }
 
 abbrev pub disk_at : {D : Type 0} → DiskGhosts D → D → DiskAt
 disk_at g disk = record { seen = g.seen disk; images = g.images disk; failures = g.failures disk }

@@ -1,6 +1,8 @@
 -- What becomes of a store that takes entries.
 use Rattle.std.specs.Prelude.{◌≡◌, ℕ, ◌+◌, ◌<◌, ◌^◌, List, [], ◌∷◌, ◌++◌, length, map, Some, None}
 use Rattle.std.specs.declared.option.Option.{Option}
+use Rattle.fm_answers.specs.declared.stops.Stop.{Stop}
+use Rattle.fm_answers.specs.declared.stops.Stop.TheVariants.{Disk, Full}
 use Rattle.fm_core.specs.Book.{ModuleState, with_entries}
 use Rattle.fm_entry.specs.Entries.{entry_bytes}
 use Rattle.fm_entry.specs.declared.entry.Entry.{Entry}
@@ -18,8 +20,6 @@ use Rattle.fm_outer.specs.declared.disk.Disk.{Ghosts}
 use Rattle.fm_settled.specs.BaseLimits.{figures_of}
 use Rattle.fm_store.specs.StoreLeft.{store_disk, EachLeft, ReadsLikeEither}
 use Rattle.fm_store.specs.StoreOf.{StoreOf, StoreStandsFor}
-use Rattle.fm_top.specs.declared.stops.Stop.{Stop}
-use Rattle.fm_top.specs.declared.stops.Stop.TheVariants.{Disk, Full}
 
 -- the payloads that spell these entries
 abbrev pub payloads_of : List Entry → List (List ℕ)

@@ -2,6 +2,8 @@
 use Rattle.std.proofs.Common.{◌≡◌, ◌+◌, List, [], ◌∷◌, ◌++◌, length, Option, Some}
 use Rattle.std.proofs.Common.{None, refl, sym, ◌∙◌, ap, subst, arith, append_assoc, append-nil}
 use Rattle.std.proofs.Common.{length-append}
+use Rattle.fm_answers.specs.declared.stops.Stop.{Stop}
+use Rattle.fm_answers.specs.declared.stops.Stop.TheVariants.{Disk, Full}
 use Rattle.fm_core.specs.Book.{ModuleState}
 use Rattle.fm_entry.specs.declared.entry.Entry.{Entry}
 use Rattle.fm_logs.specs.StoreBook.{StoreBook, with_book}
@@ -11,8 +13,6 @@ use Rattle.fm_store.specs.StoreCalls.{next_entry}
 use Rattle.fm_store.specs.StoreLeft.{store_disk, EachLeft, ReadsLikeEither}
 use Rattle.fm_store.specs.StoreOf.{StoreOf, StoreStandsFor}
 use Rattle.fm_top.specs.Recording.{store_with, LastCounts, LogsLeft, BookLeft, Recorded}
-use Rattle.fm_top.specs.declared.stops.Stop.{Stop}
-use Rattle.fm_top.specs.declared.stops.Stop.TheVariants.{Disk, Full}
 
 -- a book with other entries
 abbrev book_of : StoreBook → List Entry → StoreBook

@@ -10,6 +10,12 @@ use Rattle.fm_admin.specs.Limits.{RepairLimit}
 use Rattle.fm_admin.specs.Repairing.{IsRepaired}
 use Rattle.fm_admin.specs.Telling.{IsDrainedOf}
 use Rattle.fm_admin.specs.declared.repairing.Repaired.{Repaired}
+use Rattle.fm_answers.specs.Answers.{ok_text}
+use Rattle.fm_answers.specs.StreamsAt.{SinkAt}
+use Rattle.fm_answers.specs.Stops.{of_store}
+use Rattle.fm_answers.specs.declared.stops.Stop.{Stop}
+use Rattle.fm_answers.specs.declared.stops.Stop.TheVariants.{NotFaulty}
+use Rattle.fm_command.specs.RepairAsked.{RepairAsked}
 use Rattle.fm_conclude.specs.Concluding.{NoDiskFailed}
 use Rattle.fm_core.specs.Book.{ModuleState}
 use Rattle.fm_core.specs.Hands.{HandOf}
@@ -29,17 +35,13 @@ use Rattle.fm_store.specs.StoreReading.{IsNoDamage}
 use Rattle.fm_summary.specs.DrainedSummary.{diagnosers}
 use Rattle.fm_top.specs.Accepting.{DisksAccount, ReachesLimit}
 use Rattle.fm_top.specs.Admin.{AdminRefused, StoreUnopened}
-use Rattle.fm_top.specs.Answers.{ok_text}
 use Rattle.fm_top.specs.DrainedBook.{ReadsDrained}
 use Rattle.fm_top.specs.Fmd.{ConcludingStops, SettlingEnds}
 use Rattle.fm_top.specs.Headline.{HoldsOfBook}
 use Rattle.fm_top.specs.Kept.{BookAt}
 use Rattle.fm_top.specs.Limits.{WorkLimit}
-use Rattle.fm_top.specs.Outside.{SinkAt, DisksAt, Tells, Leaves}
-use Rattle.fm_top.specs.RepairEntry.{HasRepair, IsEntryAt, IsEntryOf, RepairAsked, order_by}
-use Rattle.fm_top.specs.Stops.{of_store}
-use Rattle.fm_top.specs.declared.stops.Stop.{Stop}
-use Rattle.fm_top.specs.declared.stops.Stop.TheVariants.{NotFaulty}
+use Rattle.fm_top.specs.Outside.{DisksAt, Tells, Leaves}
+use Rattle.fm_top.specs.RepairEntry.{HasRepair, IsEntryAt, IsEntryOf, order_by}
 
 -- ---- an open store
 

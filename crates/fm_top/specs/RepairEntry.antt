@@ -11,11 +11,6 @@ use Rattle.fm_saved.specs.declared.conf.Conf.{Conf}
 use Rattle.fm_store.specs.StoreLeft.{ReadsLike}
 use Rattle.fm_top.specs.Kept.{BookAt}
 
--- what an operator says of repairs, and when
-pub record RepairAsked : Type 0 where
-  pub moment : ℕ
-  pub repair : Repair
-
 -- the same, under the namespace of a configuration
 abbrev pub order_by : Conf → RepairAsked → RepairOrder
 order_by conf asked = record {

@@ -2,6 +2,10 @@
 use Rattle.std.specs.Prelude.{◌≡◌, List, true, Some, Result, Ok, Err}
 use Rattle.std.specs.Io.KnownBytes.{Appends, Consumes, IsAtEnd}
 use Rattle.dx_engine.specs.Diagnosers.{DiagnoserOf}
+use Rattle.fm_answers.specs.StreamsAt.{SourceAt, SinkAt}
+use Rattle.fm_answers.specs.Running.{RanAll, RanUntil}
+use Rattle.fm_answers.specs.Stops.{of_store}
+use Rattle.fm_answers.specs.declared.stops.Stop.{Stop}
 use Rattle.fm_core.specs.Hands.{HandOf}
 use Rattle.fm_outer.specs.declared.disk.Disk.{Ghosts}
 use Rattle.fm_saved.specs.declared.conf.Conf.{Conf}
@@ -14,13 +18,10 @@ use Rattle.fm_top.specs.Fmd.{StoreRan}
 use Rattle.fm_top.specs.FmdStore.{StoreWorks}
 use Rattle.fm_top.specs.Generate.{GenerateFinished, GenerateHalts, GenerateTried, LinesTried}
 use Rattle.fm_top.specs.Generate.{ListsGenerated}
-use Rattle.fm_top.specs.Outside.{SourceAt, SinkAt, DisksAt}
+use Rattle.fm_top.specs.Outside.{DisksAt}
 use Rattle.fm_top.specs.Recording.{Recorded}
 use Rattle.fm_top.specs.Repair.{RepairDone, RepairHalts, RepairTried}
-use Rattle.fm_top.specs.Running.{RanAll, RanUntil}
 use Rattle.fm_logs.specs.declared.fault.StoreFault.{StoreFault}
-use Rattle.fm_top.specs.Stops.{of_store}
-use Rattle.fm_top.specs.declared.stops.Stop.{Stop}
 use Rattle.fm_top.specs.declared.tasks.StoreTask.{StoreTask}
 use Rattle.fm_top.specs.declared.tasks.StoreTask.TheVariants.{Accept, Fmd, Admin, Repair, Explain}
 use Rattle.fm_top.specs.declared.tasks.StoreTask.TheVariants.{Generate, GeneratedLines}

@@ -1,20 +1,20 @@
 // The command `accept`.
 ghost use Rattle.std.specs.Prelude.{◌≡◌, List, None};
+ghost use Rattle.fm_answers.specs.Accounts.{Accounts};
+ghost use Rattle.fm_answers.specs.StreamsAt.{source_at, sink_at};
 ghost use Rattle.fm_core.specs.Hands.{HandOf};
 ghost use Rattle.fm_saved.specs.declared.conf.Conf.{Conf};
 ghost use Rattle.dx_engine.specs.Diagnosers.{DiagnoserOf};
 ghost use Rattle.fm_store.specs.StoreLeft.{AreSameStore};
 ghost use Rattle.fm_top.specs.Accepting.{AcceptRan};
-ghost use Rattle.fm_top.specs.Accounts.{Accounts};
 ghost use Rattle.fm_top.specs.Calls.{names_of};
-ghost use Rattle.fm_top.specs.Outside.{source_at, sink_at, disks_at};
+ghost use Rattle.fm_top.specs.Outside.{disks_at};
 ghost use Rattle.fm_top.specs.Tasks.{TaskDoes};
 
 use crate::opened::work_store;
-use crate::reading::run;
-use crate::stops::Stop;
 use crate::tasks::{StoreTask, Streams, TaskDone};
 use dx_engine::Diagnoser;
+use fm_answers::{Stop, run};
 use fm_init::Disks;
 use fm_outer::{Disk, Sink, Source};
 use fm_store::Store;

@@ -1,25 +1,25 @@
 // The operator's commands that put one text.
 ghost use Rattle.std.specs.Prelude.{◌≡◌, ◌≤◌, Err, None, length, IfOk};
+ghost use Rattle.fm_answers.specs.StreamsAt.{SinkAt, SourceAt, sink_at};
 ghost use Rattle.fm_drain.specs.DrainCalls.{AreAtCursors};
 ghost use Rattle.fm_saved.specs.declared.conf.Conf.{Conf};
 ghost use Rattle.fm_store.specs.StoreLeft.{AreSameStore};
 ghost use Rattle.fm_summary.specs.DrainedSummary.{diagnosers};
 ghost use Rattle.fm_top.specs.Admin.{AdminDone, AdminRan, rotated_text};
 ghost use Rattle.fm_top.specs.Calls.{names_of};
-ghost use Rattle.fm_top.specs.Outside.{SinkAt, SourceAt, sink_at, disks_at};
+ghost use Rattle.fm_top.specs.Outside.{disks_at};
 ghost use Rattle.fm_top.specs.Tasks.{TaskDoes};
 
-use crate::answering::put_bytes;
 use crate::configuring::drained_conf;
 use crate::dumping::dump_text;
 use crate::no_input::NoInput;
 use crate::opened::work_store;
-use crate::stops::Stop;
 use crate::tasks::{StoreTask, TaskDone};
-use crate::words::AdminCommand;
 use dx_engine::Diagnoser;
 use fm_admin::{rotate_drained, tell_faulty};
+use fm_answers::{Stop, put_bytes};
 use fm_bytes::NoMemory;
+use fm_command::AdminCommand;
 use fm_core::Hand;
 use fm_init::Disks;
 use fm_outer::{Disk, Sink};

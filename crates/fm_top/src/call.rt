@@ -1,9 +1,10 @@
 // The top call.
 ghost use Rattle.std.specs.Prelude.{◌≡◌, ◌<◌, ◌≤◌, ◌^◌, length, map};
+ghost use Rattle.fm_answers.specs.StreamsAt.{source_at, sink_at};
+ghost use Rattle.fm_command.specs.Words.{command_of};
 ghost use Rattle.fm_top.specs.Calls.{Does, WorksOn, handed, names_of};
 ghost use Rattle.fm_act.specs.Reconciled.{actuator_state};
-ghost use Rattle.fm_top.specs.Outside.{Outside, source_at, sink_at, disks_at};
-ghost use Rattle.fm_top.specs.Words.{command_of};
+ghost use Rattle.fm_top.specs.Outside.{Outside, disks_at};
 
 use crate::accept::accept;
 use crate::admin::tell;
@@ -12,13 +13,10 @@ use crate::explaining::explain;
 use crate::fmd::fmd;
 use crate::generating::{generate, put_generated};
 use crate::init::init;
-use crate::last::end;
 use crate::repairing::repair;
-use crate::replaying::replay;
-use crate::status::ToolStatus;
-use crate::stops::Stop;
-use crate::words::{Command, command_of};
 use fm_act::Actuator;
+use fm_answers::{Stop, ToolStatus, end, replay};
+use fm_command::{Command, command_of};
 use fm_init::Disks;
 use fm_outer::{Disk, Sink, Source};
 use fm_text::ArgText;

@@ -6,8 +6,8 @@ ghost use Rattle.fm_store.specs.StoreLeft.{AreSameStore};
 ghost use Rattle.fm_summary.specs.DrainedSummary.{diagnosers};
 ghost use Rattle.fm_top.specs.Admin.{AdminDone};
 
-use crate::words::AdminCommand;
 use dx_engine::Diagnoser;
+use fm_command::AdminCommand;
 use fm_config::tell_conf;
 use fm_core::Hand;
 use fm_drain::drain;

@@ -1,10 +1,10 @@
 // The logs of a store as an operator reads them.
 ghost use Rattle.std.specs.Prelude.{◌≡◌, ◌≤◌, None, length};
+ghost use Rattle.fm_command.specs.declared.words.AdminCommand.TheVariants.{Dump};
 ghost use Rattle.fm_drain.specs.DrainCalls.{AreAtCursors};
 ghost use Rattle.fm_store.specs.StoreLeft.{AreSameStore};
 ghost use Rattle.fm_summary.specs.DrainedSummary.{diagnosers};
 ghost use Rattle.fm_top.specs.Admin.{AdminDone};
-ghost use Rattle.fm_top.specs.declared.words.AdminCommand.TheVariants.{Dump};
 
 use dx_engine::Diagnoser;
 use fm_admin::{dump_errors, dump_faults};

@@ -1,11 +1,10 @@
 // The command `esc`.
 ghost use Rattle.std.specs.Prelude.{◌≤◌, length};
+ghost use Rattle.fm_answers.specs.StreamsAt.{sink_at};
 ghost use Rattle.fm_sources.specs.Sources.{given};
 ghost use Rattle.fm_top.specs.Esc.{EscEnds, EscInputEnds};
-ghost use Rattle.fm_top.specs.Outside.{sink_at};
 
-use crate::answering::put_bytes;
-use crate::stops::Stop;
+use fm_answers::{Stop, put_bytes};
 use fm_esc::{GraphForm, compile_sources, list_input};
 use fm_outer::{Sink, Source};
 use std::alloc::Global;

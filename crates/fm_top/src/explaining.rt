@@ -1,19 +1,19 @@
 // The operator's command `explain`.
 ghost use Rattle.std.specs.Prelude.{◌≡◌, ◌≤◌, Err, None, length};
+ghost use Rattle.fm_answers.specs.StreamsAt.{SinkAt, SourceAt, sink_at};
 ghost use Rattle.fm_drain.specs.DrainCalls.{AreAtCursors};
 ghost use Rattle.fm_store.specs.StoreLeft.{AreSameStore};
 ghost use Rattle.fm_summary.specs.DrainedSummary.{diagnosers};
 ghost use Rattle.fm_top.specs.Calls.{names_of};
 ghost use Rattle.fm_top.specs.Explain.{ExplainRan};
-ghost use Rattle.fm_top.specs.Outside.{SinkAt, SourceAt, sink_at, disks_at};
+ghost use Rattle.fm_top.specs.Outside.{disks_at};
 ghost use Rattle.fm_top.specs.Tasks.{TaskDoes};
 
-use crate::answering::put_bytes;
 use crate::no_input::NoInput;
 use crate::opened::work_store;
-use crate::stops::Stop;
 use crate::tasks::{StoreTask, TaskDone};
 use dx_engine::Diagnoser;
+use fm_answers::{Stop, put_bytes};
 use fm_core::Hand;
 use fm_init::Disks;
 use fm_outer::{Disk, Sink};

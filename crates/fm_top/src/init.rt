@@ -1,15 +1,15 @@
 // The command `init`.
 ghost use Rattle.std.specs.Prelude.{◌≡◌, ◌≤◌, length, map, IfOk};
+ghost use Rattle.fm_answers.specs.Stops.{ran_store};
 ghost use Rattle.fm_logs.specs.Contents.{AreSameDisks};
 ghost use Rattle.fm_saved.specs.Confs.{IsSpelledConf};
 ghost use Rattle.fm_sources.specs.Sources.{ReadsSources, given};
 ghost use Rattle.fm_top.specs.Calls.{names_of, six};
 ghost use Rattle.fm_top.specs.Init.{conf_with, MakingEnds, InitEnds};
 ghost use Rattle.fm_top.specs.Outside.{disk_at, disks_at};
-ghost use Rattle.fm_top.specs.Stops.{ran_store};
 
 use crate::lent::Lent;
-use crate::stops::Stop;
+use fm_answers::Stop;
 use fm_bytes::{Items, NoMemory};
 use fm_init::{Disks, StoreFault};
 use fm_outer::{Disk, Source};

@@ -1,14 +1,13 @@
 //! The top call: what one run of the fault manager does with its words, its input, its sink, its
 //! disks and its actuators.
 //!
-//! `tool` finds the command in the words and runs it, and `last::end` puts its last line. `init`
-//! reads the rule files and the topology, and makes a store of them. `esc` puts what they come to,
-//! or lists what `esc -b` put; fm_esc makes its text. `accept` and `replay` read the input by one
-//! loop, `reading::run`: it reads pieces, cuts them into lines, and answers each line once, after
-//! its entry was taken. What takes the entries is a `takers::Taker`: for `accept` the store on the
-//! six disks, which is opened first with the modules of what it keeps, for `replay` a
-//! `tally::Tally`: a core of two counters in memory, after which the next one goes on. Why a
-//! command stops before all is done is a `Stop`; it gives the last line and the status.
+//! `tool` finds the command in the words (fm_command) and runs it, and fm_answers' `end` puts its
+//! last line. `init` reads the rule files and the topology, and makes a store of them. `esc` puts
+//! what they come to, or lists what `esc -b` put; fm_esc makes its text. `accept` and `replay` read
+//! the input by one loop, fm_answers' `run`: it answers each line once, after its entry was taken.
+//! What takes the entries is for `accept` the store on the six disks, which is opened first with
+//! the modules of what it keeps (`recording`). Why a command stops before all is done is a `Stop`;
+//! it gives the last line and the status.
 //!
 //! `fmd -1` reads the sources as `esc` does, opens the store and has it keep entries as `accept`
 //! does, where it keeps just what was read (`as_read`). It then has fm_conclude drain the store and
@@ -18,25 +17,22 @@
 //!
 //! What is done with a store is a `tasks::StoreTask`. One chain of calls (`opened`) opens the store
 //! on six lent disks, does the task with it and gives the disks back, and says what came of it by
-//! the task (`specs/Tasks`). `fmadm` has fm_admin drain the store and tell a text of it, which is put
-//! when the disks are back (`admin`, `specs/Admin`); so does `fmdump`, of one of the logs (`dumping`,
-//! `specs/Dump`), and `explain`, of one case (`explaining`, `specs/Explain`). `gen` makes entries of
-//! a number, of the reports that fm_config has of the configuration in force, which the store takes,
-//! or of which the lines are put (`generating`, `specs/Generate`).
+//! the task (`specs/Tasks`). `fmadm` has fm_admin drain the store and tell a text of it, which is
+//! put when the disks are back (`admin`, `specs/Admin`); so does `fmdump`, of one of the logs
+//! (`dumping`, `specs/Dump`), and `explain`, of one case (`explaining`, `specs/Explain`). `gen`
+//! makes entries of a number, of the reports that fm_config has of the configuration in force,
+//! which the store takes, or of which the lines are put (`generating`, `specs/Generate`).
 //!
 //! The model of a call is two records of what stands outside, before and after it
 //! (`specs/Outside`). `specs/Calls` says by the command what lies between them; `specs/Order` in
-//! which order a command refuses, and what stands where it goes on; `specs/Ending` what is put
-//! last.
+//! which order a command refuses, and what stands where it goes on; fm_answers' `specs/Ending` what
+//! is put last.
 //!
-//! The model of a run over the input is the list of bytes that were read. The answers
-//! (`specs/Answers`) and the entries are functions of its lines, and the lines are those of the
-//! whole stream, however it came in pieces. `specs/Running` says how a run ends: at the end of the
-//! input with each line answered; between two lines, with each line answered that ended in the
-//! bytes read before; or at a line, with each line before it answered. It says so of any taker, by
-//! what became of the entries; `specs/Accepting` and `specs/Replaying` say what that is for each
-//! command; `specs/Init` says what `init` does, `specs/Esc` what `esc` does, `specs/Fmd` what
-//! `fmd -1` does, and `specs/Admin` what an operator's command does that puts one text.
+//! How a run over the input ends is said by fm_answers (`specs/Running`), of any taker, by what
+//! became of the entries; `specs/Accepting` says what that is for `accept`, and fm_answers'
+//! `specs/Replaying` for `replay`; `specs/Init` says what `init` does, `specs/Esc` what `esc` does,
+//! `specs/Fmd` what `fmd -1` does, and `specs/Admin` what an operator's command does that puts one
+//! text.
 //!
 //! **The headline.** `specs/Headline` says of every command, whatever its status, what a crash at
 //! the return leaves of the six disks: contents from before, or contents that read as a book which
@@ -44,11 +40,6 @@
 //! were answered and of one more at most. It follows from what the store says of each entry
 //! (`specs/Recording`), which goes on over a run as lines are answered. It says so of each book
 //! that the contents from before read as; they read as one (`proofs/BookHeld`).
-//!
-//! The loops carry one relation, `Moved` (`specs/Halting`): from one moment to a later one a piece
-//! was read, the lines that ended in it were answered, and whatever follows goes on from what is
-//! kept of the line in progress. It is transitive, and each loop's invariant is that it holds from
-//! the loop's start.
 //!
 //! Counts of faults: each step says by `Accounts` that an Ok leaves the count of the source, the
 //! sink or the disk, and that its fault is answered only where it rose. So `tool` is done only
@@ -59,39 +50,26 @@
 
 mod accept;
 mod admin;
-mod answering;
 mod as_read;
 mod call;
 mod configuring;
-mod counts;
 mod dumping;
 mod esc;
 mod explaining;
 mod fmd;
 mod generating;
 mod init;
-mod last;
 mod lent;
 mod no_input;
 mod opened;
-mod reading;
 mod recording;
 mod repairing;
-mod replaying;
-mod request;
 mod settle;
-mod status;
-mod stops;
-mod takers;
-mod tally;
 mod tasks;
-mod words;
 
 pub use call::tool;
 pub use fm_act::{ActFault, Actuator};
 pub use fm_admin::Repair;
+pub use fm_answers::{Stop, ToolStatus};
+pub use fm_command::{AdminCommand, Command, RepairRequest};
 pub use fm_init::{DiskName, Disks};
-pub use request::RepairRequest;
-pub use status::ToolStatus;
-pub use stops::Stop;
-pub use words::{AdminCommand, Command};

@@ -1,12 +1,13 @@
 // A store that is opened on six disks that are lent, what is done with it, and the disks back.
 ghost use Rattle.std.specs.Prelude.{◌≡◌, ◌≤◌, None, length};
+ghost use Rattle.fm_answers.specs.Accounts.{Accounts};
+ghost use Rattle.fm_answers.specs.StreamsAt.{source_at, sink_at};
 ghost use Rattle.fm_drain.specs.DrainCalls.{AreAtCursors};
 ghost use Rattle.fm_logs.specs.Contents.{AreSameDisks};
 ghost use Rattle.fm_store.specs.StoreLeft.{AreSameStore};
 ghost use Rattle.fm_summary.specs.DrainedSummary.{diagnosers};
-ghost use Rattle.fm_top.specs.Accounts.{Accounts};
 ghost use Rattle.fm_top.specs.Calls.{names_of, six};
-ghost use Rattle.fm_top.specs.Outside.{source_at, sink_at, disks_at};
+ghost use Rattle.fm_top.specs.Outside.{disks_at};
 ghost use Rattle.fm_top.specs.Tasks.{TaskDoes, TaskRan};
 
 use crate::accept::accept_lines;
@@ -16,9 +17,9 @@ use crate::fmd::diagnose_lines;
 use crate::generating::{generate_entries, list_entries};
 use crate::lent::Lent;
 use crate::repairing::repair_store;
-use crate::stops::Stop;
 use crate::tasks::{StoreTask, Streams, TaskDone};
 use dx_engine::Diagnoser;
+use fm_answers::Stop;
 use fm_core::Hand;
 use fm_init::Disks;
 use fm_modules::open_store;

@@ -3,8 +3,7 @@ ghost use Rattle.std.specs.Prelude.{◌≡◌, None};
 ghost use Rattle.fm_store.specs.StoreCalls.{next_entry};
 ghost use Rattle.fm_store.specs.StoreLeft.{store_disk};
 
-use crate::stops::Stop;
-use crate::takers::Taker;
+use fm_answers::{Stop, Taker};
 use fm_entry::Entry;
 use fm_outer::Disk;
 use fm_store::Store;

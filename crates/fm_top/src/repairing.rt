@@ -1,26 +1,27 @@
 // The operator's commands that accept what is said of repairs.
 ghost use Rattle.std.specs.Prelude.{◌≡◌, ◌≤◌, Err, None, length, map, IfOk};
 ghost use Rattle.fm_act.specs.Reconciled.{actuator_state};
+ghost use Rattle.fm_answers.specs.Answers.{ok_text};
+ghost use Rattle.fm_answers.specs.StreamsAt.{SinkAt, SourceAt, sink_at};
 ghost use Rattle.fm_drain.specs.DrainCalls.{AreAtCursors};
 ghost use Rattle.fm_store.specs.StoreLeft.{AreSameStore};
 ghost use Rattle.fm_summary.specs.DrainedSummary.{diagnosers};
-ghost use Rattle.fm_top.specs.Answers.{ok_text};
 ghost use Rattle.fm_top.specs.Calls.{names_of};
 ghost use Rattle.fm_top.specs.Fmd.{SettlingEnds};
-ghost use Rattle.fm_top.specs.Outside.{SinkAt, SourceAt, sink_at, disks_at};
+ghost use Rattle.fm_top.specs.Outside.{disks_at};
 ghost use Rattle.fm_top.specs.Repair.{RepairRan};
 ghost use Rattle.fm_top.specs.Tasks.{TaskDoes};
 
 use crate::no_input::NoInput;
 use crate::opened::work_store;
-use crate::request::RepairRequest;
 use crate::settle::{Settlement, settle};
-use crate::stops::Stop;
 use crate::tasks::{StoreTask, TaskDone};
 use dx_engine::Diagnoser;
 use fm_act::ActCalls;
 use fm_admin::Repaired;
+use fm_answers::Stop;
 use fm_bytes::NoMemory;
+use fm_command::RepairRequest;
 use fm_core::Hand;
 use fm_init::Disks;
 use fm_outer::{Disk, Sink};
@@ -64,7 +65,7 @@ fn ok_line(alloc: Global, number: u64) -> Result<Vec<u8>, NoMemory>
 }
 
 /// Brings each actuator to hold what is wanted of its kind, and tells the number of the entry.
-#[tactic(auto, using(crate::proofs::Sinks::appends_none))]
+#[tactic(auto, using(fm_answers::proofs::Sinks::appends_none))]
 fn settle_repair<K: Sink, A: ActCalls>(
     alloc: Global,
     repaired: Repaired,

@@ -1,13 +1,12 @@
 // What follows the drain of a store: actuators come to hold what is wanted, and a text is put.
 ghost use Rattle.std.specs.Prelude.{map};
 ghost use Rattle.fm_act.specs.Reconciled.{actuator_state};
-ghost use Rattle.fm_top.specs.Accounts.{Accounts};
+ghost use Rattle.fm_answers.specs.Accounts.{Accounts};
+ghost use Rattle.fm_answers.specs.StreamsAt.{sink_at};
 ghost use Rattle.fm_top.specs.Fmd.{SettlingEnds};
-ghost use Rattle.fm_top.specs.Outside.{sink_at};
 
-use crate::answering::put_bytes;
-use crate::stops::Stop;
 use fm_act::{ActCalls, ActRefused, settle_actuators};
+use fm_answers::{Stop, put_bytes};
 use fm_outer::Sink;
 use fm_status::Wanted;
 use std::alloc::Global;

@@ -1,7 +1,6 @@
 // What a command does with a store that is open, and what is left to do once the disks are back.
-use crate::request::RepairRequest;
-use crate::words::AdminCommand;
 use fm_admin::Repaired;
+use fm_command::{AdminCommand, RepairRequest};
 use fm_conclude::Conclusion;
 use fm_sources::Sources;
 use std::alloc::Global;

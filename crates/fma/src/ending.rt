@@ -1,7 +1,7 @@
 // The exit status of the process.
 ghost use Rattle.std.specs.Prelude.{◌≡◌};
 ghost use Rattle.std.specs.Process.{exit_status};
-ghost use Rattle.fm_top.specs.Status.{code_of};
+ghost use Rattle.fm_answers.specs.Status.{code_of};
 
 use fm_top::ToolStatus;
 use std::process::ExitCode;

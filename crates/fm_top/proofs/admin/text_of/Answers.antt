@@ -1,6 +1,6 @@
 use denote.Param.Send.{sendable}
 use Rattle.dx_engine.proofs.Crossing.{diagnoser_send}
-use Rattle.fm_top.specs.declared.words.AdminCommand.TheVariants.{Config, Dump, Faulty, Rotate}
+use Rattle.fm_command.specs.declared.words.AdminCommand.TheVariants.{Config, Dump, Faulty, Rotate}
 use Rattle.fm_top.proofs.Texts.{done_as, faulty_done}
 use Rattle.fm_top.proofs.admin.text_of.Goals as goal
 

@@ -1,8 +1,8 @@
 use Rattle.std.proofs.Common.{refl, rules, Some}
-use Rattle.fm_top.specs.Outside.{sink_at}
-use Rattle.fm_top.specs.declared.words.Command.TheVariants.{Accept, Fmd, Replay, Init, Esc}
-use Rattle.fm_top.specs.declared.words.Command.TheVariants.{EscInput, Admin, Repair, Explain}
-use Rattle.fm_top.specs.declared.words.Command.TheVariants.{Generate, GeneratedLines}
+use Rattle.fm_answers.specs.StreamsAt.{sink_at}
+use Rattle.fm_command.specs.declared.words.Command.TheVariants.{Accept, Fmd, Replay, Init, Esc}
+use Rattle.fm_command.specs.declared.words.Command.TheVariants.{EscInput, Admin, Repair, Explain}
+use Rattle.fm_command.specs.declared.words.Command.TheVariants.{Generate, GeneratedLines}
 use Rattle.fm_top.proofs.AdminDoing.{does_tell}
 use Rattle.fm_top.proofs.Doing.{does_as, does_accept, does_replay}
 use Rattle.fm_top.proofs.Escs.{does_esc, does_input, esc_standing, input_standing}

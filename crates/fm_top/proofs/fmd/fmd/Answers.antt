@@ -1,6 +1,6 @@
 use Rattle.std.proofs.Common.{inl, inr, refl, rules, Ok}
 use Rattle.std.proofs.lemmas.Result.{err_from_is_err_and}
-use Rattle.fm_top.specs.Outside.{sink_at}
+use Rattle.fm_answers.specs.StreamsAt.{sink_at}
 use Rattle.fm_top.proofs.FmdDoing.{stopped_ran}
 use Rattle.fm_top.proofs.Standing.{reads_standing}
 use Rattle.fm_top.proofs.TasksDone.{fmd_did}

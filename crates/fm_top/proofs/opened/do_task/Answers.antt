@@ -1,5 +1,5 @@
 use Rattle.std.proofs.Common.{rules}
-use Rattle.fm_top.specs.Outside.{source_at, sink_at}
+use Rattle.fm_answers.specs.StreamsAt.{source_at, sink_at}
 use Rattle.fm_top.specs.declared.tasks.StoreTask.TheVariants.{Accept, Admin, Repair, Explain}
 use Rattle.fm_top.specs.declared.tasks.StoreTask.TheVariants.{Generate, GeneratedLines}
 use Rattle.fm_top.proofs.TasksDone.{does_task}

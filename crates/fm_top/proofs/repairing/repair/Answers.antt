@@ -1,6 +1,6 @@
 use Rattle.std.proofs.Common.{inl, inr, refl, rules, Some, []}
 use Rattle.std.proofs.lemmas.Result.{err_from_is_err_and}
-use Rattle.fm_top.specs.Outside.{SourceAt}
+use Rattle.fm_answers.specs.StreamsAt.{SourceAt}
 use Rattle.fm_top.proofs.RepairDoing.{settled_from}
 use Rattle.fm_top.proofs.TasksDone.{repair_did}
 use Rattle.fm_top.proofs.repairing.repair.Goals as goal

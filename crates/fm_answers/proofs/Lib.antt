@@ -1,0 +1,13 @@
+pub mod AnswerLists
+pub mod CountLines
+pub mod Cuts
+pub mod Feeding
+pub mod Halts
+pub mod Moving
+pub mod OnPieces
+pub mod Replays
+pub mod Sinks
+pub mod Stopping
+pub mod Summaries
+pub mod Tallies
+pub mod Weaker

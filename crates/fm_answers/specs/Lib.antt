@@ -1,0 +1,14 @@
+pub mod Accounts
+pub mod Answers
+pub mod Draining
+pub mod Ended
+pub mod Ending
+pub mod Halting
+pub mod Refusing
+pub mod Replaying
+pub mod Running
+pub mod Status
+pub mod Stops
+pub mod StreamsAt
+pub mod Tallied
+pub mod TallyLaws

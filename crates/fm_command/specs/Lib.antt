@@ -1,0 +1,2 @@
+pub mod RepairAsked
+pub mod Words

@@ -1,0 +1,8 @@
+-- What an operator says of repairs, and when.
+use Rattle.std.specs.Prelude.{ℕ}
+use Rattle.fm_admin.specs.declared.marking.Repair.{Repair}
+
+-- what an operator says of repairs, and when
+pub record RepairAsked : Type 0 where
+  pub moment : ℕ
+  pub repair : Repair
