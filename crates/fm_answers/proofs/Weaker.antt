@@ -1,5 +1,5 @@
 -- A run over the input, in weaker words of what became of the entries.
-use Rattle.std.proofs.Common.{◌⊎◌, inl, inr, ℕ, List, Bool, Option, Some, None}
+use Rattle.std.proofs.Common.{inl, inr, ℕ, List, Bool, Option, Some, None}
 use Rattle.fm_entry.specs.declared.entry.Entry.{Entry}
 use Rattle.fm_answers.specs.Answers.{answers}
 use Rattle.fm_answers.specs.Running.{Line, Taken, StopsAt, RanAll, RanUntil}

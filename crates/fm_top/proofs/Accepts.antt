@@ -7,12 +7,11 @@ use Rattle.std.specs.Io.KnownBytes.{Appends, Consumes, IsAtEnd}
 use Rattle.std.specs.Result.{IfErr, OnOk}
 use Rattle.std.proofs.lemmas.List.{length-map}
 use Rattle.fm_answers.specs.Accounts.{Accounts}
-use Rattle.fm_answers.specs.Answers.{answers}
 use Rattle.fm_answers.specs.StreamsAt.{SourceAt, SinkAt}
-use Rattle.fm_answers.specs.Running.{Line, Taken, StopsAt, RanAll, RanUntil}
+use Rattle.fm_answers.specs.Running.{RanAll, RanUntil}
 use Rattle.fm_answers.specs.Stops.{of_store}
 use Rattle.fm_answers.specs.declared.stops.Stop.{Stop}
-use Rattle.fm_answers.specs.declared.stops.Stop.TheVariants.{Read, Write, Disk, Memory, Full}
+use Rattle.fm_answers.specs.declared.stops.Stop.TheVariants.{Read, Write, Disk, Full}
 use Rattle.fm_answers.proofs.Weaker.{all_weaker, until_weaker}
 use Rattle.fm_core.specs.Book.{ModuleState}
 use Rattle.fm_entry.specs.Entries.{entry_bytes}

@@ -1,6 +1,6 @@
 -- What a command did that generates entries, in the words of the whole call.
 use Rattle.std.proofs.Common.{◌≡◌, ◌∙◌, ◌⊎◌, inl, inr, ℕ, ◌+◌, List, [], ◌∷◌, ◌++◌, length, map}
-use Rattle.std.proofs.Common.{append-nil, take, refl, sym, ap, subst, Some, None, OnOk, IfErr, Result, Ok, Err}
+use Rattle.std.proofs.Common.{append-nil, take, refl, sym, ap, subst, Some, OnOk, IfErr, Result, Ok, Err}
 use Rattle.std.proofs.Math.Seq.{take-append-add, take-append_seam, take-length}
 use Rattle.fm_act.specs.Reconciled.{ActuatorState}
 use Rattle.fm_answers.specs.Ending.{EndsAs}
@@ -10,14 +10,13 @@ use Rattle.fm_answers.specs.declared.stops.Stop.{Stop}
 use Rattle.fm_answers.specs.declared.stops.Stop.TheVariants.{Read, Write, Disk, Damaged, Memory}
 use Rattle.fm_answers.specs.declared.stops.Stop.TheVariants.{Full, Act}
 use Rattle.fm_command.specs.declared.words.Command.TheVariants.{Generate, GeneratedLines}
-use Rattle.fm_conclude.specs.declared.concluding.Conclusion.{Conclusion}
 use Rattle.fm_core.specs.Book.{ModuleState}
 use Rattle.fm_entry.specs.declared.entry.Entry.{Entry}
 use Rattle.fm_journal.specs.declared.fault.FullKind.TheVariants.{Numbers}
 use Rattle.fm_logs.specs.Contents.{Contents}
 use Rattle.fm_logs.specs.StoreBook.{StoreBook}
 use Rattle.fm_store.specs.StoreLeft.{ReadsLike, ReadsLikeEither}
-use Rattle.fm_top.specs.Accepting.{Grew, GrewFrom, OpeningStops}
+use Rattle.fm_top.specs.Accepting.{OpeningStops}
 use Rattle.fm_top.specs.Admin.{StoreUnopened}
 use Rattle.fm_top.specs.Calls.{IsCaused, Does}
 use Rattle.fm_top.specs.Esc.{TextEnds}
@@ -25,12 +24,11 @@ use Rattle.fm_top.specs.Fmd.{ConcludingStops, ReadsBased, SettlingEnds}
 use Rattle.fm_top.specs.Generate.{GenerateConcluded, GenerateRan, GenerateStops, GenerateTried}
 use Rattle.fm_top.specs.Generate.{GenerateUnconcluded, GenerateUntil, Generates, LinesRan}
 use Rattle.fm_top.specs.Generate.{LinesTried, StoreUnbegun, UnbegunStops}
-use Rattle.fm_top.specs.GenerateStart.{BeginsEarly}
 use Rattle.fm_top.specs.Headline.{HasFirst, HasGenerated, HeldGenerated, HoldsOfBook, Headline}
-use Rattle.fm_top.specs.Headline.{LikeBook, Unopened}
+use Rattle.fm_top.specs.Headline.{LikeBook}
 use Rattle.fm_top.specs.Kept.{BookAt}
 use Rattle.fm_top.specs.Limits.{concluding_limit}
-use Rattle.fm_top.specs.Order.{AllPass, FirstFinds, Goes, at_early, at_store, looks, world_of}
+use Rattle.fm_top.specs.Order.{AllPass, Goes, at_early, at_store, world_of}
 use Rattle.fm_top.specs.Outside.{Outside, DisksAt, Tells, Leaves, counts_of}
 use Rattle.fm_top.specs.Recording.{store_with}
 use Rattle.fm_top.proofs.BookHeld.{same_book}

@@ -3,19 +3,16 @@
 use Rattle.std.proofs.Common.{◌≡◌, ◌∙◌, ◌+◌, inl, inr, ℕ, ◌≤◌, ◌<◌, ◌^◌, List, None, Some, Result}
 use Rattle.std.proofs.Common.{Ok, Err, length, refl, sym, subst}
 use Rattle.std.specs.Global.{Vec}
-use Rattle.std.specs.Prelude.{MatchResult}
 use Rattle.dx_engine.specs.Diagnosers.{DiagnoserOf}
 use Rattle.fm_answers.specs.Stops.{of_store}
 use Rattle.fm_answers.specs.declared.stops.Stop.{Stop}
 use Rattle.fm_answers.specs.declared.stops.Stop.TheVariants.{Disk, Memory, Full}
 use Rattle.fm_conclude.specs.Concluding.{NoDiskFailed, SomeDiskFailed}
 use Rattle.fm_conclude.specs.declared.concluding.Conclusion.{Conclusion}
-use Rattle.fm_core.specs.Book.{ModuleState}
 use Rattle.fm_core.specs.Hands.{HandOf}
 use Rattle.fm_entry.specs.declared.entry.Entry.{Entry}
 use Rattle.fm_journal.specs.declared.fault.FullKind.TheVariants.{Numbers}
 use Rattle.fm_logs.specs.Contents.{Contents, AreTold, WereOnlyRead, disk_named}
-use Rattle.fm_logs.specs.StoreBook.{StoreBook}
 use Rattle.fm_logs.specs.declared.disks.DiskName.{DiskName}
 use Rattle.fm_logs.specs.declared.disks.Disks.{Disks}
 use Rattle.fm_logs.specs.declared.fault.StoreFault.{StoreFault}

@@ -33,7 +33,6 @@ use Rattle.fm_top.specs.Esc.{TextEnds}
 use Rattle.fm_top.specs.Fmd.{ConcludingStops, DrainedFrom, SettlingEnds}
 use Rattle.fm_top.specs.GenerateStart.{AreGenerated, AreGeneratedAt, BeginsLate}
 use Rattle.fm_top.specs.Headline.{HoldsOfBook, LikeBook}
-use Rattle.fm_top.specs.Kept.{BookAt}
 use Rattle.fm_top.specs.Limits.{concluding_limit}
 use Rattle.fm_top.specs.Outside.{DisksAt, Tells}
 use Rattle.fm_top.specs.Recording.{Recorded}

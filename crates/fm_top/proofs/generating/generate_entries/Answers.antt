@@ -1,5 +1,4 @@
-use Rattle.std.proofs.Common.{◌∙◌, inl, inr, refl}
-use Rattle.std.proofs.lemmas.Result.{err_from_is_err_and}
+use Rattle.std.proofs.Common.{◌∙◌, inr, refl}
 use Rattle.fm_store.specs.StoreLeft.{store_disk}
 use Rattle.fm_top.proofs.Fmds.{hands_on}
 use Rattle.fm_top.proofs.Lending.{six_of_paired}

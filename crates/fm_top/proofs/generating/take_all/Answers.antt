@@ -1,6 +1,6 @@
 use Rattle.std.proofs.Common.{◌∙◌, refl, rules}
 use Rattle.std.proofs.lemmas.Result.{err_from_is_err_and}
-use Rattle.fm_top.proofs.Taking.{given_one, took_every, took_next, took_none, took_until, took_wanted}
+use Rattle.fm_top.proofs.Taking.{given_one, took_next, took_none, took_until}
 use Rattle.fm_top.proofs.generating.take_all.Goals as goal
 
 pub entries-init : goal.entries-init
