@@ -3,8 +3,10 @@ pub mod CountLines
 pub mod Cuts
 pub mod Feeding
 pub mod Halts
+pub mod Lending
 pub mod Moving
 pub mod OnPieces
+pub mod Recordings
 pub mod Replays
 pub mod Sinks
 pub mod Stopping

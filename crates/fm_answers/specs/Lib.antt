@@ -4,6 +4,9 @@ pub mod Draining
 pub mod Ended
 pub mod Ending
 pub mod Halting
+pub mod Lending
+pub mod Recording
+pub mod RecordingLaws
 pub mod Refusing
 pub mod Replaying
 pub mod Running

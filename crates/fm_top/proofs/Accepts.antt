@@ -13,6 +13,9 @@ use Rattle.fm_answers.specs.Stops.{of_store}
 use Rattle.fm_answers.specs.declared.stops.Stop.{Stop}
 use Rattle.fm_answers.specs.declared.stops.Stop.TheVariants.{Read, Write, Disk, Full}
 use Rattle.fm_answers.proofs.Weaker.{all_weaker, until_weaker}
+use Rattle.fm_answers.specs.Lending.{six_paired}
+use Rattle.fm_answers.specs.Recording.{payloads_of, store_with, FullCause, BookLeft, Recorded}
+use Rattle.fm_answers.proofs.Lending.{six_of_paired}
 use Rattle.fm_core.specs.Book.{ModuleState}
 use Rattle.fm_entry.specs.Entries.{entry_bytes}
 use Rattle.fm_entry.specs.declared.entry.Entry.{Entry}
@@ -53,10 +56,7 @@ use Rattle.fm_store.proofs.StoreReads.{left_active, says_left, store_reads}
 use Rattle.fm_top.specs.Accepting.{AcceptRan, AcceptedAll, AcceptedUntil, NotOpened, OpeningStops}
 use Rattle.fm_top.specs.Accepting.{DisksAccount, Grew, ImageReads, LimitIs}
 use Rattle.fm_top.specs.Kept.{BookAt}
-use Rattle.fm_top.specs.Lending.{six_paired}
 use Rattle.fm_top.specs.Outside.{disks_at}
-use Rattle.fm_top.specs.Recording.{payloads_of, store_with, FullCause, BookLeft, Recorded}
-use Rattle.fm_top.proofs.Lending.{six_of_paired}
 use Rattle.fm_top.proofs.SixDisks.{told_all, images_all, all_only_read, rose_any, none_counts}
 
 -- ---- which limit is reached

@@ -6,6 +6,7 @@ use Rattle.fm_answers.specs.Answers.{answers, entries_of}
 use Rattle.fm_answers.specs.Running.{Line}
 use Rattle.fm_answers.specs.declared.stops.Stop.{Stop}
 use Rattle.fm_answers.specs.declared.stops.Stop.TheVariants.{Act}
+use Rattle.fm_answers.specs.Recording.{store_with}
 use Rattle.fm_core.specs.Book.{ModuleState, next_number}
 use Rattle.fm_line.specs.Lines.{lines_of}
 use Rattle.fm_logs.specs.Contents.{Contents}
@@ -16,7 +17,6 @@ use Rattle.fm_top.specs.Headline.{HasAll, HasAnswered, Held, HoldsOfBook, WereAn
 use Rattle.fm_top.specs.Headline.{HasAfter, HasEach, HeldAfter}
 use Rattle.fm_top.specs.Kept.{BookAt}
 use Rattle.fm_top.specs.Outside.{Leaves, Outside}
-use Rattle.fm_top.specs.Recording.{store_with}
 
 -- what is held of one book, which is there
 pub record HeldOf (before after : Outside) (told : Contents) (ran : Result (Unit {0}) Stop)

@@ -2,6 +2,7 @@
 use Rattle.std.proofs.Common.{List, [], ◌++◌, length, ap, subst, arith}
 use Rattle.std.proofs.lemmas.List.{append-nil}
 use Rattle.std.proofs.lemmas.List.Elements.{All-from_recursion}
+use Rattle.fm_answers.specs.Recording.{store_with}
 use Rattle.fm_conclude.specs.Concluding.{IsConcluded}
 use Rattle.fm_entry.specs.Entries.{IsSpelled}
 use Rattle.fm_entry.specs.declared.entry.Entry.{Entry}
@@ -12,7 +13,6 @@ use Rattle.fm_outer.specs.declared.disk.Disk.{Ghosts}
 use Rattle.fm_store.specs.StoreOf.{StoreOf, StoreStandsFor}
 use Rattle.fm_top.specs.Exact.{IsExactWith}
 use Rattle.fm_top.specs.Kept.{BookAt}
-use Rattle.fm_top.specs.Recording.{store_with}
 
 -- `store` has taken the entries, and `new` is it after the drain
 pub exact_with : {D M : Type 0} (g : Ghosts D) (told : Contents) (stood : BookAt told)

@@ -16,6 +16,7 @@ use Rattle.fm_answers.specs.declared.stops.Stop.TheVariants.{Read, Write, Disk, 
 use Rattle.fm_answers.specs.declared.stops.Stop.TheVariants.{Full}
 use Rattle.fm_answers.specs.declared.stops.Stop.TheVariants.{Differs, Act}
 use Rattle.fm_answers.proofs.AnswerLists.{answers_none, entries_none}
+use Rattle.fm_answers.specs.Recording.{store_with}
 use Rattle.fm_command.specs.declared.words.Command.TheVariants.{Fmd}
 use Rattle.fm_core.specs.Book.{next_number}
 use Rattle.fm_logs.specs.Contents.{Contents}
@@ -37,7 +38,6 @@ use Rattle.fm_top.specs.Kept.{BookAt}
 use Rattle.fm_top.specs.Limits.{WorkLimit}
 use Rattle.fm_top.specs.Outside.{Outside, Tells, Leaves, RoseAt, act_counts}
 use Rattle.fm_top.specs.Outside.{DisksAt, counts_of}
-use Rattle.fm_top.specs.Recording.{store_with}
 use Rattle.fm_top.proofs.BookHeld.{HeldAfterOf, HeldOf, held_after_each}
 use Rattle.fm_top.proofs.Doing.{run_ends}
 use Rattle.fm_top.proofs.Escs.{cause_caused, cause_goes, cause_standing, ok_no_err}

@@ -14,6 +14,8 @@ use Rattle.fm_answers.specs.declared.stops.Stop.{Stop}
 use Rattle.fm_answers.specs.declared.stops.Stop.TheVariants.{Read, Write, Disk}
 use Rattle.fm_answers.specs.declared.stops.Stop.TheVariants.{Differs}
 use Rattle.fm_answers.proofs.Weaker.{until_weaker}
+use Rattle.fm_answers.specs.Recording.{store_with, Recorded}
+use Rattle.fm_answers.specs.RecordingLaws.{recorded_none}
 use Rattle.fm_conclude.specs.Concluding.{ConcludesBook, IsConcluded}
 use Rattle.fm_conclude.specs.declared.concluding.Conclusion.{Conclusion}
 use Rattle.fm_core.specs.Book.{ModuleState}
@@ -63,8 +65,6 @@ use Rattle.fm_top.specs.Headline.{HoldsOfBook}
 use Rattle.fm_top.specs.Kept.{BookAt, IsAsRead}
 use Rattle.fm_top.specs.Limits.{concluding_limit}
 use Rattle.fm_top.specs.Outside.{Tells, Leaves, disks_at}
-use Rattle.fm_top.specs.Recording.{store_with, Recorded}
-use Rattle.fm_top.specs.RecordingLaws.{recorded_none}
 use Rattle.fm_top.proofs.Accepts.{disks_account, grew_of, of_no_stream, opening_account}
 use Rattle.fm_top.proofs.Accepts.{opening_stops}
 use Rattle.fm_top.proofs.BookHeld.{same_book}

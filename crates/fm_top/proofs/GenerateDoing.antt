@@ -9,6 +9,7 @@ use Rattle.fm_answers.specs.declared.status.ToolStatus.{ToolStatus}
 use Rattle.fm_answers.specs.declared.stops.Stop.{Stop}
 use Rattle.fm_answers.specs.declared.stops.Stop.TheVariants.{Read, Write, Disk, Damaged, Memory}
 use Rattle.fm_answers.specs.declared.stops.Stop.TheVariants.{Full, Act}
+use Rattle.fm_answers.specs.Recording.{store_with}
 use Rattle.fm_command.specs.declared.words.Command.TheVariants.{Generate, GeneratedLines}
 use Rattle.fm_core.specs.Book.{ModuleState}
 use Rattle.fm_entry.specs.declared.entry.Entry.{Entry}
@@ -30,7 +31,6 @@ use Rattle.fm_top.specs.Kept.{BookAt}
 use Rattle.fm_top.specs.Limits.{concluding_limit}
 use Rattle.fm_top.specs.Order.{AllPass, Goes, at_early, at_store, world_of}
 use Rattle.fm_top.specs.Outside.{Outside, DisksAt, Tells, Leaves, counts_of}
-use Rattle.fm_top.specs.Recording.{store_with}
 use Rattle.fm_top.proofs.BookHeld.{same_book}
 use Rattle.fm_top.proofs.Doing.{Rests, quiet_counts}
 use Rattle.fm_top.proofs.Escs.{ok_no_err}

@@ -7,6 +7,7 @@ use Rattle.dx_engine.specs.Diagnosers.{DiagnoserOf}
 use Rattle.fm_answers.specs.Stops.{of_store}
 use Rattle.fm_answers.specs.declared.stops.Stop.{Stop}
 use Rattle.fm_answers.specs.declared.stops.Stop.TheVariants.{Disk, Memory, Full}
+use Rattle.fm_answers.specs.Recording.{Recorded}
 use Rattle.fm_conclude.specs.Concluding.{NoDiskFailed, SomeDiskFailed}
 use Rattle.fm_conclude.specs.declared.concluding.Conclusion.{Conclusion}
 use Rattle.fm_core.specs.Hands.{HandOf}
@@ -38,7 +39,6 @@ use Rattle.fm_top.specs.Headline.{HoldsOfBook, LikeBook}
 use Rattle.fm_top.specs.Kept.{BookAt}
 use Rattle.fm_top.specs.Limits.{concluding_limit}
 use Rattle.fm_top.specs.Outside.{Tells, disks_at}
-use Rattle.fm_top.specs.Recording.{Recorded}
 use Rattle.fm_top.proofs.Accepts.{grew_of, opening_account, opening_stops}
 use Rattle.fm_top.proofs.Fmds.{OpenAt, drained_from, stands_each, took_concludes, took_limit}
 use Rattle.fm_top.proofs.OpenedDisks.{none_rose, opened_at, some_rose, store_left}

@@ -9,6 +9,7 @@ use Rattle.fm_answers.specs.Running.{Line, AreRead, StopsAt, RanUntil}
 use Rattle.fm_answers.specs.declared.stops.Stop.{Stop}
 use Rattle.fm_answers.specs.declared.stops.Stop.TheVariants.{Write, Disk, Memory, Full}
 use Rattle.fm_answers.proofs.AnswerLists.{entries_append, entries_one, answers_append}
+use Rattle.fm_answers.specs.Recording.{store_with}
 use Rattle.fm_command.specs.declared.words.Command.TheVariants.{Accept}
 use Rattle.fm_core.specs.Book.{next_number}
 use Rattle.fm_init.specs.Making.{HasStore}
@@ -22,7 +23,6 @@ use Rattle.fm_top.specs.Accepting.{AcceptRan, AcceptedUntil, Grew}
 use Rattle.fm_top.specs.Headline.{WereAnswered, HasAnswered, Headline}
 use Rattle.fm_top.specs.Kept.{BookAt}
 use Rattle.fm_top.specs.Outside.{Outside, Tells}
-use Rattle.fm_top.specs.Recording.{store_with}
 use Rattle.fm_top.proofs.BookHeld.{HeldOf, held_each}
 
 -- all of these lines were answered whole

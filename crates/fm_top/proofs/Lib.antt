@@ -15,10 +15,8 @@ pub mod GenerateDoing
 pub mod Generates
 pub mod Headlines
 pub mod Inits
-pub mod Lending
 pub mod Makings
 pub mod OpenedDisks
-pub mod Recordings
 pub mod RepairDoing
 pub mod Repairs
 pub mod Rotatings

@@ -3,6 +3,8 @@ use Rattle.std.proofs.Common.{◌≡◌, inl, inr, ⊎_elim, ℕ, List, Option, 
 use Rattle.std.proofs.Common.{[], ◌∷◌, ap, subst, IfSome, Err}
 use Rattle.fm_answers.specs.Stops.{of_store}
 use Rattle.fm_answers.specs.declared.stops.Stop.TheVariants.{Full}
+use Rattle.fm_answers.specs.Lending.{paired}
+use Rattle.fm_answers.proofs.Lending.{second_of_pair}
 use Rattle.fm_outer.specs.declared.disk.Disk.{Ghosts}
 use Rattle.fm_outer.proofs.Moments.{CountsNow, leaves-now}
 use Rattle.fm_journal.specs.Crash.{IsEmptyOrNone}
@@ -20,8 +22,6 @@ use Rattle.fm_top.specs.Init.{IsUnwritten, AreUnwritten, BeganStore, MadeStore}
 use Rattle.fm_top.specs.Init.{MakingEnds}
 use Rattle.fm_top.specs.Outside.{disk_at, disks_at, disk_counts}
 use Rattle.fm_top.specs.Outside.{RoseAt}
-use Rattle.fm_top.specs.Lending.{paired}
-use Rattle.fm_top.proofs.Lending.{second_of_pair}
 use Rattle.fm_top.proofs.SixDisks.{told_all, images_all}
 
 if_told : (o : Option (List ℕ)) (P : List ℕ → Type 0) → ((xs : List ℕ) → o ≡ Some xs → P xs)

@@ -12,6 +12,9 @@ use Rattle.fm_admin.specs.declared.repairing.Repaired.{Repaired}
 use Rattle.fm_answers.specs.Stops.{of_store}
 use Rattle.fm_answers.specs.declared.stops.Stop.{Stop}
 use Rattle.fm_answers.specs.declared.stops.Stop.TheVariants.{Full, NotFaulty}
+use Rattle.fm_answers.specs.Recording.{Recorded}
+use Rattle.fm_answers.specs.RecordingLaws.{with_none}
+use Rattle.fm_answers.proofs.Recordings.{counts_taken}
 use Rattle.fm_command.specs.RepairAsked.{RepairAsked}
 use Rattle.fm_conclude.specs.Concluding.{NoDiskFailed, SomeDiskFailed}
 use Rattle.fm_core.specs.Book.{ModuleState}
@@ -46,15 +49,12 @@ use Rattle.fm_top.specs.Fmd.{ConcludingStops}
 use Rattle.fm_top.specs.Headline.{HoldsOfBook}
 use Rattle.fm_top.specs.Kept.{BookAt}
 use Rattle.fm_top.specs.Outside.{Tells, Leaves, disks_at}
-use Rattle.fm_top.specs.Recording.{Recorded}
-use Rattle.fm_top.specs.RecordingLaws.{with_none}
 use Rattle.fm_top.specs.Repair.{MayHaveRepair, RepairDone, RepairHalts, RepairOnBook, RepairTried}
 use Rattle.fm_top.specs.Repair.{RepairedOf, UnmarkedOf, repair_limit}
 use Rattle.fm_top.specs.RepairEntry.{IsEntryAt, IsEntryOf, order_by}
 use Rattle.fm_top.proofs.Accepts.{limit_of, opening_account, opening_stops}
 use Rattle.fm_top.proofs.Fmds.{OpenAt}
 use Rattle.fm_top.proofs.OpenedDisks.{none_rose, opened_at, some_rose, store_left}
-use Rattle.fm_top.proofs.Recordings.{counts_taken}
 use Rattle.fm_top.proofs.SixDisks.{all_only_read, rose_any, none_counts}
 use Rattle.fm_top.proofs.Texts.{OpenFor, left_drained, open_for, same_counts, told_refused}
 use Rattle.fm_top.proofs.WorkLimits.{told_seen, work_limit}

@@ -9,6 +9,7 @@ use Rattle.fm_answers.specs.Running.{Taken, RanAll, RanUntil}
 use Rattle.fm_answers.specs.declared.stops.Stop.{Stop}
 use Rattle.fm_answers.specs.declared.stops.Stop.TheVariants.{Read, Write, Disk, Damaged, Memory}
 use Rattle.fm_answers.specs.declared.stops.Stop.TheVariants.{Full}
+use Rattle.fm_answers.specs.Recording.{payloads_of, store_with, FullCause}
 use Rattle.fm_core.specs.Book.{ModuleState, next_number}
 use Rattle.fm_entry.specs.declared.entry.Entry.{Entry}
 use Rattle.fm_journal.specs.Format.{end_of}
@@ -20,7 +21,6 @@ use Rattle.fm_store.specs.StoreLeft.{ReadsLike, ReadsLikeEither}
 use Rattle.fm_top.specs.Init.{AreUnwritten}
 use Rattle.fm_top.specs.Kept.{BookAt, FirstDamage}
 use Rattle.fm_top.specs.Outside.{DisksAt, Tells, Leaves, disk_counts, RoseAt}
-use Rattle.fm_top.specs.Recording.{payloads_of, store_with, FullCause}
 
 -- What an image reads like, once these entries are acknowledged: where a disk failed at one more,
 -- it has that one or not.

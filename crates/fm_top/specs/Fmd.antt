@@ -14,6 +14,7 @@ use Rattle.fm_answers.specs.declared.stops.Stop.{Stop}
 use Rattle.fm_answers.specs.declared.stops.Stop.TheVariants.{Read, Write, Disk, Damaged, Memory}
 use Rattle.fm_answers.specs.declared.stops.Stop.TheVariants.{Full}
 use Rattle.fm_answers.specs.declared.stops.Stop.TheVariants.{Differs, Act}
+use Rattle.fm_answers.specs.Recording.{store_with}
 use Rattle.fm_conclude.specs.declared.concluding.Conclusion.{Conclusion}
 use Rattle.fm_core.specs.Book.{ModuleState}
 use Rattle.fm_core.specs.Drained.{drained}
@@ -37,7 +38,6 @@ use Rattle.fm_top.specs.Kept.{BookAt, KeepsAsRead, KeepsOther}
 use Rattle.fm_top.specs.Limits.{ReachesWorkLimit, WorkLimit, concluding_limit}
 use Rattle.fm_top.specs.Outside.{Outside, DisksAt, Tells, Leaves, disk_counts}
 use Rattle.fm_top.specs.Outside.{given_of, standing}
-use Rattle.fm_top.specs.Recording.{store_with}
 
 -- The image reads as a book that comes of this one by draining, with its base at its end.
 pub record ReadsBased (fresh : List ModuleState) (k : StoreBook) (image : Contents) : Type 0 where

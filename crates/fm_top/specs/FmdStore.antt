@@ -7,6 +7,7 @@ use Rattle.fm_answers.specs.Running.{RanAll, RanUntil}
 use Rattle.fm_answers.specs.Stops.{of_store}
 use Rattle.fm_answers.specs.declared.stops.Stop.{Stop}
 use Rattle.fm_answers.specs.declared.stops.Stop.TheVariants.{Differs}
+use Rattle.fm_answers.specs.Recording.{Recorded}
 use Rattle.fm_conclude.specs.Concluding.{ConcludeRefused, ConcludesBook, IsConcluded}
 use Rattle.fm_conclude.specs.Concluding.{NoDiskFailed}
 use Rattle.fm_conclude.specs.declared.concluding.Conclusion.{Conclusion}
@@ -22,7 +23,6 @@ use Rattle.fm_store.specs.StoreCalls.{next_entry}
 use Rattle.fm_store.specs.StoreOf.{StoreOf, StoreStandsFor}
 use Rattle.fm_summary.specs.DrainedSummary.{diagnosers}
 use Rattle.fm_top.specs.Kept.{IsAsRead}
-use Rattle.fm_top.specs.Recording.{Recorded}
 
 -- The input was read to its end, and the store took the entry of each line; `between` is the store
 -- then, which is open. It was concluded, and this was the answer.

@@ -11,6 +11,7 @@ use Rattle.fm_answers.specs.Running.{Taken}
 use Rattle.fm_answers.specs.Stops.{of_store}
 use Rattle.fm_answers.specs.declared.stops.Stop.{Stop}
 use Rattle.fm_answers.specs.declared.stops.Stop.TheVariants.{Disk, Memory, Full}
+use Rattle.fm_answers.specs.Recording.{Recorded}
 use Rattle.fm_conclude.specs.Concluding.{ConcludeRefused, ConcludesBook, IsConcluded}
 use Rattle.fm_conclude.specs.Concluding.{NoDiskFailed}
 use Rattle.fm_conclude.specs.declared.concluding.Conclusion.{Conclusion}
@@ -35,7 +36,6 @@ use Rattle.fm_top.specs.GenerateStart.{AreGenerated, AreGeneratedAt, BeginsLate}
 use Rattle.fm_top.specs.Headline.{HoldsOfBook, LikeBook}
 use Rattle.fm_top.specs.Limits.{concluding_limit}
 use Rattle.fm_top.specs.Outside.{DisksAt, Tells}
-use Rattle.fm_top.specs.Recording.{Recorded}
 
 -- how the taking of entries stopped, once the first of them were taken: at the next, or between two
 abbrev pub TakingStops : Taken → List Entry → List Entry → Stop → Type 0

@@ -7,6 +7,7 @@ use Rattle.fm_answers.specs.Answers.{answers, entries_of}
 use Rattle.fm_answers.specs.Running.{Line, AreRead}
 use Rattle.fm_answers.specs.declared.stops.Stop.{Stop}
 use Rattle.fm_answers.specs.declared.stops.Stop.TheVariants.{Act, NotFaulty}
+use Rattle.fm_answers.specs.Recording.{store_with}
 use Rattle.fm_command.specs.RepairAsked.{RepairAsked}
 use Rattle.fm_command.specs.declared.words.Command.{Command}
 use Rattle.fm_command.specs.declared.words.Command.TheVariants.{Accept, Fmd, Init, Admin, Repair}
@@ -19,7 +20,6 @@ use Rattle.fm_store.specs.StoreLeft.{ReadsLike, ReadsLikeEither}
 use Rattle.fm_top.specs.GenerateStart.{AreGeneratedAt}
 use Rattle.fm_top.specs.Kept.{BookAt}
 use Rattle.fm_top.specs.Outside.{Outside, DisksAt, Tells, Leaves}
-use Rattle.fm_top.specs.Recording.{store_with}
 use Rattle.fm_top.specs.RepairEntry.{HasRepair}
 
 -- Of these lines all but the last one at most were answered whole, and what was put is a front of

@@ -15,11 +15,8 @@ pub mod GenerateStart
 pub mod Headline
 pub mod Init
 pub mod Kept
-pub mod Lending
 pub mod Order
 pub mod Outside
-pub mod Recording
-pub mod RecordingLaws
 pub mod Repair
 pub mod RepairEntry
 pub mod Tasks

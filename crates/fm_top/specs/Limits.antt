@@ -2,6 +2,7 @@
 use Rattle.std.specs.Prelude.{◌≡◌, Bool, List}
 use Rattle.std.specs.Option.{option_map}
 use Rattle.std.specs.declared.option.Option.{Option}
+use Rattle.fm_answers.specs.Recording.{store_with}
 use Rattle.fm_core.specs.Book.{ModuleState}
 use Rattle.fm_drain.specs.DrainLimits.{DrainIsFull}
 use Rattle.fm_entry.specs.declared.entry.Entry.{Entry}
@@ -18,7 +19,6 @@ use Rattle.fm_store.specs.StoreOf.{newest_sequence}
 use Rattle.fm_top.specs.Headline.{HoldsOfBook}
 use Rattle.fm_top.specs.Kept.{BookAt}
 use Rattle.fm_top.specs.Outside.{DisksAt, Tells}
-use Rattle.fm_top.specs.Recording.{store_with}
 
 -- What limits depend on beside the book that contents read as: the slot in force has the sequence,
 -- it names the active error journal, and the fault log has the first number.

@@ -6,6 +6,7 @@ use Rattle.fm_answers.specs.StreamsAt.{SourceAt, SinkAt}
 use Rattle.fm_answers.specs.Running.{RanAll, RanUntil}
 use Rattle.fm_answers.specs.Stops.{of_store}
 use Rattle.fm_answers.specs.declared.stops.Stop.{Stop}
+use Rattle.fm_answers.specs.Recording.{Recorded}
 use Rattle.fm_core.specs.Hands.{HandOf}
 use Rattle.fm_outer.specs.declared.disk.Disk.{Ghosts}
 use Rattle.fm_saved.specs.declared.conf.Conf.{Conf}
@@ -19,7 +20,6 @@ use Rattle.fm_top.specs.FmdStore.{StoreWorks}
 use Rattle.fm_top.specs.Generate.{GenerateFinished, GenerateHalts, GenerateTried, LinesTried}
 use Rattle.fm_top.specs.Generate.{ListsGenerated}
 use Rattle.fm_top.specs.Outside.{DisksAt}
-use Rattle.fm_top.specs.Recording.{Recorded}
 use Rattle.fm_top.specs.Repair.{RepairDone, RepairHalts, RepairTried}
 use Rattle.fm_logs.specs.declared.fault.StoreFault.{StoreFault}
 use Rattle.fm_top.specs.declared.tasks.StoreTask.{StoreTask}

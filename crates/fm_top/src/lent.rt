@@ -16,7 +16,7 @@ pub(crate) struct Lent<'a, D: Disk> {
 }
 
 impl<D: Disk> Disk for Lent<'_, D> {
-    ghost use Rattle.fm_top.specs.Lending.{paired};
+    ghost use Rattle.fm_answers.specs.Lending.{paired};
 
     ghost seen = { λ d. D.seen d.disk.now };
 

@@ -6,8 +6,8 @@
 //! what they come to, or lists what `esc -b` put; fm_esc makes its text. `accept` and `replay` read
 //! the input by one loop, fm_answers' `run`: it answers each line once, after its entry was taken.
 //! What takes the entries is for `accept` the store on the six disks, which is opened first with
-//! the modules of what it keeps (`recording`). Why a command stops before all is done is a `Stop`;
-//! it gives the last line and the status.
+//! the modules of what it keeps. Why a command stops before all is done is a `Stop`; it gives the
+//! last line and the status.
 //!
 //! `fmd -1` reads the sources as `esc` does, opens the store and has it keep entries as `accept`
 //! does, where it keeps just what was read (`as_read`). It then has fm_conclude drain the store and
@@ -38,7 +38,7 @@
 //! the return leaves of the six disks: contents from before, or contents that read as a book which
 //! drains to what the book from before comes to with the entries of the first lines, of all that
 //! were answered and of one more at most. It follows from what the store says of each entry
-//! (`specs/Recording`), which goes on over a run as lines are answered. It says so of each book
+//! (fm_answers' `specs/Recording`), which goes on over a run as lines are answered. It says so of each book
 //! that the contents from before read as; they read as one (`proofs/BookHeld`).
 //!
 //! Counts of faults: each step says by `Accounts` that an Ok leaves the count of the source, the
@@ -62,7 +62,6 @@ mod init;
 mod lent;
 mod no_input;
 mod opened;
-mod recording;
 mod repairing;
 mod settle;
 mod tasks;

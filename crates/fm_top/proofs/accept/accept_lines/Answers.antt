@@ -1,5 +1,5 @@
+use Rattle.fm_answers.proofs.Lending.{six_of_paired}
 use Rattle.fm_store.specs.StoreLeft.{store_disk}
-use Rattle.fm_top.proofs.Lending.{six_of_paired}
 use Rattle.fm_top.proofs.accept.accept_lines.Goals as goal
 
 pub returns-in-Ok-clause-same_disks : goal.returns-in-Ok-clause-same_disks

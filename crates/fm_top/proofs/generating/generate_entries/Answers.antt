@@ -1,7 +1,7 @@
 use Rattle.std.proofs.Common.{◌∙◌, inr, refl}
+use Rattle.fm_answers.proofs.Lending.{six_of_paired}
 use Rattle.fm_store.specs.StoreLeft.{store_disk}
 use Rattle.fm_top.proofs.Fmds.{hands_on}
-use Rattle.fm_top.proofs.Lending.{six_of_paired}
 use Rattle.fm_top.proofs.generating.generate_entries.Goals as goal
 
 pub conclude-requires-clause-at_cursors : goal.conclude-requires-clause-at_cursors

@@ -1,7 +1,7 @@
+use Rattle.fm_answers.proofs.Lending.{six_paired_same}
 use Rattle.fm_store.specs.StoreLeft.{store_disk}
 use Rattle.fm_top.proofs.Accepts.{same_back, read_back}
 use Rattle.fm_top.proofs.Fmds.{open_at, opened_few, opened_hands}
-use Rattle.fm_top.proofs.Lending.{six_paired_same}
 use Rattle.fm_top.proofs.TasksDone.{task_ran, task_unopened}
 use Rattle.fm_top.proofs.opened.task_on.Goals as goal
 

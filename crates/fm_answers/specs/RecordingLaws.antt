@@ -12,7 +12,7 @@ use Rattle.fm_outer.specs.declared.disk.Disk.{Ghosts}
 use Rattle.fm_store.specs.StoreCalls.{next_entry}
 use Rattle.fm_store.specs.StoreLeft.{store_disk, EachLeft, ReadsLikeEither}
 use Rattle.fm_store.specs.StoreOf.{StoreOf, StoreStandsFor}
-use Rattle.fm_top.specs.Recording.{store_with, LastCounts, LogsLeft, BookLeft, Recorded}
+use Rattle.fm_answers.specs.Recording.{store_with, LastCounts, LogsLeft, BookLeft, Recorded}
 
 -- a book with other entries
 abbrev book_of : StoreBook → List Entry → StoreBook

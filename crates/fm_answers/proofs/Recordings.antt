@@ -25,8 +25,8 @@ use Rattle.fm_store.specs.StoreLeft.{store_disk, EachLeft, ReadsLikeEither}
 use Rattle.fm_settled.specs.BaseLimits.{figures_of}
 use Rattle.fm_store.specs.StoreOf.{newest_sequence, StoreOf, StoreBaseOf, StoreStandsFor, of_two}
 use Rattle.fm_store.proofs.StoreAccepts.{active_disk}
-use Rattle.fm_top.specs.Recording.{Recorded}
-use Rattle.fm_top.specs.RecordingLaws.{recorded_none, with_none}
+use Rattle.fm_answers.specs.Recording.{Recorded}
+use Rattle.fm_answers.specs.RecordingLaws.{recorded_none, with_none}
 
 -- an entry that is no Reload may come at any place
 no_reload : (known n : ℕ) (e : Entry) → is_reload e ≡ false → ReloadsRise known n (e ∷ [])

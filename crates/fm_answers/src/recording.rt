@@ -3,7 +3,8 @@ ghost use Rattle.std.specs.Prelude.{◌≡◌, None};
 ghost use Rattle.fm_store.specs.StoreCalls.{next_entry};
 ghost use Rattle.fm_store.specs.StoreLeft.{store_disk};
 
-use fm_answers::{Stop, Taker};
+use crate::stops::Stop;
+use crate::takers::Taker;
 use fm_entry::Entry;
 use fm_outer::Disk;
 use fm_store::Store;
@@ -11,9 +12,9 @@ use std::alloc::Global;
 
 impl<D: Disk, M> Taker for Store<D, M> {
     ghost use Rattle.std.specs.Prelude.{true};
-    ghost use Rattle.fm_top.specs.Lending.{six_paired};
-    ghost use Rattle.fm_top.specs.Recording.{Recorded};
-    ghost use Rattle.fm_top.specs.RecordingLaws.{recorded_none, recorded_on, recorded_numbers};
+    ghost use Rattle.fm_answers.specs.Lending.{six_paired};
+    ghost use Rattle.fm_answers.specs.Recording.{Recorded};
+    ghost use Rattle.fm_answers.specs.RecordingLaws.{recorded_none, recorded_on, recorded_numbers};
 
     ghost TELLS_NUMBERS = { true };
 

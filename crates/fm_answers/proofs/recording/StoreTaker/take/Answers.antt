@@ -1,7 +1,7 @@
 use Rattle.fm_store.specs.StoreLeft.{store_disk}
-use Rattle.fm_top.proofs.Lending.{six_paired_same}
-use Rattle.fm_top.proofs.Recordings.{taken_one, refused_one}
-use Rattle.fm_top.proofs.recording.StoreTaker.take.Goals as goal
+use Rattle.fm_answers.proofs.Lending.{six_paired_same}
+use Rattle.fm_answers.proofs.Recordings.{taken_one, refused_one}
+use Rattle.fm_answers.proofs.recording.StoreTaker.take.Goals as goal
 
 pub returns-in-Ok-clause-ok : goal.returns-in-Ok-clause-ok
 returns-in-Ok-clause-ok g c =
