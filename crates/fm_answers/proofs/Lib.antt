@@ -3,7 +3,6 @@ pub mod CountLines
 pub mod Cuts
 pub mod Feeding
 pub mod Halts
-pub mod Lending
 pub mod Moving
 pub mod OnPieces
 pub mod Recordings

@@ -4,7 +4,6 @@ pub mod Draining
 pub mod Ended
 pub mod Ending
 pub mod Halting
-pub mod Lending
 pub mod Recording
 pub mod RecordingLaws
 pub mod Refusing

@@ -12,7 +12,7 @@ use std::alloc::Global;
 
 impl<D: Disk, M> Taker for Store<D, M> {
     ghost use Rattle.std.specs.Prelude.{true};
-    ghost use Rattle.fm_answers.specs.Lending.{six_paired};
+    ghost use Rattle.fm_lent.specs.Lending.{six_paired};
     ghost use Rattle.fm_answers.specs.Recording.{Recorded};
     ghost use Rattle.fm_answers.specs.RecordingLaws.{recorded_none, recorded_on, recorded_numbers};
 

@@ -13,9 +13,7 @@ use Rattle.fm_answers.specs.Stops.{of_store}
 use Rattle.fm_answers.specs.declared.stops.Stop.{Stop}
 use Rattle.fm_answers.specs.declared.stops.Stop.TheVariants.{Read, Write, Disk, Full}
 use Rattle.fm_answers.proofs.Weaker.{all_weaker, until_weaker}
-use Rattle.fm_answers.specs.Lending.{six_paired}
 use Rattle.fm_answers.specs.Recording.{payloads_of, store_with, FullCause, BookLeft, Recorded}
-use Rattle.fm_answers.proofs.Lending.{six_of_paired}
 use Rattle.fm_core.specs.Book.{ModuleState}
 use Rattle.fm_entry.specs.Entries.{entry_bytes}
 use Rattle.fm_entry.specs.declared.entry.Entry.{Entry}
@@ -29,6 +27,8 @@ use Rattle.fm_journal.specs.declared.fault.FullKind.TheVariants.{Records, Number
 use Rattle.fm_journal.specs.declared.fault.FullKind.TheVariants.{Input}
 use Rattle.fm_journal.specs.declared.fault.JournalFault.{JournalFault}
 use Rattle.fm_journal.specs.declared.fault.JournalFault.TheVariants as fault
+use Rattle.fm_lent.specs.Lending.{six_paired}
+use Rattle.fm_lent.proofs.Lending.{six_of_paired}
 use Rattle.fm_logs.specs.Contents.{Contents, AreTold, WereOnlyRead, content_named, disk_named}
 use Rattle.fm_logs.specs.Contents.{AreSameDisks, active_of_two}
 use Rattle.fm_logs.specs.LogsOf.{CannotTake}

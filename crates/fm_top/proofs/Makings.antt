@@ -3,8 +3,8 @@ use Rattle.std.proofs.Common.{◌≡◌, inl, inr, ⊎_elim, ℕ, List, Option, 
 use Rattle.std.proofs.Common.{[], ◌∷◌, ap, subst, IfSome, Err}
 use Rattle.fm_answers.specs.Stops.{of_store}
 use Rattle.fm_answers.specs.declared.stops.Stop.TheVariants.{Full}
-use Rattle.fm_answers.specs.Lending.{paired}
-use Rattle.fm_answers.proofs.Lending.{second_of_pair}
+use Rattle.fm_lent.specs.Lending.{paired}
+use Rattle.fm_lent.proofs.Lending.{second_of_pair}
 use Rattle.fm_outer.specs.declared.disk.Disk.{Ghosts}
 use Rattle.fm_outer.proofs.Moments.{CountsNow, leaves-now}
 use Rattle.fm_journal.specs.Crash.{IsEmptyOrNone}

@@ -2,6 +2,7 @@
 use Rattle.std.specs.Prelude.{◌≡◌, Option, Some, None, slice_get}
 use Rattle.fm_admin.specs.Marking.{IsEntryBy}
 use Rattle.fm_admin.specs.declared.marking.RepairOrder.{RepairOrder}
+use Rattle.fm_command.specs.RepairAsked.{RepairAsked}
 use Rattle.fm_core.specs.Drained.{drained}
 use Rattle.fm_entry.specs.declared.entry.Entry.{Entry}
 use Rattle.fm_logs.specs.Contents.{Contents}

@@ -8,10 +8,10 @@ ghost use Rattle.fm_top.specs.Calls.{names_of, six};
 ghost use Rattle.fm_top.specs.Init.{conf_with, MakingEnds, InitEnds};
 ghost use Rattle.fm_top.specs.Outside.{disk_at, disks_at};
 
-use crate::lent::Lent;
 use fm_answers::Stop;
 use fm_bytes::{Items, NoMemory};
 use fm_init::{Disks, StoreFault};
+use fm_lent::Lent;
 use fm_outer::{Disk, Source};
 use fm_saved::{Conf, ConfText, RuleFiles};
 use fm_sources::{RuleFile, Sources, read_sources};

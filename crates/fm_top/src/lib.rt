@@ -59,7 +59,6 @@ mod explaining;
 mod fmd;
 mod generating;
 mod init;
-mod lent;
 mod no_input;
 mod opened;
 mod repairing;

@@ -1,4 +1,4 @@
-use Rattle.fm_answers.proofs.Lending.{six_of_paired}
+use Rattle.fm_lent.proofs.Lending.{six_of_paired}
 use Rattle.fm_store.specs.StoreLeft.{store_disk}
 use Rattle.fm_top.proofs.accept.accept_lines.Goals as goal
 

@@ -1,5 +1,5 @@
 use Rattle.std.proofs.Common.{◌∙◌, inr}
-use Rattle.fm_answers.proofs.Lending.{six_of_paired}
+use Rattle.fm_lent.proofs.Lending.{six_of_paired}
 use Rattle.fm_store.specs.StoreLeft.{store_disk}
 use Rattle.fm_top.proofs.Fmds.{hands_on}
 use Rattle.fm_top.proofs.fmd.diagnose_lines.Goals as goal

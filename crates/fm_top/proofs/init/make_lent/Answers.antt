@@ -1,4 +1,4 @@
-use Rattle.fm_answers.proofs.Lending.{first_of_pair}
+use Rattle.fm_lent.proofs.Lending.{first_of_pair}
 use Rattle.fm_logs.specs.declared.disks.DiskName.TheVariants.{Conf, ErrA, ErrB, SlotA, SlotB, Flt}
 use Rattle.fm_top.proofs.Makings.{names_paired}
 use Rattle.fm_top.proofs.init.make_lent.Goals as goal

@@ -1,4 +1,4 @@
-use Rattle.fm_answers.proofs.Lending.{six_paired_same}
+use Rattle.fm_lent.proofs.Lending.{six_paired_same}
 use Rattle.fm_store.specs.StoreLeft.{store_disk}
 use Rattle.fm_top.proofs.Accepts.{same_back, read_back}
 use Rattle.fm_top.proofs.Fmds.{open_at, opened_few, opened_hands}

@@ -1,5 +1,5 @@
+use Rattle.fm_lent.proofs.Lending.{six_paired_same}
 use Rattle.fm_store.specs.StoreLeft.{store_disk}
-use Rattle.fm_answers.proofs.Lending.{six_paired_same}
 use Rattle.fm_answers.proofs.Recordings.{taken_one, refused_one}
 use Rattle.fm_answers.proofs.recording.StoreTaker.take.Goals as goal
 

@@ -3,7 +3,7 @@ use Rattle.std.specs.Prelude.{◌≡◌, ℕ, ◌+◌, ◌*◌, suc, zero}
 use Rattle.std.proofs.Common.{refl, ap, arith}
 use Rattle.fm_logs.specs.declared.disks.DiskName.{DiskName}
 use Rattle.fm_logs.specs.declared.disks.DiskName.TheVariants.{Conf, ErrA, ErrB, SlotA, SlotB, Flt}
-use Rattle.fm_answers.specs.Lending.{paired, six_paired}
+use Rattle.fm_lent.specs.Lending.{paired, six_paired}
 
 pub first_of_pair : (m n k l : ℕ) → paired m n ≡ paired k l → m ≡ k
 unfolding paired

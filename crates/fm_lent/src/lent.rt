@@ -11,12 +11,12 @@ use fm_outer::{Disk, Failed};
 /// A disk that is lent. Its name tells which reference it is and which disk, so that who lends it
 /// knows that the disk came back, and that it is still that disk.
 #[derive(Drop)]
-pub(crate) struct Lent<'a, D: Disk> {
-    pub(crate) disk: &'a mut D,
+pub struct Lent<'a, D: Disk> {
+    pub disk: &'a mut D,
 }
 
 impl<D: Disk> Disk for Lent<'_, D> {
-    ghost use Rattle.fm_answers.specs.Lending.{paired};
+    ghost use Rattle.fm_lent.specs.Lending.{paired};
 
     ghost seen = { λ d. D.seen d.disk.now };
 
