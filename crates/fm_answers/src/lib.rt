@@ -14,8 +14,8 @@
 //! input with each line answered; between two lines, with each line answered that ended in the
 //! bytes read before; or at a line, with each line before it answered. It says so of any taker, by
 //! what became of the entries (`went`); of a store that is `Recorded` (`specs/Recording`): what it
-//! stands for then, how its logs are left, and what each crash leaves. What a source and a sink tell at one moment is a plain
-//! record (`specs/StreamsAt`).
+//! stands for then, how its logs are left, and what each crash leaves. What a source and a sink tell
+//! at one moment is a plain record (`specs/StreamsAt`).
 //!
 //! The loops carry one relation, `Moved` (`specs/Halting`): from one moment to a later one a piece
 //! was read, the lines that ended in it were answered, and whatever follows goes on from what is
