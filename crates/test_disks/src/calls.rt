@@ -46,7 +46,7 @@ fn show_length<D: Disk>(disk: &mut D, out: &mut String) -> Result<(), ScriptFaul
 /// Makes a call, and appends how it ended.
 fn call<D: Disk>(
     alloc: Global,
-    named: &Named<'_>,
+    named: &Named,
     disk: &mut D,
     text: &str,
     out: &mut String,
@@ -67,7 +67,7 @@ fn call<D: Disk>(
 /// Makes the calls of a text, with commas between them.
 fn make_calls<D: Disk>(
     alloc: Global,
-    named: &Named<'_>,
+    named: &Named,
     disk: &mut D,
     text: &str,
     out: &mut String,
@@ -84,7 +84,7 @@ fn make_calls<D: Disk>(
 /// Makes calls of the disk.
 pub fn call_disk(
     alloc: Global,
-    named: &Named<'_>,
+    named: &Named,
     setting: &mut Setting,
     text: &str,
     out: &mut String,
@@ -127,7 +127,7 @@ pub fn add_body(
 /// Makes calls of a disk that has no file, and that is lent.
 pub fn call_no_file(
     alloc: Global,
-    named: &Named<'_>,
+    named: &Named,
     text: &str,
     out: &mut String,
 ) -> Result<(), ScriptFault> {
@@ -157,7 +157,7 @@ fn show_four(disk: &mut FileDisk, place: u64, out: &mut String) -> Result<(), Sc
 /// Makes calls of a disk over a new file, and appends the four bytes at a place, and its failures.
 pub fn call_file(
     rt: &HostRuntime,
-    named: &Named<'_>,
+    named: &Named,
     place: u64,
     text: &str,
     out: &mut String,

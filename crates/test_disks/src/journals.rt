@@ -85,7 +85,7 @@ fn read(
 /// Makes a step of a journal.
 fn step(
     alloc: Global,
-    named: &Named<'_>,
+    named: &Named,
     journal: &mut Journal<MemDisk>,
     text: &str,
     out: &mut String,
@@ -105,7 +105,7 @@ fn step(
 /// Makes steps of a journal, with commas between them.
 fn make_steps(
     alloc: Global,
-    named: &Named<'_>,
+    named: &Named,
     journal: &mut Journal<MemDisk>,
     steps: &str,
     out: &mut String,
@@ -144,7 +144,7 @@ fn leave_journal(
 /// Opens the journal on the disk, and makes steps of it.
 pub fn use_journal(
     alloc: Global,
-    named: &Named<'_>,
+    named: &Named,
     setting: &mut Setting,
     steps: &str,
     out: &mut String,

@@ -12,23 +12,10 @@ mod slots;
 mod streams;
 mod sweeps;
 
-use crate::script::written_of;
-use std::io;
-use std::io::{ErrorKind, Write};
+use crate::script::Held;
 use std::process::ExitCode;
-
-/// Goes through the script.
-fn run_script(rt: &HostRuntime) -> io::Result<()> {
-    let script = io::read_to_string(rt.alloc(), rt.stdin())?;
-    match written_of(rt, script.as_str()) {
-        Ok(written) => rt.stdout().write_all(written.as_bytes()),
-        Err(_) => Err(io::Error::from(ErrorKind::OutOfMemory)),
-    }
-}
+use test_words::run_script;
 
 fn main(rt: HostRuntime) -> ExitCode {
-    match run_script(&rt) {
-        Ok(()) => ExitCode::SUCCESS,
-        Err(_) => ExitCode::FAILURE,
-    }
+    run_script(&rt, &mut Held::new(rt.alloc()))
 }

@@ -1,15 +1,15 @@
-// A script, gone through from its first line to its last.
+// What stays from line to line of a script, and what its lines do.
 use crate::setting::{Setting, image_in};
 use crate::{calls, journals, lent, payloads, slots, streams, sweeps};
 use std::alloc::Global;
 use test_words::{
-    Named, ScriptFault, first_word, number_in, show_difference, small_in, text_in, text_of,
+    Named, Script, ScriptFault, first_word, number_in, show_difference, small_in, text_in, text_of,
 };
 
 /// What stays from line to line.
 #[derive(Drop)]
-pub struct Held<'a> {
-    named: Named<'a>,
+pub struct Held {
+    named: Named,
     setting: Setting,
 }
 
@@ -33,7 +33,7 @@ fn set_many(alloc: Global, setting: &mut Setting, rest: &str) -> Result<(), Scri
 }
 
 /// Does what a line says of the disk of the next ones, where it is such a line.
-fn set(alloc: Global, held: &mut Held<'_>, word: &str, rest: &str) -> Result<bool, ScriptFault> {
+fn set_disk(alloc: Global, held: &mut Held, word: &str, rest: &str) -> Result<bool, ScriptFault> {
     let setting = &mut held.setting;
     match word {
         "disk" => setting.begin(held.named.bytes_in(alloc, rest)?),
@@ -51,7 +51,7 @@ fn set(alloc: Global, held: &mut Held<'_>, word: &str, rest: &str) -> Result<boo
 /// Answers a line about files.
 fn answer_of_files(
     rt: &HostRuntime,
-    named: &Named<'_>,
+    named: &Named,
     word: &str,
     rest: &str,
     out: &mut String,
@@ -73,7 +73,7 @@ fn answer_of_files(
 /// Answers a line about slots, sources and sinks.
 fn answer_of_slots(
     alloc: Global,
-    held: &mut Held<'_>,
+    held: &mut Held,
     word: &str,
     first: &str,
     rest: &str,
@@ -101,7 +101,7 @@ fn answer_of_slots(
 /// Answers a line about journals.
 fn answer_of_journals(
     alloc: Global,
-    held: &mut Held<'_>,
+    held: &mut Held,
     word: &str,
     rest: &str,
     out: &mut String,
@@ -122,96 +122,50 @@ fn answer_of_journals(
     }
 }
 
-/// Gives bytes a name: `NAME BYTES`.
-fn define<'a>(alloc: Global, named: &mut Named<'a>, rest: &'a str) -> Result<(), ScriptFault> {
-    let (name, words) = first_word(rest);
-    let bytes = named.bytes_in(alloc, words)?;
-    named.define(name, bytes)
-}
-
-/// Answers a line.
-fn answer<'a>(
-    rt: &HostRuntime,
-    held: &mut Held<'a>,
-    line: &'a str,
-    out: &mut String,
-) -> Result<(), ScriptFault> {
-    let alloc = rt.alloc();
-    let (word, rest) = first_word(line);
-    let (first, words) = first_word(rest);
-    match word {
-        "bytes" => {
-            define(alloc, &mut held.named, rest)?;
-            Ok(out.push_str("ok")?)
-        }
-        "newest" | "clear" | "slot_frame" | "source" | "sink" | "replace" | "add" => {
-            answer_of_slots(alloc, held, word, first, words, out)
-        }
-        "create"
-        | "journal"
-        | "frame"
-        | "lent"
-        | "values"
-        | "place"
-        | "stops"
-        | "calls"
-        | "holds" => answer_of_journals(alloc, held, word, rest, out),
-        _ => {
-            let bytes = text_in(alloc, rest)?;
-            answer_of_files(rt, &held.named, word, text_of(&bytes)?, out)
+impl Held {
+    pub fn new(alloc: Global) -> Held {
+        Held {
+            named: Named::new(alloc),
+            setting: Setting::new(alloc),
         }
     }
 }
 
-/// Writes a line that has an answer, and the answer.
-fn turn<'a>(
-    rt: &HostRuntime,
-    held: &mut Held<'a>,
-    line: &'a str,
-    out: &mut String,
-) -> Result<(), ScriptFault> {
-    out.push_str(line)?;
-    out.push_str(": ")?;
-    match answer(rt, held, line, out) {
-        Ok(()) => {}
-        Err(ScriptFault::Words) => out.push_str("no command")?,
-        Err(ScriptFault::NoSpelling) => out.push_str("no")?,
-        Err(ScriptFault::NoMemory) => return Err(ScriptFault::NoMemory),
+impl Script for Held {
+    fn set(&mut self, alloc: Global, word: &str, rest: &str) -> Result<bool, ScriptFault> {
+        set_disk(alloc, self, word, rest)
     }
-    out.push_str("\n")?;
-    Ok(())
-}
 
-/// Goes through the lines.
-fn turns<'a>(
-    rt: &HostRuntime,
-    held: &mut Held<'a>,
-    text: &'a str,
-    out: &mut String,
-) -> Result<(), ScriptFault> {
-    for line in text.lines() {
+    fn answer(
+        &mut self,
+        rt: &HostRuntime,
+        line: &str,
+        out: &mut String,
+    ) -> Result<(), ScriptFault> {
+        let alloc = rt.alloc();
         let (word, rest) = first_word(line);
-        if line.is_empty() || line.starts_with('#') || set(rt.alloc(), held, word, rest)? {
-            continue;
-        }
-        if line.starts_with("==") {
-            out.push_str("\n")?;
-            out.push_str(line)?;
-            out.push_str("\n")?;
-        } else {
-            turn(rt, held, line, out)?;
+        let (first, words) = first_word(rest);
+        match word {
+            "bytes" => {
+                self.named.define(alloc, rest)?;
+                Ok(out.push_str("ok")?)
+            }
+            "newest" | "clear" | "slot_frame" | "source" | "sink" | "replace" | "add" => {
+                answer_of_slots(alloc, self, word, first, words, out)
+            }
+            "create"
+            | "journal"
+            | "frame"
+            | "lent"
+            | "values"
+            | "place"
+            | "stops"
+            | "calls"
+            | "holds" => answer_of_journals(alloc, self, word, rest, out),
+            _ => {
+                let bytes = text_in(alloc, rest)?;
+                answer_of_files(rt, &self.named, word, text_of(&bytes)?, out)
+            }
         }
     }
-    Ok(())
-}
-
-/// What is written of a script.
-pub fn written_of(rt: &HostRuntime, text: &str) -> Result<String, ScriptFault> {
-    let mut held = Held {
-        named: Named::new(rt.alloc()),
-        setting: Setting::new(rt.alloc()),
-    };
-    let mut out = String::new(rt.alloc());
-    turns(rt, &mut held, text, &mut out)?;
-    Ok(out)
 }

@@ -128,7 +128,7 @@ fn slot_word(alloc: Global, setting: &Setting, left: &[u8]) -> Result<&'static s
 /// What a crash leaves of a journal's disk.
 fn journal_word(
     alloc: Global,
-    named: &Named<'_>,
+    named: &Named,
     work: Work,
     left: &[u8],
 ) -> Result<&'static str, ScriptFault> {
@@ -158,7 +158,7 @@ fn stopped(
 /// Appends what a crash with an image leaves, and says whether the work was done.
 fn show_left(
     alloc: Global,
-    named: &Named<'_>,
+    named: &Named,
     setting: &Setting,
     work: Work,
     payload: &[u8],
@@ -178,7 +178,7 @@ fn show_left(
 /// Appends what each image leaves of a work, and whether it was done.
 fn show_images(
     alloc: Global,
-    named: &Named<'_>,
+    named: &Named,
     setting: &Setting,
     work: Work,
     payload: &[u8],
@@ -210,7 +210,7 @@ fn work_in(text: &str) -> Result<(Work, &str), ScriptFault> {
 /// Stops a work at each call from one to another.
 pub fn sweep(
     alloc: Global,
-    named: &Named<'_>,
+    named: &Named,
     setting: &mut Setting,
     text: &str,
     out: &mut String,

@@ -38,20 +38,13 @@ pub fn show_payload(alloc: Global, payload: &str, out: &mut String) -> Result<()
     show_entry(alloc, &with_payload(alloc, payload)?, out)
 }
 
-/// The entry of a line.
-pub fn entry_in(alloc: Global, line: &[u8]) -> Result<Entry, ScriptFault> {
-    match read_line(alloc, line) {
-        Ok(entry) => Ok(entry),
-        Err(LineFault::NoMemory) => Err(ScriptFault::NoMemory),
-        Err(_) => Err(ScriptFault::NoSpelling),
-    }
-}
-
 /// Appends this payload, read in a line and printed by itself.
 pub fn show_printed(alloc: Global, payload: &str, out: &mut String) -> Result<(), ScriptFault> {
     let mut printed = Vec::new(alloc);
-    if let Entry::Report { payload, .. } = &entry_in(alloc, &with_payload(alloc, payload)?)? {
-        print_payload(alloc, payload, &mut printed)?;
+    match read_line(alloc, &with_payload(alloc, payload)?) {
+        Ok(Entry::Report { payload, .. }) => print_payload(alloc, &payload, &mut printed)?,
+        Ok(_) => return Err(ScriptFault::Words),
+        Err(fault) => return show_fault(fault, out),
     }
     out.push_str(text_of(&printed)?)?;
     Ok(())

@@ -1,31 +1,12 @@
 // Classes, patterns, paths and events: which texts are some, and their orders.
-use fm_name::{Category, Class, EventName, Fmri, Pattern, read_class, read_fmri, read_pattern};
+use fm_name::{Category, Class, EventName, Fmri, Pattern, read_pattern};
 use std::alloc::Global;
 use std::cmp::Ordering;
-use test_words::{ScriptFault, first_word, show_count, show_whether};
-
-/// The class that a text spells.
-pub fn class_in(alloc: Global, text: &str) -> Result<Class, ScriptFault> {
-    read_class(alloc, text)?.ok_or(ScriptFault::NoSpelling)
-}
-
-/// The path that a text spells.
-pub fn path_in(alloc: Global, text: &str) -> Result<Fmri, ScriptFault> {
-    read_fmri(alloc, text)?.ok_or(ScriptFault::NoSpelling)
-}
+use test_words::{ScriptFault, class_in, event_in, first_word, path_in, show_count, show_whether};
 
 /// The pattern that a text spells.
 fn pattern_in(alloc: Global, text: &str) -> Result<Pattern, ScriptFault> {
     read_pattern(alloc, text)?.ok_or(ScriptFault::NoSpelling)
-}
-
-/// The event of a class and a path, with `@` between them.
-pub fn event_in(alloc: Global, text: &str) -> Result<EventName, ScriptFault> {
-    let (class, path) = text.split_once('@').ok_or(ScriptFault::Words)?;
-    Ok(EventName {
-        class: class_in(alloc, class)?,
-        path: path_in(alloc, path)?,
-    })
 }
 
 /// The name of a category.

@@ -1,37 +1,40 @@
 // Bytes as a script writes them, and those that have names.
 use crate::fault::ScriptFault;
-use crate::words::{number_in, text_of};
+use crate::words::{first_word, number_in};
 use std::alloc::Global;
 
 #[derive(Drop)]
-struct NamedBytes<'a> {
-    name: &'a str,
+struct NamedBytes {
+    name: String,
     bytes: Vec<u8>,
 }
 
 /// The bytes that have names.
 #[derive(Drop)]
-pub struct Named<'a> {
-    all: Vec<NamedBytes<'a>>,
+pub struct Named {
+    all: Vec<NamedBytes>,
 }
 
-impl<'a> Named<'a> {
+impl Named {
     /// No bytes have a name.
-    pub fn new(alloc: Global) -> Named<'a> {
+    pub fn new(alloc: Global) -> Named {
         Named {
             all: Vec::new(alloc),
         }
     }
 
-    /// Gives the bytes a name that none had.
-    pub fn define(&mut self, name: &'a str, bytes: Vec<u8>) -> Result<(), ScriptFault> {
+    /// Gives bytes a name that none had: `NAME BYTES`.
+    pub fn define(&mut self, alloc: Global, text: &str) -> Result<(), ScriptFault> {
+        let (name, words) = first_word(text);
+        let bytes = self.bytes_in(alloc, words)?;
+        let name = String::from_str(alloc, name)?;
         self.all.push(NamedBytes { name, bytes })?;
         Ok(())
     }
 
     /// The bytes of a name.
     fn get(&self, name: &str) -> Result<&[u8], ScriptFault> {
-        match self.all.iter().find(|named| named.name == name) {
+        match self.all.iter().find(|named| named.name.as_str() == name) {
             Some(named) => Ok(&named.bytes),
             None => Err(ScriptFault::Words),
         }

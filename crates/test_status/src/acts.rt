@@ -2,14 +2,13 @@
 ghost use Rattle.std.specs.Prelude.{None, codes};
 ghost use Rattle.fm_act.specs.ToldLaws.{nothing_told_ascends};
 
-use crate::names::path_in;
 use crate::statuses::wanted_of;
 use fm_act::{ActFault, ActKind, ActRefused, Actuator, MemActuator, reconcile};
 use fm_entry::Spoken;
 use fm_name::{Fmri, read_fmri};
 use fm_status::Wanted;
 use std::alloc::Global;
-use test_words::{ScriptFault, first_word, number_in, show_count, small_in};
+use test_words::{ScriptFault, first_word, number_in, path_in, show_count, small_in};
 
 /// The kind of a text.
 fn kind_in(alloc: Global, text: &str) -> Result<ActKind, ScriptFault> {

@@ -1,11 +1,11 @@
 // Records of words about cases, as a script writes them.
-use crate::names::{class_in, event_in, path_in};
 use fm_entry::{
     BrokenLinks, CaseName, EventNames, ListEvent, ListEvents, ListKind, Mark, Spoken, Suspect,
     Suspects, read_case_name,
 };
+use fm_name::EventName;
 use std::alloc::Global;
-use test_words::{ScriptFault, first_word, number_in};
+use test_words::{ScriptFault, event_in, first_word, number_in};
 
 /// The kind of a word, copied.
 fn kind_in(word: &str) -> Result<ListKind, ScriptFault> {
@@ -50,10 +50,10 @@ fn suspect_in(alloc: Global, text: &str) -> Result<Suspect, ScriptFault> {
     let (event, rest) = first_word(text);
     let (certainty, rest) = first_word(rest);
     let (mark, rest) = first_word(rest);
-    let (class, path) = event.split_once('@').ok_or(ScriptFault::Words)?;
+    let EventName { class, path } = event_in(alloc, event)?;
     Ok(Suspect {
-        class: class_in(alloc, class)?,
-        path: path_in(alloc, path)?,
+        class,
+        path,
         certainty: certainty_in(certainty)?,
         retire: rest == "retire",
         mark: mark_in(mark)?,
