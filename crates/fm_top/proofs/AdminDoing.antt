@@ -1,13 +1,6 @@
 -- What an operator's command that puts one text did, in the words of the whole call.
-use Rattle.std.proofs.Common.{◌≡◌, inl, inr, ℕ, List, refl, sym, subst, Some}
-use Rattle.std.proofs.Common.{OnOk, IfErr, Result, Ok, Err}
-use Rattle.fm_answers.specs.Ending.{EndsAs}
-use Rattle.fm_answers.specs.StreamsAt.{SinkAt}
-use Rattle.fm_answers.specs.declared.status.ToolStatus.{ToolStatus}
+use Rattle.std.proofs.Common.{◌≡◌, inl, inr, ℕ, List, [], sym, subst, OnOk, IfErr, Result, Ok, Err}
 use Rattle.fm_answers.specs.declared.stops.Stop.{Stop}
-use Rattle.fm_answers.specs.declared.stops.Stop.TheVariants.{Read, Write, Disk, Damaged, Memory}
-use Rattle.fm_answers.specs.declared.stops.Stop.TheVariants.{Full}
-use Rattle.fm_answers.specs.declared.stops.Stop.TheVariants.{Act}
 use Rattle.fm_command.specs.declared.words.AdminCommand.{AdminCommand}
 use Rattle.fm_command.specs.declared.words.AdminCommand.TheVariants.{Config, Dump, Faulty, Rotate}
 use Rattle.fm_command.specs.declared.words.Command.TheVariants.{Admin}
@@ -15,17 +8,15 @@ use Rattle.fm_core.specs.Book.{ModuleState}
 use Rattle.fm_logs.specs.Contents.{Contents}
 use Rattle.fm_logs.specs.StoreBook.{StoreBook}
 use Rattle.fm_store.specs.StoreLeft.{ReadsLike}
-use Rattle.fm_top.specs.Accepting.{OpeningStops}
-use Rattle.fm_top.specs.Admin.{AdminRan, ReadsAfter, StoreUntold, TextAsked, command_limit}
-use Rattle.fm_top.specs.Calls.{IsCaused, Does}
-use Rattle.fm_top.specs.Esc.{TextEnds}
-use Rattle.fm_top.specs.Fmd.{ConcludingStops}
+use Rattle.fm_top.specs.Admin.{AdminRan, ReadsAfter, TextAsked, command_limit}
+use Rattle.fm_top.specs.Calls.{IsCaused, Ran}
 use Rattle.fm_top.specs.Headline.{Headline}
 use Rattle.fm_top.specs.Kept.{BookAt}
-use Rattle.fm_top.specs.Order.{Goes, looks, world_of}
+use Rattle.fm_top.specs.Order.{AllPass, Goes, looks, world_of}
 use Rattle.fm_top.specs.Outside.{Outside, Tells, counts_of}
-use Rattle.fm_top.proofs.Doing.{Rests, quiet_counts}
-use Rattle.fm_top.proofs.Escs.{ok_no_err}
+use Rattle.fm_top.proofs.Shared.{IsOfStore, Rests, concluding_of_store, ok_no_err}
+use Rattle.fm_top.proofs.Shared.{opening_of_store, put_goes, quiet_counts, stopped_goes}
+use Rattle.fm_top.proofs.Shared.{text_caused, unopened, unopened_goes, work_caused}
 use Rattle.fm_top.proofs.Texts.{like_drained}
 
 -- what a command leaves reads like the book from before
@@ -47,71 +38,38 @@ module _ (asked : AdminCommand) (before after : Outside) where
 
   -- ---- the order of refusals
 
-  unopened_goes : (stop : Stop) → OpeningStops before.disks stop
-      → Goes (world_of before after) (looks (Admin asked)) (Err stop)
-  unopened_goes Disk why = inl tt
-  unopened_goes Memory why = inl tt
-  unopened_goes (Damaged disk place) why = inr (inl (inl (disk, place, refl, why)))
-  unopened_goes _ why = absurd why
-
-  untold_goes : (stop : Stop) → StoreUntold (command_limit asked) before.disks after.disks stop
-      → Goes (world_of before after) (looks (Admin asked)) (Err stop)
-  untold_goes stop untold = by_stop stop untold.why
-    where
-      by_stop : (stop : Stop) → ConcludingStops (command_limit asked) before.disks stop
-          → Goes (world_of before after) (looks (Admin asked)) (Err stop)
-      by_stop Disk why = inl tt
-      by_stop Memory why = inl tt
-      by_stop (Full kind) why = inr (inr (((λ told tells. (untold.holds told tells).stood), tt), tt))
-      by_stop (Damaged disk place) why =
-          inr (inl (inl (disk, place, refl, λ told tells. absurd (why told tells))))
-      by_stop _ why = absurd why
-
-  put_goes : (text : List ℕ) (ran : Result (Unit {0}) Stop)
-      → ((told : Contents) → Tells before.disks told → BookAt told)
-      → TextEnds before.out after.out text ran
-      → Goes (world_of before after) (looks (Admin asked)) ran
-  put_goes text (Ok done) stood ends = (stood, tt)
-  put_goes text (Err Write) stood ends = inl tt
-  put_goes text (Err Memory) stood ends = inl tt
-  put_goes text (Err _) stood ends = absurd ends
+  stood_pass : ((told : Contents) → Tells before.disks told → BookAt told)
+      → AllPass (world_of before after) (looks (Admin asked))
+  stood_pass stood = (stood, tt)
 
   tell_goes : (ran : Result (Unit {0}) Stop) → RanSo ran
       → Goes (world_of before after) (looks (Admin asked)) ran
   tell_goes ran (inl told) =
-      put_goes told.text ran (λ c tells. (told.store.went c tells).stood) told.put
+      put_goes before after (looks (Admin asked)) told.text ran
+      (stood_pass (λ c tells. (told.store.went c tells).stood)) told.put
   tell_goes ran (inr untold) =
       subst (Goes (world_of before after) (looks (Admin asked))) (sym untold.told)
       (elim untold.store.went [
-        | inl unopened ↦ unopened_goes untold.stop unopened.why
-        | inr opened ↦ untold_goes untold.stop opened
+        | inl unopened ↦ unopened_goes before after [] untold.stop unopened.why
+        | inr opened ↦
+            stopped_goes before after [] (command_limit asked) untold.stop
+            (stood_pass (λ c tells. (opened.holds c tells).stood)) opened.why
       ])
 
   -- ---- the causes
 
-  untold_caused : (stop : Stop) → TextAsked asked before.disks after.disks (Err stop)
-      → IsCaused before after stop
-  untold_caused Disk asked_so = asked_so.counts
-  untold_caused Read asked_so =
-      absurd (elim asked_so.went [ inl unopened ↦ unopened.why | inr opened ↦ opened.why ])
-  untold_caused Write asked_so =
-      absurd (elim asked_so.went [ inl unopened ↦ unopened.why | inr opened ↦ opened.why ])
-  untold_caused (Act index) asked_so =
-      absurd (elim asked_so.went [ inl unopened ↦ unopened.why | inr opened ↦ opened.why ])
-  untold_caused _ asked_so = tt
-
-  put_caused : (text : List ℕ) (ran : Result (Unit {0}) Stop)
-      → TextEnds before.out after.out text ran → IfErr ran (IsCaused before after)
-  put_caused text (Ok done) ends = tt
-  put_caused text (Err Write) ends = ends.0
-  put_caused text (Err Memory) ends = tt
-  put_caused text (Err _) ends = absurd ends
+  of_store : (stop : Stop) → TextAsked asked before.disks after.disks (Err stop) → IsOfStore stop
+  of_store stop asked_so = elim asked_so.went [
+    | inl unopened ↦ opening_of_store before.disks stop unopened.why
+    | inr opened ↦ concluding_of_store (command_limit asked) before.disks stop opened.why
+  ]
 
   tell_caused : (ran : Result (Unit {0}) Stop) → RanSo ran → IfErr ran (IsCaused before after)
-  tell_caused ran (inl told) = put_caused told.text ran told.put
+  tell_caused ran (inl told) = text_caused before after told.text ran told.put
   tell_caused ran (inr untold) =
       subst (λ r. IfErr r (IsCaused before after)) (sym untold.told)
-      (untold_caused untold.stop untold.store)
+      (work_caused before after (List ℕ) untold.stop (of_store untold.stop untold.store)
+      untold.store.counts)
 
   -- ---- the counts of a command that is done
 
@@ -136,32 +94,17 @@ module _ (asked : AdminCommand) (before after : Outside) where
       })
   tell_headline ran unread (inr untold) =
       elim untold.store.went [
-        | inl unopened ↦ inl (record {
-          refused = subst (λ r. OnOk r ⊥) (sym untold.told) tt;
-          unread = unread;
-          unsaid = untold.unsaid;
-          left = λ image leaves name. (unopened.untouched name).images _ (leaves name);
-        })
+        | inl refused ↦ inl (unopened before after ran untold.stop untold.told unread
+            untold.unsaid refused.untouched)
         | inr opened ↦ inr opened.holds
       ]
 
-pub does_tell : (asked : AdminCommand) (before after : Outside) (middle : SinkAt)
-    (ran : Result (Unit {0}) Stop) (result : ToolStatus)
-    → AdminRan asked before.out middle before.disks after.disks ran
-    → EndsAs middle after.out ran result → Rests before after → after.input ≡ before.input
-    → Does (Some (Admin asked)) before after result
-does_tell asked before after middle ran result did ends rests unread =
-    let mid : Outside = record after { out = middle } in
-    let still : Rests before mid =
-    record { rules = rests.rules; topo = rests.topo; acts = rests.acts } in (
-      ran,
-      middle,
-      record {
-        order = tell_goes asked before mid ran did;
-        cause = tell_caused asked before mid ran did;
-        quiet = tell_quiet asked before mid ran still unread did;
-        did = did;
-        headline = tell_headline asked before mid ran unread did;
-      },
-      ends,
-    )
+  pub ran_tell : (ran : Result (Unit {0}) Stop) → RanSo ran → Rests before after
+      → after.input ≡ before.input → Ran (Admin asked) before after ran
+  ran_tell ran did rests unread = record {
+    order = tell_goes ran did;
+    cause = tell_caused ran did;
+    quiet = tell_quiet ran rests unread did;
+    did = did;
+    headline = tell_headline ran unread did;
+  }

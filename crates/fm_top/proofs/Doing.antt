@@ -1,35 +1,30 @@
 -- What a command did, in the words of the whole call.
-use Rattle.std.proofs.Common.{◌≡◌, ◌⊎◌, ℕ, ◌∷◌, List, Bool, true, Option, Some, Result, Ok}
-use Rattle.std.proofs.Common.{Err, OnOk, IfErr, MatchResult, map, refl, sym, subst, inl, inr}
+use Rattle.std.proofs.Common.{◌≡◌, ◌⊎◌, ℕ, List, [], Bool, true, Option, Result, Ok}
+use Rattle.std.proofs.Common.{Err, OnOk, IfErr, MatchResult, refl, sym, subst, inl, inr}
 use Rattle.std.specs.Io.KnownBytes.{Appends, Consumes, IsAtEnd}
 use Rattle.fm_answers.specs.Accounts.{Accounts}
-use Rattle.fm_answers.specs.Ending.{EndsAs}
-use Rattle.fm_answers.specs.StreamsAt.{SinkAt}
 use Rattle.fm_answers.specs.Replaying.{ReplayedAll, ReplayStops}
 use Rattle.fm_answers.specs.Running.{Taken, RanUntil}
 use Rattle.fm_answers.specs.declared.status.ToolStatus.{ToolStatus}
 use Rattle.fm_answers.specs.declared.stops.Stop.{Stop}
-use Rattle.fm_answers.specs.declared.stops.Stop.TheVariants.{Damaged, Read, Write, Disk, Memory}
+use Rattle.fm_answers.specs.declared.stops.Stop.TheVariants.{Read, Write, Disk, Memory}
 use Rattle.fm_answers.specs.declared.stops.Stop.TheVariants.{Full, Act}
 use Rattle.fm_command.specs.declared.words.Command.{Command}
 use Rattle.fm_command.specs.declared.words.Command.TheVariants.{Accept, Replay}
 use Rattle.fm_logs.specs.Contents.{Contents}
-use Rattle.fm_top.specs.Accepting.{AcceptRan, AcceptedUntil, Grew, NotOpened, OpeningStops}
-use Rattle.fm_top.specs.Calls.{IsCaused, Does, Handed, WorksOn}
+use Rattle.fm_top.specs.Accepting.{AcceptRan, AcceptedUntil, Grew, NotOpened}
+use Rattle.fm_top.specs.Calls.{IsCaused, Does, Ran}
 use Rattle.fm_top.specs.Headline.{AreFromBefore}
 use Rattle.fm_top.specs.Kept.{BookAt}
 use Rattle.fm_top.specs.Order.{Goes, IsOutsideFault, IsLimit, looks, world_of}
 use Rattle.fm_top.specs.Outside.{Outside, Tells, disk_counts, counts_of}
 use Rattle.fm_top.proofs.Headlines.{headline_accept}
+use Rattle.fm_top.proofs.Shared.{Rests, quiet_counts, unopened_goes}
 
 -- what is said of the words of a command is said of the words
 pub does_as : (o p : Option Command) (before after : Outside) (result : ToolStatus)
     → o ≡ p → Does p before after result → Does o before after result
 does_as o p before after result same does = subst (λ c. Does c before after result) (sym same) does
-
-pub works_as : {S D A : Type 0} (o p : Option Command) (old new : Handed S D A)
-    → o ≡ p → WorksOn p old new → WorksOn o old new
-works_as o p old new same works = subst (λ c. WorksOn c old new) (sym same) works
 
 both : {E : Type 0} (r : Result (Unit {0}) E) (P : Type 0) (Q : E → Type 0) → OnOk r P → IfErr r Q
     → MatchResult r (λ _. P) Q
@@ -68,14 +63,7 @@ accept_goes before after (Err stop) did = by_end stop did.went
         → NotOpened before.input after.input before.out after.out before.disks after.disks stop
         ⊎ AcceptedUntil before.input after.input before.out after.out before.disks after.disks stop
         → Goes (world_of before after) (looks Accept) (Err stop)
-    by_end stop (inl refused) = opening_goes stop refused.why
-      where
-        opening_goes : (stop : Stop) → OpeningStops before.disks stop
-            → Goes (world_of before after) (looks Accept) (Err stop)
-        opening_goes Disk why = inl tt
-        opening_goes Memory why = inl tt
-        opening_goes (Damaged disk place) why = inr (inl (inl (disk, place, refl, why)))
-        opening_goes _ why = absurd why
+    by_end stop (inl refused) = unopened_goes before after [] stop refused.why
     by_end stop (inr until) =
         elim (run_ends _ _ _ _ _ _ stop until.ran) [
           | inl fault ↦ inl fault
@@ -97,24 +85,6 @@ accept_caused before after (Err (Act index)) did =
     ]
 accept_caused before after (Err _) did = tt
 
--- what a run over the input leaves alone
-pub record Rests (before after : Outside) : Type 0 where
-  pub rules : after.rules ≡ before.rules
-  pub topo : after.topo ≡ before.topo
-  pub acts : after.acts ≡ before.acts
-
--- the counts of a command that is done
-pub quiet_counts : (before after : Outside) → Rests before after
-    → after.input.failures ≡ before.input.failures → after.out.failures ≡ before.out.failures
-    → disk_counts after.disks ≡ disk_counts before.disks → counts_of after ≡ counts_of before
-quiet_counts before after rests input out disks =
-    λ i. record {
-      sources = input i ∷ (rests.topo i).failures ∷ map (λ s. s.failures) (rests.rules i);
-      out = out i;
-      disks = disks i;
-      acts = map (λ a. a.failures) (rests.acts i);
-    }
-
 accept_quiet : (before after : Outside) (ran : Result (Unit {0}) Stop) → Rests before after
     → AcceptRan before.input after.input before.out after.out before.disks after.disks ran
     → OnOk ran (counts_of after ≡ counts_of before)
@@ -122,25 +92,16 @@ accept_quiet before after (Ok done) rests did =
     quiet_counts before after rests did.counts_input did.counts_out did.counts_disks
 accept_quiet before after (Err stop) rests did = tt
 
-pub does_accept : (before after : Outside) (middle : SinkAt) (ran : Result (Unit {0}) Stop)
-    (result : ToolStatus)
-    → AcceptRan before.input after.input before.out middle before.disks after.disks ran
-    → EndsAs middle after.out ran result → Rests before after
-    → Does (Some Accept) before after result
-does_accept before after middle ran result did ends rests =
-    let mid : Outside = record after { out = middle } in (
-      ran,
-      middle,
-      record {
-        order = accept_goes before mid ran did;
-        cause = accept_caused before mid ran did;
-        quiet = accept_quiet before mid ran
-            (record { rules = rests.rules; topo = rests.topo; acts = rests.acts }) did;
-        did = did;
-        headline = headline_accept before mid ran did;
-      },
-      ends,
-    )
+pub ran_accept : (before after : Outside) (ran : Result (Unit {0}) Stop)
+    → AcceptRan before.input after.input before.out after.out before.disks after.disks ran
+    → Rests before after → Ran Accept before after ran
+ran_accept before after ran did rests = record {
+  order = accept_goes before after ran did;
+  cause = accept_caused before after ran did;
+  quiet = accept_quiet before after ran rests did;
+  did = did;
+  headline = headline_accept before after ran did;
+}
 
 replay_goes : (before after : Outside) (puts consumes : List ℕ → Type 0) (at_end : Type 0)
     (ran : Result (Unit {0}) Stop)
@@ -191,27 +152,19 @@ replay_quiet before after (Ok done) rests disks input out =
     quiet_counts before after rests input out disks
 replay_quiet before after (Err stop) rests disks input out = tt
 
-pub does_replay : (before after : Outside) (middle : SinkAt) (ran : Result (Unit {0}) Stop)
-    (result : ToolStatus)
-    → OnOk ran (ReplayedAll (Appends before.out.bytes middle.bytes)
+pub ran_replay : (before after : Outside) (ran : Result (Unit {0}) Stop)
+    → OnOk ran (ReplayedAll (Appends before.out.bytes after.out.bytes)
     (Consumes before.input.left after.input.left) (IsAtEnd after.input.left))
-    → IfErr ran (ReplayStops (Appends before.out.bytes middle.bytes)
+    → IfErr ran (ReplayStops (Appends before.out.bytes after.out.bytes)
     (Consumes before.input.left after.input.left) (IsAtEnd after.input.left))
     → Accounts Read before.input.failures after.input.failures ran
-    → Accounts Write before.out.failures middle.failures ran
-    → EndsAs middle after.out ran result → Rests before after
-    → disk_counts after.disks ≡ disk_counts before.disks → AreFromBefore before.disks after.disks
-    → Does (Some Replay) before after result
-does_replay before after middle ran result all until input out ends rests disks same = (
-  ran,
-  middle,
-  record {
-    order = replay_goes before (record after { out = middle }) _ _ _ ran until;
-    cause = replay_caused before (record after { out = middle }) _ _ _ ran until input out;
-    quiet = replay_quiet before (record after { out = middle }) ran
-        (record { rules = rests.rules; topo = rests.topo; acts = rests.acts }) disks input out;
-    did = record { went = both ran _ _ all until; counts_input = input; counts_out = out };
-    headline = same;
-  },
-  ends,
-)
+    → Accounts Write before.out.failures after.out.failures ran
+    → Rests before after → disk_counts after.disks ≡ disk_counts before.disks
+    → AreFromBefore before.disks after.disks → Ran Replay before after ran
+ran_replay before after ran all until input out rests disks same = record {
+  order = replay_goes before after _ _ _ ran until;
+  cause = replay_caused before after _ _ _ ran until input out;
+  quiet = replay_quiet before after ran rests disks input out;
+  did = record { went = both ran _ _ all until; counts_input = input; counts_out = out };
+  headline = same;
+}

@@ -1,11 +1,9 @@
 -- What `esc` did, in the words of the whole call.
 use Rattle.std.proofs.Common.{◌≡◌, inl, inr, ℕ, List, [], ◌∷◌, map, refl, sym, subst, OnOk, IfErr}
 use Rattle.std.proofs.Common.{Option, Some, None, Result, Ok, Err}
-use Rattle.fm_answers.specs.Ending.{EndsAs}
 use Rattle.fm_answers.specs.StreamsAt.{SinkAt, source_at}
 use Rattle.fm_answers.specs.Refusing.{PutCut}
 use Rattle.fm_answers.specs.Stops.{of_compiling, of_input}
-use Rattle.fm_answers.specs.declared.status.ToolStatus.{ToolStatus}
 use Rattle.fm_answers.specs.declared.stops.Stop.{Stop}
 use Rattle.fm_answers.specs.declared.stops.Stop.TheVariants.{Write, Memory}
 use Rattle.fm_command.specs.declared.words.Command.TheVariants.{Esc, EscInput}
@@ -18,32 +16,18 @@ use Rattle.fm_esc.specs.declared.faults.InputFault.{InputFault}
 use Rattle.fm_esc.specs.declared.faults.InputFault.TheVariants as inputs
 use Rattle.fm_esc.specs.declared.graphs.GraphForm.{GraphForm}
 use Rattle.fm_sources.specs.Sources.{given}
-use Rattle.fm_top.specs.Calls.{IsCaused, Does}
-use Rattle.fm_top.specs.Esc.{EscEnds, EscInputEnds, TextEnds}
+use Rattle.fm_top.specs.Calls.{IsCaused, Ran}
+use Rattle.fm_top.specs.Esc.{EscEnds, EscInputEnds}
 use Rattle.fm_top.specs.Esc.{after_listing}
 use Rattle.fm_top.specs.Headline.{AreFromBefore}
 use Rattle.fm_top.specs.Order.{Goes, Look, at_rules, at_topology, at_graphs, looks, world_of}
 use Rattle.fm_top.specs.Outside.{Outside, standing, given_of}
 use Rattle.fm_top.specs.Outside.{disk_counts, counts_of}
 use Rattle.fm_top.proofs.Inits.{refused_goes, refused_caused, done_quiet}
+use Rattle.fm_top.proofs.Shared.{ok_no_err, put_goes, quiet_counts, text_caused}
 use Rattle.fm_top.proofs.Standing.{reads_standing, gave_text}
 
 -- ---- rule files and a topology
-
-text_goes : (before after : Outside) (form : GraphForm) (text : List ℕ)
-    (ran : Result (Unit {0}) Stop)
-    → IsCompiled standing form (given_of before) (given_of after) text
-    → TextEnds before.out after.out text ran → Goes (world_of before after) (looks (Esc form)) ran
-text_goes before after form text (Ok done) is put = (
-  (is.got.files.items, is.read.0),
-  (
-    (is.got.topo_text.items, is.got.topo, is.read.1),
-    ((is.got, is.read, (is.mades, is.graphs)), tt),
-  ),
-)
-text_goes before after form text (Err Write) is cut = inl tt
-text_goes before after form text (Err Memory) is cut = inl tt
-text_goes before after form text (Err _) is cut = absurd cut
 
 -- sources that come to nothing, of a command that looks at them first
 pub cause_goes : (before after : Outside) (more : List Look) (fault : CompileFault)
@@ -63,17 +47,13 @@ esc_goes : (before after : Outside) (form : GraphForm) (ran : Result (Unit {0}) 
     → EscEnds standing form (given_of before) (given_of after) before.out after.out ran
     → Goes (world_of before after) (looks (Esc form)) ran
 esc_goes before after form ran (inl (text, is, put)) =
-    text_goes before after form text ran is put
+    put_goes before after (looks (Esc form)) text ran (
+      (is.got.files.items, is.read.0),
+      ((is.got.topo_text.items, is.got.topo, is.read.1), ((is.got, is.read, (is.mades, is.graphs)), tt)),
+    ) put
 esc_goes before after form ran (inr (fault, cause, same, rest)) =
     subst (Goes (world_of before after) (looks (Esc form))) (sym same)
     (cause_goes before after [] fault cause)
-
-text_caused : (before after : Outside) (text : List ℕ) (ran : Result (Unit {0}) Stop)
-    → TextEnds before.out after.out text ran → IfErr ran (IsCaused before after)
-text_caused before after text (Ok done) put = tt
-text_caused before after text (Err Write) cut = cut.0
-text_caused before after text (Err Memory) cut = tt
-text_caused before after text (Err _) cut = absurd cut
 
 pub cause_caused : (before after : Outside) (fault : CompileFault)
     → CompileCause standing (given_of before) (given_of after) fault
@@ -91,9 +71,6 @@ esc_caused before after form ran (inr (fault, cause, same, rest)) =
     subst (λ r. IfErr r (IsCaused before after)) (sym same)
     (cause_caused before after fault cause)
 
-pub ok_no_err : (done : Unit {0}) (stop : Stop) → Ok done ≡ Err stop → ⊥
-ok_no_err done stop e = cc
-
 esc_quiet : (before after : Outside) (form : GraphForm) (ran : Result (Unit {0}) Stop)
     → EscEnds standing form (given_of before) (given_of after) before.out after.out ran
     → after.input ≡ before.input → after.acts ≡ before.acts
@@ -106,25 +83,18 @@ esc_quiet before after form (Ok done) (inl (text, is, put)) input acts disks =
 esc_quiet before after form (Ok done) (inr (fault, cause, same, rest)) input acts disks =
     absurd (ok_no_err done (of_compiling fault) same)
 
-pub does_esc : (before after : Outside) (middle : SinkAt) (form : GraphForm)
-    (ran : Result (Unit {0}) Stop) (result : ToolStatus)
-    → EscEnds standing form (given_of before) (given_of after) before.out middle ran
-    → EndsAs middle after.out ran result → after.input ≡ before.input
-    → after.acts ≡ before.acts → disk_counts after.disks ≡ disk_counts before.disks
-    → AreFromBefore before.disks after.disks → Does (Some (Esc form)) before after result
-does_esc before after middle form ran result ends last input acts disks same =
-    let mid : Outside = record after { out = middle } in (
-      ran,
-      middle,
-      record {
-        order = esc_goes before mid form ran ends;
-        cause = esc_caused before mid form ran ends;
-        quiet = esc_quiet before mid form ran ends input acts disks;
-        did = ends;
-        headline = same;
-      },
-      last,
-    )
+pub ran_esc : (before after : Outside) (form : GraphForm) (ran : Result (Unit {0}) Stop)
+    → EscEnds standing form (given_of before) (given_of after) before.out after.out ran
+    → after.input ≡ before.input → after.acts ≡ before.acts
+    → disk_counts after.disks ≡ disk_counts before.disks
+    → AreFromBefore before.disks after.disks → Ran (Esc form) before after ran
+ran_esc before after form ran ends input acts disks same = record {
+  order = esc_goes before after form ran ends;
+  cause = esc_caused before after form ran ends;
+  quiet = esc_quiet before after form ran ends input acts disks;
+  did = ends;
+  headline = same;
+}
 
 -- ---- what is said of the sources as objects is said of them as they stand
 
@@ -202,12 +172,6 @@ whole_caused : (before after : Outside) (bad : Option ℕ)
 whole_caused before after None = tt
 whole_caused before after (Some place) = tt
 
-cut_caused : (before after : Outside) (text : List ℕ) (stop : Stop)
-    → PutCut before.out after.out text stop → IsCaused before after stop
-cut_caused before after text Write cut = cut.0
-cut_caused before after text Memory cut = tt
-cut_caused before after text _ cut = absurd cut
-
 none_caused : (before after : Outside) (fault : InputFault)
     → InputCause standing before.input after.input fault
     → IsCaused before after (of_input fault)
@@ -223,24 +187,10 @@ input_caused before after ran (inl whole) =
     (whole_caused before after whole.bad)
 input_caused before after ran (inr (inl part)) =
     subst (λ r. IfErr r (IsCaused before after)) (sym part.ends)
-    (cut_caused before after part.text part.stop part.cut)
+    (text_caused before after part.text (Err part.stop) part.cut)
 input_caused before after ran (inr (inr none)) =
     subst (λ r. IfErr r (IsCaused before after)) (sym none.ends)
     (none_caused before after none.fault none.cause)
-
-counts_same : (before after : Outside)
-    → after.input.failures ≡ before.input.failures
-    → after.out.failures ≡ before.out.failures → after.rules ≡ before.rules
-    → after.topo ≡ before.topo → after.acts ≡ before.acts
-    → disk_counts after.disks ≡ disk_counts before.disks
-    → counts_of after ≡ counts_of before
-counts_same before after input out rules topo acts disks =
-    λ i. record {
-      sources = input i ∷ (topo i).failures ∷ map (λ s. s.failures) (rules i);
-      out = out i;
-      disks = disks i;
-      acts = map (λ a. a.failures) (acts i);
-    }
 
 input_quiet : (before after : Outside) (ran : Result (Unit {0}) Stop)
     → EscInputEnds standing before.input after.input before.out after.out ran
@@ -249,32 +199,25 @@ input_quiet : (before after : Outside) (ran : Result (Unit {0}) Stop)
     → OnOk ran (counts_of after ≡ counts_of before)
 input_quiet before after (Err stop) ends rules topo acts disks = tt
 input_quiet before after (Ok done) (inl whole) rules topo acts disks =
-    counts_same before after whole.listed.gave.quiet whole.put.quiet rules topo acts disks
+    quiet_counts before after (record { rules = rules; topo = topo; acts = acts })
+    whole.listed.gave.quiet whole.put.quiet disks
 input_quiet before after (Ok done) (inr (inl part)) rules topo acts disks =
     absurd (ok_no_err done part.stop part.ends)
 input_quiet before after (Ok done) (inr (inr none)) rules topo acts disks =
     absurd (ok_no_err done (of_input none.fault) none.ends)
 
-pub does_input : (before after : Outside) (middle : SinkAt) (ran : Result (Unit {0}) Stop)
-    (result : ToolStatus)
-    → EscInputEnds standing before.input after.input before.out middle ran
-    → EndsAs middle after.out ran result → after.rules ≡ before.rules
-    → after.topo ≡ before.topo → after.acts ≡ before.acts
+pub ran_input : (before after : Outside) (ran : Result (Unit {0}) Stop)
+    → EscInputEnds standing before.input after.input before.out after.out ran
+    → after.rules ≡ before.rules → after.topo ≡ before.topo → after.acts ≡ before.acts
     → disk_counts after.disks ≡ disk_counts before.disks
-    → AreFromBefore before.disks after.disks → Does (Some EscInput) before after result
-does_input before after middle ran result ends last rules topo acts disks same =
-    let mid : Outside = record after { out = middle } in (
-      ran,
-      middle,
-      record {
-        order = input_goes before mid ran ends;
-        cause = input_caused before mid ran ends;
-        quiet = input_quiet before mid ran ends rules topo acts disks;
-        did = ends;
-        headline = same;
-      },
-      last,
-    )
+    → AreFromBefore before.disks after.disks → Ran EscInput before after ran
+ran_input before after ran ends rules topo acts disks same = record {
+  order = input_goes before after ran ends;
+  cause = input_caused before after ran ends;
+  quiet = input_quiet before after ran ends rules topo acts disks;
+  did = ends;
+  headline = same;
+}
 
 module _ {S : Type 0} (g : Ghosts S) (old new : S) where
   listed_standing : (text : List ℕ) (bad : Option ℕ) → IsListed g old new text bad

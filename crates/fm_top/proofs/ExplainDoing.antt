@@ -1,29 +1,20 @@
 -- What `explain` did, in the words of the whole call.
-use Rattle.std.proofs.Common.{◌≡◌, inl, inr, ℕ, List, refl, sym, subst, Some}
+use Rattle.std.proofs.Common.{◌≡◌, ◌∷◌, inl, inr, ℕ, List, [], sym, subst, Some}
 use Rattle.std.proofs.Common.{OnOk, IfErr, Result, Ok, Err}
 use Rattle.std.specs.declared.option.Option.{Option}
-use Rattle.fm_answers.specs.Ending.{EndsAs}
-use Rattle.fm_answers.specs.StreamsAt.{SinkAt}
-use Rattle.fm_answers.specs.declared.status.ToolStatus.{ToolStatus}
 use Rattle.fm_answers.specs.declared.stops.Stop.{Stop}
-use Rattle.fm_answers.specs.declared.stops.Stop.TheVariants.{Read, Write, Disk, Damaged, Memory}
-use Rattle.fm_answers.specs.declared.stops.Stop.TheVariants.{Full}
-use Rattle.fm_answers.specs.declared.stops.Stop.TheVariants.{Act, NotFound}
 use Rattle.fm_command.specs.declared.words.Command.TheVariants.{Explain}
 use Rattle.fm_logs.specs.Contents.{Contents}
-use Rattle.fm_top.specs.Accepting.{OpeningStops}
-use Rattle.fm_top.specs.Admin.{StoreUntold}
-use Rattle.fm_top.specs.Calls.{IsCaused, Does}
-use Rattle.fm_top.specs.Esc.{TextEnds}
+use Rattle.fm_top.specs.Calls.{IsCaused, Ran}
 use Rattle.fm_top.specs.Explain.{ExplainRan, ExplainTried, ExplainedOf, StoreWithout}
-use Rattle.fm_top.specs.Fmd.{ConcludingStops}
 use Rattle.fm_top.specs.Headline.{Headline, HoldsOfBook, LikeBook}
 use Rattle.fm_top.specs.Kept.{BookAt}
 use Rattle.fm_top.specs.Limits.{draining_limit}
-use Rattle.fm_top.specs.Order.{Goes, looks, world_of}
+use Rattle.fm_top.specs.Order.{AllPass, Goes, at_row, looks, world_of}
 use Rattle.fm_top.specs.Outside.{Outside, Tells, counts_of}
-use Rattle.fm_top.proofs.Doing.{Rests, quiet_counts}
-use Rattle.fm_top.proofs.Escs.{ok_no_err}
+use Rattle.fm_top.proofs.Shared.{IsOfStore, Rests, concluding_of_store, ok_no_err}
+use Rattle.fm_top.proofs.Shared.{opening_of_store, put_goes, quiet_counts, stopped_goes}
+use Rattle.fm_top.proofs.Shared.{text_caused, unopened, unopened_goes, work_caused}
 use Rattle.fm_top.proofs.Texts.{like_drained}
 
 module _ (uuid : List ℕ) (before after : Outside) where
@@ -35,11 +26,9 @@ module _ (uuid : List ℕ) (before after : Outside) where
 
   -- ---- the order of refusals
 
-  unopened_goes : (stop : Stop) → OpeningStops before.disks stop → GoesSo (Err stop)
-  unopened_goes Disk why = inl tt
-  unopened_goes Memory why = inl tt
-  unopened_goes (Damaged disk place) why = inr (inl (inl (disk, place, refl, why)))
-  unopened_goes _ why = absurd why
+  stood_pass : ((told : Contents) → Tells before.disks told → BookAt told)
+      → AllPass (world_of before after) (looks (Explain uuid))
+  stood_pass stood = (stood, (tt, tt))
 
   without_goes : (stop : Stop) → StoreWithout uuid before.disks after.disks stop
       → GoesSo (Err stop)
@@ -53,77 +42,40 @@ module _ (uuid : List ℕ) (before after : Outside) where
         ),
       )))
 
-  untold_goes : (stop : Stop) → StoreUntold draining_limit before.disks after.disks stop
-      → GoesSo (Err stop)
-  untold_goes stop untold = by_stop stop untold.why
-    where
-      by_stop : (stop : Stop) → ConcludingStops draining_limit before.disks stop
-          → GoesSo (Err stop)
-      by_stop Disk why = inl tt
-      by_stop Memory why = inl tt
-      by_stop (Full kind) why =
-          inr (inr (((λ told tells. (untold.holds told tells).stood), (tt, tt)), tt))
-      by_stop (Damaged disk place) why =
-          inr (inl (inl (disk, place, refl, λ told tells. absurd (why told tells))))
-      by_stop _ why = absurd why
-
-  put_goes : (text : List ℕ) (ran : Result (Unit {0}) Stop)
-      → ((told : Contents) → Tells before.disks told → BookAt told)
-      → TextEnds before.out after.out text ran → GoesSo ran
-  put_goes text (Ok done) stood ends = (stood, (tt, tt))
-  put_goes text (Err Write) stood ends = inl tt
-  put_goes text (Err Memory) stood ends = inl tt
-  put_goes text (Err _) stood ends = absurd ends
-
   explain_goes : (ran : Result (Unit {0}) Stop) → RanSo ran → GoesSo ran
   explain_goes ran (inl told) =
-      put_goes told.text ran (λ c tells. (told.store.went c tells).stood) told.put
+      put_goes before after (looks (Explain uuid)) told.text ran
+      (stood_pass (λ c tells. (told.store.went c tells).stood)) told.put
   explain_goes ran (inr untold) =
       subst GoesSo (sym untold.told)
       (elim untold.store.went [
-        | inl unopened ↦ unopened_goes untold.stop unopened.why
+        | inl refused ↦ unopened_goes before after (at_row uuid ∷ []) untold.stop refused.why
         | inr opened ↦ elim opened [
           | inl without ↦ without_goes untold.stop without
-          | inr stopped ↦ untold_goes untold.stop stopped
+          | inr stopped ↦
+              stopped_goes before after (at_row uuid ∷ []) draining_limit untold.stop
+              (stood_pass (λ c tells. (stopped.holds c tells).stood)) stopped.why
         ]
       ])
 
   -- ---- the causes
 
-  -- no work on the store is stopped by the input, the sink or an actuator
-  only_store : (stop : Stop) (T : Type 0) → ExplainTried uuid before.disks after.disks (Err stop)
-      → (OpeningStops before.disks stop → ⊥) → (stop ≡ NotFound → ⊥)
-      → (ConcludingStops draining_limit before.disks stop → ⊥) → T
-  only_store stop T tried no_opening found no_concluding =
-      absurd (elim tried.went [
-        | inl unopened ↦ no_opening unopened.why
-        | inr opened ↦ elim opened [
-          | inl without ↦ found without.why
-          | inr stopped ↦ no_concluding stopped.why
-        ]
-      ])
-
-  untold_caused : (stop : Stop) → ExplainTried uuid before.disks after.disks (Err stop)
-      → IsCaused before after stop
-  untold_caused Disk tried = tried.counts
-  untold_caused Read tried = only_store Read _ tried (λ why. why) (λ is. cc) (λ why. why)
-  untold_caused Write tried = only_store Write _ tried (λ why. why) (λ is. cc) (λ why. why)
-  untold_caused (Act index) tried =
-      only_store (Act index) _ tried (λ why. why) (λ is. cc) (λ why. why)
-  untold_caused _ tried = tt
-
-  put_caused : (text : List ℕ) (ran : Result (Unit {0}) Stop)
-      → TextEnds before.out after.out text ran → IfErr ran (IsCaused before after)
-  put_caused text (Ok done) ends = tt
-  put_caused text (Err Write) ends = ends.0
-  put_caused text (Err Memory) ends = tt
-  put_caused text (Err _) ends = absurd ends
+  of_store : (stop : Stop) → ExplainTried uuid before.disks after.disks (Err stop)
+      → IsOfStore stop
+  of_store stop tried = elim tried.went [
+    | inl refused ↦ opening_of_store before.disks stop refused.why
+    | inr opened ↦ elim opened [
+      | inl without ↦ subst IsOfStore (sym without.why) tt
+      | inr stopped ↦ concluding_of_store draining_limit before.disks stop stopped.why
+    ]
+  ]
 
   explain_caused : (ran : Result (Unit {0}) Stop) → RanSo ran → IfErr ran (IsCaused before after)
-  explain_caused ran (inl told) = put_caused told.text ran told.put
+  explain_caused ran (inl told) = text_caused before after told.text ran told.put
   explain_caused ran (inr untold) =
       subst (λ r. IfErr r (IsCaused before after)) (sym untold.told)
-      (untold_caused untold.stop untold.store)
+      (work_caused before after (List ℕ) untold.stop (of_store untold.stop untold.store)
+      untold.store.counts)
 
   -- ---- the counts of a command that is done
 
@@ -154,35 +106,20 @@ module _ (uuid : List ℕ) (before after : Outside) where
       inr (λ c tells. like_book c (Some told.text) (told.store.went c tells))
   explain_headline ran unread (inr untold) =
       elim untold.store.went [
-        | inl unopened ↦ inl (record {
-          refused = subst (λ r. OnOk r ⊥) (sym untold.told) tt;
-          unread = unread;
-          unsaid = untold.unsaid;
-          left = λ image leaves name. (unopened.untouched name).images _ (leaves name);
-        })
+        | inl refused ↦ inl (unopened before after ran untold.stop untold.told unread
+            untold.unsaid refused.untouched)
         | inr opened ↦ inr (λ told tells. elim opened [
           | inl without ↦ like_book told _ (without.holds told tells)
           | inr stopped ↦ stopped.holds told tells
         ])
       ]
 
-pub does_explain : (uuid : List ℕ) (before after : Outside) (middle : SinkAt)
-    (ran : Result (Unit {0}) Stop) (result : ToolStatus)
-    → ExplainRan uuid before.out middle before.disks after.disks ran
-    → EndsAs middle after.out ran result → Rests before after → after.input ≡ before.input
-    → Does (Some (Explain uuid)) before after result
-does_explain uuid before after middle ran result did ends rests unread =
-    let mid : Outside = record after { out = middle } in
-    let still : Rests before mid =
-    record { rules = rests.rules; topo = rests.topo; acts = rests.acts } in (
-      ran,
-      middle,
-      record {
-        order = explain_goes uuid before mid ran did;
-        cause = explain_caused uuid before mid ran did;
-        quiet = explain_quiet uuid before mid ran still unread did;
-        did = did;
-        headline = explain_headline uuid before mid ran unread did;
-      },
-      ends,
-    )
+  pub ran_explain : (ran : Result (Unit {0}) Stop) → RanSo ran → Rests before after
+      → after.input ≡ before.input → Ran (Explain uuid) before after ran
+  ran_explain ran did rests unread = record {
+    order = explain_goes ran did;
+    cause = explain_caused ran did;
+    quiet = explain_quiet ran rests unread did;
+    did = did;
+    headline = explain_headline ran unread did;
+  }

@@ -35,13 +35,13 @@ use Rattle.fm_top.specs.Headline.{HoldsOfBook, LikeBook}
 use Rattle.fm_top.specs.Kept.{BookAt}
 use Rattle.fm_top.specs.Limits.{draining_limit}
 use Rattle.fm_top.specs.Outside.{Tells, disks_at}
-use Rattle.fm_top.proofs.Accepts.{opening_account, opening_stops}
+use Rattle.fm_top.proofs.Accepts.{opening_account}
 use Rattle.fm_top.proofs.Fmds.{OpenAt}
 use Rattle.fm_top.proofs.OpenedDisks.{none_rose, opened_at, some_rose, store_left}
 use Rattle.fm_top.proofs.RowGraphs.{explanation_at}
-use Rattle.fm_top.proofs.SixDisks.{all_only_read, rose_any, none_counts}
+use Rattle.fm_top.proofs.SixDisks.{rose_any, none_counts}
 use Rattle.fm_top.proofs.Texts.{OpenFor, left_drained, open_for, same_counts, told_limit}
-use Rattle.fm_top.proofs.Texts.{told_refused}
+use Rattle.fm_top.proofs.Texts.{store_unopened, told_refused}
 use Rattle.fm_top.proofs.WorkLimits.{work_limit}
 
 none_some : {X : Type 0} {x : X} {o : Option X} → o ≡ None → o ≡ Some x → ⊥
@@ -99,10 +99,7 @@ pub explain_unopened : {D : Type 0} (g : Ghosts D) (disks disks_now : Disks D) (
     → WereOnlyRead g disks disks_now
     → ExplainTried uuid (disks_at g disks) (disks_at g disks_now) (Err (of_store fault))
 explain_unopened g disks disks_now uuid fault refused read = record {
-  went = inl (record {
-    untouched = all_only_read g disks disks_now read;
-    why = opening_stops g disks disks_now fault refused;
-  });
+  went = inl (store_unopened g disks disks_now fault refused read);
   counts = opening_account g (List ℕ) disks disks_now fault refused;
 }
 

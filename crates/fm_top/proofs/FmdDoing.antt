@@ -1,16 +1,13 @@
 -- What `fmd -1` did, in the words of the whole call.
-use Rattle.std.proofs.Common.{◌≡◌, inl, inr, ℕ, zero, suc, List, [], ◌∷◌, map, refl, sym}
-use Rattle.std.proofs.Common.{◌∙◌, subst, true, Some, OnOk, IfErr, Result, Ok, Err}
-use Rattle.std.specs.List.{AllZip}
+use Rattle.std.proofs.Common.{◌≡◌, inl, inr, ℕ, List, [], ◌∷◌, map, refl, sym}
+use Rattle.std.proofs.Common.{◌∙◌, subst, true, OnOk, IfErr, Result, Ok, Err}
 use Rattle.std.specs.Io.KnownBytes.{Appends, Consumes}
 use Rattle.std.proofs.KnownBytes.{Appends-nil, Consumes-nil}
-use Rattle.fm_act.specs.Reconciled.{ActuatorState, FirstFailed, Settled}
+use Rattle.fm_act.specs.Reconciled.{ActuatorState}
 use Rattle.fm_answers.specs.Ended.{ended}
-use Rattle.fm_answers.specs.Ending.{EndsAs}
 use Rattle.fm_answers.specs.StreamsAt.{SourceAt, SinkAt}
 use Rattle.fm_answers.specs.StreamsAt.{source_at}
 use Rattle.fm_answers.specs.Stops.{of_compiling}
-use Rattle.fm_answers.specs.declared.status.ToolStatus.{ToolStatus}
 use Rattle.fm_answers.specs.declared.stops.Stop.{Stop}
 use Rattle.fm_answers.specs.declared.stops.Stop.TheVariants.{Read, Write, Disk, Damaged, Memory}
 use Rattle.fm_answers.specs.declared.stops.Stop.TheVariants.{Full}
@@ -20,7 +17,6 @@ use Rattle.fm_answers.specs.Recording.{store_with}
 use Rattle.fm_command.specs.declared.words.Command.TheVariants.{Fmd}
 use Rattle.fm_core.specs.Book.{next_number}
 use Rattle.fm_logs.specs.Contents.{Contents}
-use Rattle.fm_outer.specs.Failures.{Rose}
 use Rattle.fm_outer.specs.declared.source.Source.{Ghosts}
 use Rattle.fm_esc.specs.Compiling.{CompileCause}
 use Rattle.fm_esc.specs.declared.faults.CompileFault.{CompileFault}
@@ -28,33 +24,21 @@ use Rattle.fm_sources.specs.Sources.{given}
 use Rattle.fm_sources.specs.declared.sources.Sources.{Sources}
 use Rattle.fm_store.specs.StoreLeft.{ReadsLike}
 use Rattle.fm_top.specs.Accepting.{AcceptedAll, AcceptedUntil, NotOpened}
-use Rattle.fm_top.specs.Calls.{IsCaused, Does}
-use Rattle.fm_top.specs.Fmd.{ConcludingStops, FmdRan, KeepSame, SettlingEnds, SourcesRead}
+use Rattle.fm_top.specs.Calls.{IsCaused, Ran}
+use Rattle.fm_top.specs.Fmd.{ConcludingStops, FmdRan, KeepSame, SourcesRead}
 use Rattle.fm_top.specs.Fmd.{StoreDiffers, StoreRan, StoreStops}
-use Rattle.fm_top.specs.Headline.{HasEach, Headline, Unopened}
+use Rattle.fm_top.specs.Headline.{HasEach, Headline}
 use Rattle.fm_top.specs.Order.{AllPass, FirstFinds, Goes, at_store, at_same, looks, world_of}
-use Rattle.fm_top.specs.Init.{AreUnwritten}
 use Rattle.fm_top.specs.Kept.{BookAt}
 use Rattle.fm_top.specs.Limits.{WorkLimit}
-use Rattle.fm_top.specs.Outside.{Outside, Tells, Leaves, RoseAt, act_counts}
-use Rattle.fm_top.specs.Outside.{DisksAt, counts_of}
+use Rattle.fm_top.specs.Outside.{Outside, Tells, Leaves}
+use Rattle.fm_top.specs.Outside.{DisksAt, counts_of, outside_with}
 use Rattle.fm_top.proofs.BookHeld.{HeldAfterOf, HeldOf, held_after_each}
 use Rattle.fm_top.proofs.Doing.{run_ends}
-use Rattle.fm_top.proofs.Escs.{cause_caused, cause_goes, cause_standing, ok_no_err}
+use Rattle.fm_top.proofs.Escs.{cause_caused, cause_goes, cause_standing}
 use Rattle.fm_top.proofs.Headlines.{until_held, whole_answered}
 use Rattle.fm_top.proofs.Inits.{rules_quiet}
-
--- what stands outside, part by part
-abbrev pub outside_with : SourceAt → List SourceAt → SourceAt → SinkAt → DisksAt
-    → List ActuatorState → Outside
-outside_with input rules topo out disks acts = record {
-  input = input;
-  rules = rules;
-  topo = topo;
-  out = out;
-  disks = disks;
-  acts = acts;
-}
+use Rattle.fm_top.proofs.Shared.{acts_quiet, ok_no_err, settled_caused, settled_goes, unopened}
 
 -- ---- the order of refusals
 
@@ -130,16 +114,6 @@ module _ (before after : Outside) (got : Sources) (sources : SourcesRead before 
   stops_goes stop middle (inr (inr (same, inl until))) = until_goes stop middle same until
   stops_goes stop middle (inr (inr (same, inr behind))) = behind_goes _ stop same behind.why
 
-  settled_goes : (paths : List (List ℕ)) (summary : List ℕ) (middle : SinkAt)
-      (ran : Result (Unit {0}) Stop) → KeepSame before.disks got
-      → SettlingEnds paths summary before.acts after.acts middle after.out ran
-      → Goes (world_of before after) (looks Fmd) ran
-  settled_goes paths summary middle (Ok done) same ends = same_passes same
-  settled_goes paths summary middle (Err (Act index)) same ends = inl tt
-  settled_goes paths summary middle (Err Write) same ends = inl tt
-  settled_goes paths summary middle (Err Memory) same ends = inl tt
-  settled_goes paths summary middle (Err _) same ends = absurd ends
-
 fmd_goes : (before after : Outside) (ran : Result (Unit {0}) Stop) → FmdRan before after ran
     → Goes (world_of before after) (looks Fmd) ran
 fmd_goes before after ran (inl stopped) =
@@ -149,8 +123,8 @@ fmd_goes before after ran (inr (inl s)) =
     subst (Goes (world_of before after) (looks Fmd)) (sym s.told)
     (stops_goes before after s.got s.sources s.stop after.out s.store.went)
 fmd_goes before after ran (inr (inr s)) =
-    settled_goes before after s.got s.sources s.conclusion.wanted s.conclusion.summary.items
-    s.middle ran s.store.went.same s.settled
+    settled_goes before after (looks Fmd) s.conclusion.wanted s.conclusion.summary.items s.middle
+    ran (same_passes before after s.got s.sources s.store.went.same) s.settled
 
 -- ---- the causes
 
@@ -175,26 +149,6 @@ store_caused before after got Disk store = store.counts_disks
 store_caused before after got (Act index) store = absurd (no_act before after got index store.went)
 store_caused before after got _ store = tt
 
--- the first that failed is the one whose count rose
-act_rose : (paths : List (List ℕ)) (at : ℕ) (olds news : List ActuatorState)
-    → FirstFailed paths at olds news → RoseAt (act_counts olds) (act_counts news) at
-act_rose paths zero (old ∷ olds) (new ∷ news) (rose, tried) = (_, _, refl, refl, rose)
-act_rose paths (suc at) (old ∷ olds) (new ∷ news) (held, more) = act_rose paths at olds news more
-act_rose _ _ _ _ failed = absurd failed
-
-pub settled_caused : (before after : Outside) (paths : List (List ℕ)) (summary : List ℕ)
-    (middle : SinkAt) (ran : Result (Unit {0}) Stop)
-    → middle.failures ≡ before.out.failures
-    → SettlingEnds paths summary before.acts after.acts middle after.out ran
-    → IfErr ran (IsCaused before after)
-settled_caused before after paths summary middle (Ok done) quiet ends = tt
-settled_caused before after paths summary middle (Err (Act index)) quiet ends =
-    act_rose paths index before.acts after.acts ends.0
-settled_caused before after paths summary middle (Err Write) quiet ends =
-    subst (λ n. Rose n after.out.failures) quiet ends.1.0
-settled_caused before after paths summary middle (Err Memory) quiet ends = tt
-settled_caused before after paths summary middle (Err _) quiet ends = absurd ends
-
 fmd_caused : (before after : Outside) (ran : Result (Unit {0}) Stop) → FmdRan before after ran
     → IfErr ran (IsCaused before after)
 fmd_caused before after ran (inl stopped) =
@@ -208,13 +162,6 @@ fmd_caused before after ran (inr (inr s)) =
     s.store.counts_out s.settled
 
 -- ---- the counts of a command that is done
-
-pub acts_quiet : (paths : List (List ℕ)) (olds news : List ActuatorState)
-    → AllZip (Settled paths) olds news → act_counts news ≡ act_counts olds
-acts_quiet paths [] [] all = refl
-acts_quiet paths (old ∷ olds) (new ∷ news) (one, more) =
-    λ i. one.quiet i ∷ acts_quiet paths olds news more i
-acts_quiet paths _ _ all = absurd all
 
 fmd_quiet : (before after : Outside) (ran : Result (Unit {0}) Stop) → FmdRan before after ran
     → OnOk ran (counts_of after ≡ counts_of before)
@@ -243,17 +190,6 @@ unfolding ended
 ended_none = refl
 
 module _ (before after : Outside) where
-  -- nothing was called that is of the store, but for reads
-  unopened : (ran : Result (Unit {0}) Stop) (stop : Stop) → ran ≡ Err stop
-      → after.input ≡ before.input → after.out ≡ before.out
-      → AreUnwritten before.disks after.disks → Unopened before after ran
-  unopened ran stop told unread unsaid untouched = record {
-    refused = subst (λ r. OnOk r ⊥) (sym told) tt;
-    unread = unread;
-    unsaid = unsaid;
-    left = λ image leaves name. (untouched name).images _ (leaves name);
-  }
-
   -- where all lines were answered, each image has the entries of all
   has_each : (told : Contents) → Tells before.disks told → (middle : SinkAt)
       → AcceptedAll before.input after.input before.out middle before.disks after.disks
@@ -325,7 +261,7 @@ module _ (before after : Outside) where
       → StoreStops before.input after.input before.out after.out before.disks after.disks got stop
       → Headline Fmd before after (Err stop)
   stops_headline got stop (inl refused) =
-      inl (unopened (Err stop) stop refl refused.consumed refused.put refused.untouched)
+      inl (unopened before after (Err stop) stop refl refused.consumed refused.put refused.untouched)
   stops_headline got stop (inr (inl other)) = inr (λ told tells.
       held_after_each before after told (Err stop)
       (held_after told stop (no_act_of got stop (inr (inl other)))
@@ -373,19 +309,12 @@ stopped_ran g olds news old new input out disks acts fault cause = inl (record {
 
 -- ---- the whole
 
-pub does_fmd : (before after : Outside) (middle : SinkAt) (ran : Result (Unit {0}) Stop)
-    (result : ToolStatus) → FmdRan before (record after { out = middle }) ran
-    → EndsAs middle after.out ran result → Does (Some Fmd) before after result
-does_fmd before after middle ran result did ends =
-    let mid : Outside = record after { out = middle } in (
-      ran,
-      middle,
-      record {
-        order = fmd_goes before mid ran did;
-        cause = fmd_caused before mid ran did;
-        quiet = fmd_quiet before mid ran did;
-        did = did;
-        headline = fmd_headline before mid ran did;
-      },
-      ends,
-    )
+pub ran_fmd : (before after : Outside) (ran : Result (Unit {0}) Stop) → FmdRan before after ran
+    → Ran Fmd before after ran
+ran_fmd before after ran did = record {
+  order = fmd_goes before after ran did;
+  cause = fmd_caused before after ran did;
+  quiet = fmd_quiet before after ran did;
+  did = did;
+  headline = fmd_headline before after ran did;
+}

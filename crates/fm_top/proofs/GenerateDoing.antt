@@ -1,29 +1,26 @@
 -- What a command did that generates entries, in the words of the whole call.
-use Rattle.std.proofs.Common.{◌≡◌, ◌∙◌, ◌⊎◌, inl, inr, ℕ, ◌+◌, List, [], ◌∷◌, ◌++◌, length, map}
-use Rattle.std.proofs.Common.{append-nil, take, refl, sym, ap, subst, Some, OnOk, IfErr, Result, Ok, Err}
+use Rattle.std.proofs.Common.{◌≡◌, ◌∙◌, ◌⊎◌, inl, inr, ℕ, ◌+◌, List, [], ◌∷◌, ◌++◌, length}
+use Rattle.std.proofs.Common.{append-nil, take, refl, sym, ap, subst, OnOk, IfErr, Result, Ok, Err}
 use Rattle.std.proofs.Math.Seq.{take-append-add, take-append_seam, take-length}
 use Rattle.fm_act.specs.Reconciled.{ActuatorState}
-use Rattle.fm_answers.specs.Ending.{EndsAs}
 use Rattle.fm_answers.specs.StreamsAt.{SinkAt}
-use Rattle.fm_answers.specs.declared.status.ToolStatus.{ToolStatus}
 use Rattle.fm_answers.specs.declared.stops.Stop.{Stop}
-use Rattle.fm_answers.specs.declared.stops.Stop.TheVariants.{Read, Write, Disk, Damaged, Memory}
+use Rattle.fm_answers.specs.declared.stops.Stop.TheVariants.{Read, Write, Disk, Memory}
 use Rattle.fm_answers.specs.declared.stops.Stop.TheVariants.{Full, Act}
 use Rattle.fm_answers.specs.Recording.{store_with}
 use Rattle.fm_command.specs.declared.words.Command.TheVariants.{Generate, GeneratedLines}
+use Rattle.fm_conclude.specs.declared.concluding.Conclusion.{Conclusion}
 use Rattle.fm_core.specs.Book.{ModuleState}
 use Rattle.fm_entry.specs.declared.entry.Entry.{Entry}
 use Rattle.fm_journal.specs.declared.fault.FullKind.TheVariants.{Numbers}
 use Rattle.fm_logs.specs.Contents.{Contents}
 use Rattle.fm_logs.specs.StoreBook.{StoreBook}
 use Rattle.fm_store.specs.StoreLeft.{ReadsLike, ReadsLikeEither}
-use Rattle.fm_top.specs.Accepting.{OpeningStops}
 use Rattle.fm_top.specs.Admin.{StoreUnopened}
-use Rattle.fm_top.specs.Calls.{IsCaused, Does}
-use Rattle.fm_top.specs.Esc.{TextEnds}
-use Rattle.fm_top.specs.Fmd.{ConcludingStops, ReadsBased, SettlingEnds}
-use Rattle.fm_top.specs.Generate.{GenerateConcluded, GenerateRan, GenerateStops, GenerateTried}
-use Rattle.fm_top.specs.Generate.{GenerateUnconcluded, GenerateUntil, Generates, LinesRan}
+use Rattle.fm_top.specs.Calls.{IsCaused, Ran}
+use Rattle.fm_top.specs.Fmd.{ReadsBased, SettlingEnds}
+use Rattle.fm_top.specs.Generate.{GenerateConcluded, GenerateRan, GenerateStops}
+use Rattle.fm_top.specs.Generate.{GenerateUntil, Generates, LinesRan}
 use Rattle.fm_top.specs.Generate.{LinesTried, StoreUnbegun, UnbegunStops}
 use Rattle.fm_top.specs.Headline.{HasFirst, HasGenerated, HeldGenerated, HoldsOfBook, Headline}
 use Rattle.fm_top.specs.Headline.{LikeBook}
@@ -32,9 +29,11 @@ use Rattle.fm_top.specs.Limits.{concluding_limit}
 use Rattle.fm_top.specs.Order.{AllPass, Goes, at_early, at_store, world_of}
 use Rattle.fm_top.specs.Outside.{Outside, DisksAt, Tells, Leaves, counts_of}
 use Rattle.fm_top.proofs.BookHeld.{same_book}
-use Rattle.fm_top.proofs.Doing.{Rests, quiet_counts}
-use Rattle.fm_top.proofs.Escs.{ok_no_err}
-use Rattle.fm_top.proofs.FmdDoing.{acts_quiet, settled_caused}
+use Rattle.fm_top.proofs.Shared.{IsOfStore, Rests, acted_counts, acts_quiet}
+use Rattle.fm_top.proofs.Shared.{concluding_of_store, no_act_of_store, ok_no_err}
+use Rattle.fm_top.proofs.Shared.{opening_of_store, put_goes, quiet_counts, settled_caused}
+use Rattle.fm_top.proofs.Shared.{settled_goes, stopped_goes, text_caused, unopened}
+use Rattle.fm_top.proofs.Shared.{unopened_goes, work_caused}
 
 -- ---- the order of refusals
 
@@ -44,12 +43,6 @@ module _ (before after : Outside) where
 
   abbrev PassSo : Type 0
   PassSo = AllPass (world_of before after) (at_store ∷ at_early ∷ [])
-
-  unopened_goes : (stop : Stop) → OpeningStops before.disks stop → GoesSo (Err stop)
-  unopened_goes Disk why = inl tt
-  unopened_goes Memory why = inl tt
-  unopened_goes (Damaged disk place) why = inr (inl (inl (disk, place, refl, why)))
-  unopened_goes _ why = absurd why
 
   unbegun_goes : (stop : Stop) → StoreUnbegun before.disks after.disks stop → GoesSo (Err stop)
   unbegun_goes stop unbegun = by_stop stop unbegun.why
@@ -78,33 +71,20 @@ module _ (before after : Outside) where
   until_goes number (Full kind) until = inr (inr (all_pass number until.entries until.are, tt))
   until_goes number _ until = absurd until.ran.stops
 
-  behind_goes : (number : ℕ) (stop : Stop)
-      → GenerateUnconcluded number before.disks after.disks stop → GoesSo (Err stop)
-  behind_goes number stop behind = by_stop stop behind.why
-    where
-      by_stop : (stop : Stop) → ConcludingStops (concluding_limit behind.entries) before.disks stop
-          → GoesSo (Err stop)
-      by_stop Disk why = inl tt
-      by_stop Memory why = inl tt
-      by_stop (Full kind) why = inr (inr (all_pass number behind.entries behind.are, tt))
-      by_stop (Damaged disk place) why =
-          inr (inl (inl (disk, place, refl, λ told tells. absurd (why told tells))))
-      by_stop _ why = absurd why
+-- ---- which stops are of the store
 
-  settled_goes : (paths : List (List ℕ)) (text : List ℕ) (ran : Result (Unit {0}) Stop) → PassSo
-      → SettlingEnds paths text before.acts after.acts before.out after.out ran → GoesSo ran
-  settled_goes paths text (Ok done) pass ends = pass
-  settled_goes paths text (Err (Act index)) pass ends = inl tt
-  settled_goes paths text (Err Write) pass ends = inl tt
-  settled_goes paths text (Err Memory) pass ends = inl tt
-  settled_goes paths text (Err _) pass ends = absurd ends
+unbegun_of_store : (disks : DisksAt) (stop : Stop) → UnbegunStops disks stop → IsOfStore stop
+unbegun_of_store disks Read why = absurd why
+unbegun_of_store disks Write why = absurd why
+unbegun_of_store disks (Act index) why = absurd why
+unbegun_of_store disks _ why = tt
 
-  put_goes : (text : List ℕ) (ran : Result (Unit {0}) Stop) → PassSo
-      → TextEnds before.out after.out text ran → GoesSo ran
-  put_goes text (Ok done) pass ends = pass
-  put_goes text (Err Write) pass ends = inl tt
-  put_goes text (Err Memory) pass ends = inl tt
-  put_goes text (Err _) pass ends = absurd ends
+until_of_store : (number : ℕ) (disks disks_now : DisksAt) (stop : Stop)
+    → GenerateUntil number disks disks_now stop → IsOfStore stop
+until_of_store number disks disks_now Read until = absurd until.ran.stops
+until_of_store number disks disks_now Write until = absurd until.ran.stops
+until_of_store number disks disks_now (Act index) until = absurd until.ran.stops
+until_of_store number disks disks_now _ until = tt
 
 -- ---- what a crash leaves of a book
 
@@ -277,50 +257,35 @@ module _ (number : ℕ) (before after : Outside) where
 
   stops_goes : (stop : Stop) → GenerateStops number before.disks after.disks stop
       → GoesSo before after (Err stop)
-  stops_goes stop (inl unopened) = unopened_goes before after stop unopened.why
+  stops_goes stop (inl refused) = unopened_goes before after (at_early ∷ []) stop refused.why
   stops_goes stop (inr (inl unbegun)) = unbegun_goes before after stop unbegun
   stops_goes stop (inr (inr (inl until))) = until_goes before after number stop until
-  stops_goes stop (inr (inr (inr behind))) = behind_goes before after number stop behind
+  stops_goes stop (inr (inr (inr behind))) =
+      stopped_goes before after (at_early ∷ []) (concluding_limit behind.entries) stop
+      (all_pass before after number behind.entries behind.are) behind.why
 
   generate_goes : (ran : Result (Unit {0}) Stop) → RanSo ran → GoesSo before after ran
   generate_goes ran (inl stopped) =
       subst (GoesSo before after) (sym stopped.told) (stops_goes stopped.stop stopped.store.went)
   generate_goes ran (inr settled) =
-      settled_goes before after settled.conclusion.wanted settled.conclusion.summary.items ran
+      settled_goes before after (at_store ∷ at_early ∷ []) settled.conclusion.wanted
+      settled.conclusion.summary.items before.out ran
       (all_pass before after number settled.store.went.entries settled.store.went.are)
       settled.settled
 
-  -- no work on the store is stopped by the input, the sink or an actuator
-  no_read : GenerateStops number before.disks after.disks Read → ⊥
-  no_read (inl unopened) = unopened.why
-  no_read (inr (inl unbegun)) = unbegun.why
-  no_read (inr (inr (inl until))) = until.ran.stops
-  no_read (inr (inr (inr behind))) = behind.why
-
-  no_write : GenerateStops number before.disks after.disks Write → ⊥
-  no_write (inl unopened) = unopened.why
-  no_write (inr (inl unbegun)) = unbegun.why
-  no_write (inr (inr (inl until))) = until.ran.stops
-  no_write (inr (inr (inr behind))) = behind.why
-
-  no_act : (index : ℕ) → GenerateStops number before.disks after.disks (Act index) → ⊥
-  no_act index (inl unopened) = unopened.why
-  no_act index (inr (inl unbegun)) = unbegun.why
-  no_act index (inr (inr (inl until))) = until.ran.stops
-  no_act index (inr (inr (inr behind))) = behind.why
-
-  stopped_caused : (stop : Stop) → GenerateTried number before.disks after.disks (Err stop)
-      → IsCaused before after stop
-  stopped_caused Disk tried = tried.counts
-  stopped_caused Read tried = absurd (no_read tried.went)
-  stopped_caused Write tried = absurd (no_write tried.went)
-  stopped_caused (Act index) tried = absurd (no_act index tried.went)
-  stopped_caused _ tried = tt
+  of_store : (stop : Stop) → GenerateStops number before.disks after.disks stop → IsOfStore stop
+  of_store stop (inl refused) = opening_of_store before.disks stop refused.why
+  of_store stop (inr (inl unbegun)) = unbegun_of_store before.disks stop unbegun.why
+  of_store stop (inr (inr (inl until))) =
+      until_of_store number before.disks after.disks stop until
+  of_store stop (inr (inr (inr behind))) =
+      concluding_of_store (concluding_limit behind.entries) before.disks stop behind.why
 
   generate_caused : (ran : Result (Unit {0}) Stop) → RanSo ran → IfErr ran (IsCaused before after)
   generate_caused ran (inl stopped) =
       subst (λ r. IfErr r (IsCaused before after)) (sym stopped.told)
-      (stopped_caused stopped.stop stopped.store)
+      (work_caused before after Conclusion stopped.stop
+      (of_store stopped.stop stopped.store.went) stopped.store.counts)
   generate_caused ran (inr settled) =
       settled_caused before after settled.conclusion.wanted settled.conclusion.summary.items
       before.out ran refl settled.settled
@@ -332,36 +297,22 @@ module _ (number : ℕ) (before after : Outside) where
   generate_quiet (Ok done) input rules topo (inl stopped) =
       absurd (ok_no_err done stopped.stop stopped.told)
   generate_quiet (Ok done) input rules topo (inr settled) =
-      let out = settled.settled.1.quiet in
-      let disks = settled.store.counts in
-      let acts = acts_quiet settled.conclusion.wanted before.acts after.acts settled.settled.0 in
-      λ i. record {
-        sources = (input i).failures ∷ (topo i).failures ∷ map (λ s. s.failures) (rules i);
-        out = out i;
-        disks = disks i;
-        acts = acts i;
-      }
-
-  not_act : (stop : Stop) → GenerateStops number before.disks after.disks stop → (index : ℕ)
-      → stop ≡ Act index → ⊥
-  not_act stop stops index is =
-      no_act index (subst (GenerateStops number before.disks after.disks) is stops)
+      acted_counts before after rules topo (λ i. (input i).failures) settled.settled.1.quiet
+      settled.store.counts
+      (acts_quiet settled.conclusion.wanted before.acts after.acts settled.settled.0)
 
   generate_headline : (ran : Result (Unit {0}) Stop) → after.input ≡ before.input → RanSo ran
       → Headline (Generate number) before after ran
   generate_headline ran unread (inl stopped) =
       elim (stops_held number before.disks after.disks stopped.stop stopped.store.went) [
-        | inl unopened ↦ inl (record {
-          refused = subst (λ r. OnOk r ⊥) (sym stopped.told) tt;
-          unread = unread;
-          unsaid = stopped.unsaid;
-          left = λ image leaves name. (unopened.untouched name).images _ (leaves name);
-        })
+        | inl refused ↦ inl (unopened before after ran stopped.stop stopped.told unread
+            stopped.unsaid refused.untouched)
         | inr held ↦ inr (λ told tells.
             subst (λ r. HoldsOfBook told (HeldGenerated number told after.disks r))
             (sym stopped.told)
             (stopped_held number before.disks after.disks stopped.stop told
-            (not_act stopped.stop stopped.store.went) (held told tells)))
+            (no_act_of_store stopped.stop (of_store stopped.stop stopped.store.went))
+            (held told tells)))
       ]
   generate_headline ran unread (inr settled) = inr (λ told tells.
       settled_held number before.disks after.disks settled.conclusion.wanted
@@ -370,25 +321,16 @@ module _ (number : ℕ) (before after : Outside) where
       (concluded_held number before.disks after.disks settled.conclusion.summary.items
       settled.conclusion.wanted settled.store.went told tells))
 
-pub does_generate : (number : ℕ) (before after : Outside) (middle : SinkAt)
-    (ran : Result (Unit {0}) Stop) (result : ToolStatus)
-    → GenerateRan number before.acts after.acts before.out middle before.disks after.disks ran
-    → EndsAs middle after.out ran result → after.rules ≡ before.rules
-    → after.topo ≡ before.topo → after.input ≡ before.input
-    → Does (Some (Generate number)) before after result
-does_generate number before after middle ran result did ends rules topo unread =
-    let mid : Outside = record after { out = middle } in (
-      ran,
-      middle,
-      record {
-        order = generate_goes number before mid ran did;
-        cause = generate_caused number before mid ran did;
-        quiet = generate_quiet number before mid ran unread rules topo did;
-        did = did;
-        headline = generate_headline number before mid ran unread did;
-      },
-      ends,
-    )
+  pub ran_generate : (ran : Result (Unit {0}) Stop) → RanSo ran → after.rules ≡ before.rules
+      → after.topo ≡ before.topo → after.input ≡ before.input
+      → Ran (Generate number) before after ran
+  ran_generate ran did rules topo unread = record {
+    order = generate_goes ran did;
+    cause = generate_caused ran did;
+    quiet = generate_quiet ran unread rules topo did;
+    did = did;
+    headline = generate_headline ran unread did;
+  }
 
 -- ---- `gen -l N`
 
@@ -398,38 +340,28 @@ module _ (number : ℕ) (before after : Outside) where
 
   lines_goes : (ran : Result (Unit {0}) Stop) → ListedSo ran → GoesSo before after ran
   lines_goes ran (inl put) =
-      put_goes before after put.text ran
+      put_goes before after (at_store ∷ at_early ∷ []) put.text ran
       (all_pass before after number put.store.went.entries put.store.went.are) put.put
   lines_goes ran (inr untold) =
       subst (GoesSo before after) (sym untold.told)
       (elim untold.store.went [
-        | inl unopened ↦ unopened_goes before after untold.stop unopened.why
+        | inl refused ↦ unopened_goes before after (at_early ∷ []) untold.stop refused.why
         | inr unbegun ↦ unbegun_goes before after untold.stop unbegun
       ])
 
-  untold_caused : (stop : Stop) → LinesTried number before.disks after.disks (Err stop)
-      → IsCaused before after stop
-  untold_caused Disk tried = tried.counts
-  untold_caused Read tried =
-      absurd (elim tried.went [ inl unopened ↦ unopened.why | inr unbegun ↦ unbegun.why ])
-  untold_caused Write tried =
-      absurd (elim tried.went [ inl unopened ↦ unopened.why | inr unbegun ↦ unbegun.why ])
-  untold_caused (Act index) tried =
-      absurd (elim tried.went [ inl unopened ↦ unopened.why | inr unbegun ↦ unbegun.why ])
-  untold_caused _ tried = tt
-
-  put_caused : (text : List ℕ) (ran : Result (Unit {0}) Stop)
-      → TextEnds before.out after.out text ran → IfErr ran (IsCaused before after)
-  put_caused text (Ok done) ends = tt
-  put_caused text (Err Write) ends = ends.0
-  put_caused text (Err Memory) ends = tt
-  put_caused text (Err _) ends = absurd ends
+  unlisted_of_store : (stop : Stop) → LinesTried number before.disks after.disks (Err stop)
+      → IsOfStore stop
+  unlisted_of_store stop tried = elim tried.went [
+    | inl refused ↦ opening_of_store before.disks stop refused.why
+    | inr unbegun ↦ unbegun_of_store before.disks stop unbegun.why
+  ]
 
   lines_caused : (ran : Result (Unit {0}) Stop) → ListedSo ran → IfErr ran (IsCaused before after)
-  lines_caused ran (inl put) = put_caused put.text ran put.put
+  lines_caused ran (inl put) = text_caused before after put.text ran put.put
   lines_caused ran (inr untold) =
       subst (λ r. IfErr r (IsCaused before after)) (sym untold.told)
-      (untold_caused untold.stop untold.store)
+      (work_caused before after (List ℕ) untold.stop
+      (unlisted_of_store untold.stop untold.store) untold.store.counts)
 
   lines_quiet : (ran : Result (Unit {0}) Stop) → Rests before after
       → after.input ≡ before.input → ListedSo ran → OnOk ran (counts_of after ≡ counts_of before)
@@ -444,32 +376,17 @@ module _ (number : ℕ) (before after : Outside) where
   lines_headline ran unread (inl put) = inr put.store.went.holds
   lines_headline ran unread (inr untold) =
       elim untold.store.went [
-        | inl unopened ↦ inl (record {
-          refused = subst (λ r. OnOk r ⊥) (sym untold.told) tt;
-          unread = unread;
-          unsaid = untold.unsaid;
-          left = λ image leaves name. (unopened.untouched name).images _ (leaves name);
-        })
+        | inl refused ↦ inl (unopened before after ran untold.stop untold.told unread
+            untold.unsaid refused.untouched)
         | inr unbegun ↦ inr unbegun.holds
       ]
 
-pub does_lines : (number : ℕ) (before after : Outside) (middle : SinkAt)
-    (ran : Result (Unit {0}) Stop) (result : ToolStatus)
-    → LinesRan number before.out middle before.disks after.disks ran
-    → EndsAs middle after.out ran result → Rests before after → after.input ≡ before.input
-    → Does (Some (GeneratedLines number)) before after result
-does_lines number before after middle ran result did ends rests unread =
-    let mid : Outside = record after { out = middle } in
-    let still : Rests before mid =
-    record { rules = rests.rules; topo = rests.topo; acts = rests.acts } in (
-      ran,
-      middle,
-      record {
-        order = lines_goes number before mid ran did;
-        cause = lines_caused number before mid ran did;
-        quiet = lines_quiet number before mid ran still unread did;
-        did = did;
-        headline = lines_headline number before mid ran unread did;
-      },
-      ends,
-    )
+  pub ran_lines : (ran : Result (Unit {0}) Stop) → ListedSo ran → Rests before after
+      → after.input ≡ before.input → Ran (GeneratedLines number) before after ran
+  ran_lines ran did rests unread = record {
+    order = lines_goes ran did;
+    cause = lines_caused ran did;
+    quiet = lines_quiet ran rests unread did;
+    did = did;
+    headline = lines_headline ran unread did;
+  }

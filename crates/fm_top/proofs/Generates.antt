@@ -29,7 +29,6 @@ use Rattle.fm_store.specs.StoreOf.{StoreOf, StoreStandsFor, greatest_at}
 use Rattle.fm_store.proofs.StoreBases.{moment_at_end}
 use Rattle.fm_store.proofs.StoreReads.{store_reads}
 use Rattle.fm_top.specs.Accepting.{DisksAccount, Grew}
-use Rattle.fm_top.specs.Admin.{StoreUnopened}
 use Rattle.fm_top.specs.Fmd.{ConcludingStops}
 use Rattle.fm_top.specs.Generate.{GenerateConcluded, GenerateFinished, GenerateHalts, GenerateStops}
 use Rattle.fm_top.specs.Generate.{GenerateTried, Generates, LinesTried, ListsGenerated, StartStops}
@@ -39,23 +38,15 @@ use Rattle.fm_top.specs.Headline.{HoldsOfBook, LikeBook}
 use Rattle.fm_top.specs.Kept.{BookAt}
 use Rattle.fm_top.specs.Limits.{concluding_limit}
 use Rattle.fm_top.specs.Outside.{Tells, disks_at}
-use Rattle.fm_top.proofs.Accepts.{grew_of, opening_account, opening_stops}
+use Rattle.fm_top.proofs.Accepts.{grew_of, opening_account}
 use Rattle.fm_top.proofs.Fmds.{OpenAt, drained_from, stands_each, took_concludes, took_limit}
 use Rattle.fm_top.proofs.OpenedDisks.{none_rose, opened_at, some_rose, store_left}
-use Rattle.fm_top.proofs.SixDisks.{all_only_read, rose_any, none_counts}
+use Rattle.fm_top.proofs.SixDisks.{rose_any, none_counts}
 use Rattle.fm_top.proofs.Taking.{until_other}
-use Rattle.fm_top.proofs.Texts.{OpenFor, open_for}
+use Rattle.fm_top.proofs.Texts.{OpenFor, open_for, store_unopened}
 use Rattle.fm_top.proofs.WorkLimits.{work_limit}
 
 -- ---- a store that was not opened
-
-store_unopened : {D : Type 0} (g : Ghosts D) (disks disks_now : Disks D) (fault : StoreFault)
-    → OpenStoreRefused g disks disks_now fault → WereOnlyRead g disks disks_now
-    → StoreUnopened (disks_at g disks) (disks_at g disks_now) (of_store fault)
-store_unopened g disks disks_now fault refused read = record {
-  untouched = all_only_read g disks disks_now read;
-  why = opening_stops g disks disks_now fault refused;
-}
 
 pub generate_unopened : {D : Type 0} (g : Ghosts D) (disks disks_now : Disks D) (number : ℕ)
     (fault : StoreFault) → OpenStoreRefused g disks disks_now fault

@@ -1,12 +1,10 @@
 -- What `init` did, in the words of the whole call.
 use Rattle.std.proofs.Common.{◌≡◌, inl, inr, ℕ, zero, suc, List, [], ◌∷◌, map, refl, sym}
-use Rattle.std.proofs.Common.{subst, OnOk, IfErr, IfSome, Result, Ok, Err, Some}
+use Rattle.std.proofs.Common.{subst, OnOk, IfErr, IfSome, Result, Ok, Err}
 use Rattle.std.specs.Prelude.{MatchResult}
-use Rattle.fm_answers.specs.Ending.{EndsAs}
 use Rattle.fm_answers.specs.StreamsAt.{SourceAt}
 use Rattle.fm_answers.specs.StreamsAt.{source_at}
 use Rattle.fm_answers.specs.Stops.{of_sources}
-use Rattle.fm_answers.specs.declared.status.ToolStatus.{ToolStatus}
 use Rattle.fm_answers.specs.declared.stops.Stop.{Stop}
 use Rattle.fm_answers.specs.declared.stops.Stop.TheVariants.{Disk, Memory, Full, Exists}
 use Rattle.fm_command.specs.declared.words.Command.TheVariants.{Init}
@@ -23,10 +21,9 @@ use Rattle.fm_sources.specs.declared.faults.SourceFault.TheVariants as faults
 use Rattle.fm_sources.specs.declared.files.RuleFile.{RuleFile}
 use Rattle.fm_sources.specs.declared.sources.Sources.{Sources}
 use Rattle.fm_init.specs.Making.{HasStore}
-use Rattle.fm_logs.specs.declared.disks.Disks.{Disks}
 use Rattle.fm_topo.specs.Topology.{Topology}
 use Rattle.fm_topo.specs.declared.faults.TopoKind.{TopoKind}
-use Rattle.fm_top.specs.Calls.{IsCaused, Does, WorksOn, handed}
+use Rattle.fm_top.specs.Calls.{IsCaused, Ran}
 use Rattle.fm_top.specs.Init.{InitEnds, MakingEnds, SourcesRefused, AreUnwritten}
 use Rattle.fm_top.specs.Init.{HasNoStore, conf_with}
 use Rattle.fm_top.specs.Order.{Goes, World, Look, Passes, at_rules, at_topology, at_no_store}
@@ -34,6 +31,7 @@ use Rattle.fm_top.specs.Order.{looks, world_of}
 use Rattle.fm_top.specs.Outside.{Outside, DisksAt, Tells, Leaves, RoseAt, standing}
 use Rattle.fm_top.specs.Outside.{given_of, source_counts, disk_counts, counts_of}
 use Rattle.fm_top.proofs.Headlines.{has_store}
+use Rattle.fm_top.proofs.Shared.{ok_no_err}
 use Rattle.fm_top.proofs.Standing.{reads_standing}
 
 -- ---- the order of refusals
@@ -180,9 +178,6 @@ init_quiet before after namespace (Ok done) (Ok got) (files, topology) made inpu
     (λ i. (out i).failures) acts made.quiet
 init_quiet before after namespace (Ok done) (Err fault) read went input out acts =
     absurd (ok_no_err done (of_sources fault) went.told)
-  where
-    ok_no_err : (done : Unit {0}) (stop : Stop) → Ok done ≡ Err stop → ⊥
-    ok_no_err done stop e = cc
 
 -- ---- where there was a store
 
@@ -231,30 +226,23 @@ init_kept before after namespace ran (Err fault) went told image tells there lea
 
 -- ---- the whole
 
-pub does_init : (before after : Outside) (namespace : List ℕ) (ran : Result (Unit {0}) Stop)
-    (result : ToolStatus)
+pub ran_init : (before after : Outside) (namespace : List ℕ) (ran : Result (Unit {0}) Stop)
     → InitEnds standing (given_of before) (given_of after) before.disks after.disks namespace ran
-    → EndsAs before.out after.out ran result → after.input ≡ before.input
-    → after.acts ≡ before.acts → Does (Some (Init namespace)) before after result
-does_init before after namespace ran result ends last input acts =
-    let mid : Outside = record after { out = before.out } in (
-      ran,
-      before.out,
-      record {
-        order = init_goes before mid namespace ran ends.got ends.read ends.went;
-        cause = init_caused before mid namespace ran ends.got ends.read ends.went;
-        quiet = init_quiet before mid namespace ran ends.got ends.read ends.went input refl acts;
-        did = record {
-          ends = record { got = ends.got; read = ends.read; went = ends.went };
-          put = refl;
-          kept = init_kept before.disks after.disks namespace ran ends.got ends.went;
-        };
-        headline = λ told tells stood image leaves.
-            init_kept before.disks after.disks namespace ran ends.got ends.went told image tells
-            (has_store told stood) leaves;
-      },
-      last,
-    )
+    → after.input ≡ before.input → after.out ≡ before.out → after.acts ≡ before.acts
+    → Ran (Init namespace) before after ran
+ran_init before after namespace ran ends input out acts = record {
+  order = init_goes before after namespace ran ends.got ends.read ends.went;
+  cause = init_caused before after namespace ran ends.got ends.read ends.went;
+  quiet = init_quiet before after namespace ran ends.got ends.read ends.went input out acts;
+  did = record {
+    ends = record { got = ends.got; read = ends.read; went = ends.went };
+    put = out;
+    kept = init_kept before.disks after.disks namespace ran ends.got ends.went;
+  };
+  headline = λ told tells stood image leaves.
+      init_kept before.disks after.disks namespace ran ends.got ends.went told image tells
+      (has_store told stood) leaves;
+}
 
 -- ---- the command below the call
 
@@ -269,12 +257,3 @@ ends_standing g olds news old new before after namespace ran ends = record {
   read = reads_standing g olds news old new ends.got ends.read;
   went = ends.went;
 }
-
--- what the command leaves alone
-pub works_init : {S D A : Type 0} (namespace : List ℕ) (input : S) (rules rules_now : List S)
-    (topo topo_now : S) (disks disks_now : Disks D) (acts : List A)
-    → disks_now.err_b ≡ disks.err_b
-    → WorksOn (Some (Init namespace)) (handed input rules topo disks acts)
-    (handed input rules_now topo_now disks_now acts)
-works_init namespace input rules rules_now topo topo_now disks disks_now acts same =
-    λ i. handed input rules_now topo_now (record disks_now { err_b = same i }) acts

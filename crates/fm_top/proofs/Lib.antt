@@ -21,6 +21,7 @@ pub mod RepairDoing
 pub mod Repairs
 pub mod Rotatings
 pub mod RowGraphs
+pub mod Shared
 pub mod SixDisks
 pub mod WorkLimits
 pub mod Standing

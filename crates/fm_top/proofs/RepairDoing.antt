@@ -1,32 +1,28 @@
 -- What a command did that accepts what is said of repairs, in the words of the whole call.
-use Rattle.std.proofs.Common.{◌≡◌, ◌⊎◌, inl, inr, ℕ, List, ◌∷◌, map, refl}
-use Rattle.std.proofs.Common.{sym, subst, Some, OnOk, IfErr, Result, Ok, Err}
-use Rattle.fm_act.specs.Reconciled.{ActuatorState}
+use Rattle.std.proofs.Common.{◌≡◌, ◌⊎◌, inl, inr, ℕ, List, [], ◌∷◌, refl, sym, subst}
+use Rattle.std.proofs.Common.{OnOk, IfErr, Result, Ok, Err}
 use Rattle.fm_admin.specs.declared.repairing.Repaired.{Repaired}
 use Rattle.fm_answers.specs.Answers.{ok_text}
-use Rattle.fm_answers.specs.Ending.{EndsAs}
-use Rattle.fm_answers.specs.StreamsAt.{SinkAt}
-use Rattle.fm_answers.specs.declared.status.ToolStatus.{ToolStatus}
 use Rattle.fm_answers.specs.declared.stops.Stop.{Stop}
-use Rattle.fm_answers.specs.declared.stops.Stop.TheVariants.{Read, Write, Disk, Damaged, Memory}
-use Rattle.fm_answers.specs.declared.stops.Stop.TheVariants.{Full, NotFaulty, Act}
+use Rattle.fm_answers.specs.declared.stops.Stop.TheVariants.{Write, Disk, Damaged, Memory}
+use Rattle.fm_answers.specs.declared.stops.Stop.TheVariants.{Full, Act}
 use Rattle.fm_command.specs.RepairAsked.{RepairAsked}
 use Rattle.fm_command.specs.declared.words.Command.TheVariants.{Repair}
 use Rattle.fm_logs.specs.Contents.{Contents}
 use Rattle.fm_logs.specs.StoreBook.{store_accepted}
 use Rattle.fm_store.specs.StoreLeft.{ReadsLike}
-use Rattle.fm_top.specs.Accepting.{OpeningStops}
-use Rattle.fm_top.specs.Calls.{IsCaused, Does}
+use Rattle.fm_top.specs.Calls.{IsCaused, Ran}
 use Rattle.fm_top.specs.Fmd.{ConcludingStops, SettlingEnds}
 use Rattle.fm_top.specs.Headline.{HasRepaired, HeldRepair, HoldsOfBook, Headline}
 use Rattle.fm_top.specs.Kept.{BookAt}
-use Rattle.fm_top.specs.Order.{Goes, looks, world_of}
+use Rattle.fm_top.specs.Order.{AllPass, Goes, at_marked, looks, world_of}
 use Rattle.fm_top.specs.Outside.{Outside, Tells, counts_of}
 use Rattle.fm_top.specs.Repair.{MayHaveRepair, RepairRan, RepairTried, RepairedOf, StoreUnmarked}
-use Rattle.fm_top.specs.Repair.{StoreUnrepaired, repair_limit}
+use Rattle.fm_top.specs.Repair.{repair_limit}
 use Rattle.fm_top.specs.RepairEntry.{HasRepair}
-use Rattle.fm_top.proofs.Escs.{ok_no_err}
-use Rattle.fm_top.proofs.FmdDoing.{acts_quiet, settled_caused}
+use Rattle.fm_top.proofs.Shared.{IsOfStore, acted_counts, acts_quiet, concluding_of_store}
+use Rattle.fm_top.proofs.Shared.{ok_no_err, opening_of_store, settled_caused, settled_goes}
+use Rattle.fm_top.proofs.Shared.{stopped_goes, unopened, unopened_goes, work_caused}
 use Rattle.fm_top.proofs.Texts.{like_drained}
 
 module _ (asked : RepairAsked) (before after : Outside) where
@@ -39,11 +35,9 @@ module _ (asked : RepairAsked) (before after : Outside) where
 
   -- ---- the order of refusals
 
-  unopened_goes : (stop : Stop) → OpeningStops before.disks stop → GoesSo (Err stop)
-  unopened_goes Disk why = inl tt
-  unopened_goes Memory why = inl tt
-  unopened_goes (Damaged disk place) why = inr (inl (inl (disk, place, refl, why)))
-  unopened_goes _ why = absurd why
+  stood_pass : ((told : Contents) → Tells before.disks told → BookAt told)
+      → AllPass (world_of before after) (looks (Repair asked))
+  stood_pass stood = (stood, (tt, tt))
 
   unmarked_goes : (stop : Stop) → StoreUnmarked asked before.disks after.disks stop
       → GoesSo (Err stop)
@@ -57,71 +51,41 @@ module _ (asked : RepairAsked) (before after : Outside) where
         ),
       )))
 
-  unrepaired_goes : (stop : Stop) → StoreUnrepaired asked before.disks after.disks stop
-      → GoesSo (Err stop)
-  unrepaired_goes stop unrepaired = by_stop stop unrepaired.why
-    where
-      by_stop : (stop : Stop) → ConcludingStops (repair_limit asked) before.disks stop
-          → GoesSo (Err stop)
-      by_stop Disk why = inl tt
-      by_stop Memory why = inl tt
-      by_stop (Full kind) why =
-          inr (inr (((λ told tells. (unrepaired.holds told tells).stood), (tt, tt)), tt))
-      by_stop (Damaged disk place) why =
-          inr (inl (inl (disk, place, refl, λ told tells. absurd (why told tells))))
-      by_stop _ why = absurd why
-
-  settled_goes : (paths : List (List ℕ)) (text : List ℕ) (ran : Result (Unit {0}) Stop)
-      → ((told : Contents) → Tells before.disks told → BookAt told)
-      → SettlingEnds paths text before.acts after.acts before.out after.out ran → GoesSo ran
-  settled_goes paths text (Ok done) stood ends = (stood, (tt, tt))
-  settled_goes paths text (Err (Act index)) stood ends = inl tt
-  settled_goes paths text (Err Write) stood ends = inl tt
-  settled_goes paths text (Err Memory) stood ends = inl tt
-  settled_goes paths text (Err _) stood ends = absurd ends
-
   repair_goes : (ran : Result (Unit {0}) Stop) → RanSo ran → GoesSo ran
   repair_goes ran (inl stopped) =
       subst GoesSo (sym stopped.told)
       (elim stopped.store.went [
-        | inl unopened ↦ unopened_goes stopped.stop unopened.why
+        | inl refused ↦ unopened_goes before after (at_marked asked ∷ []) stopped.stop refused.why
         | inr opened ↦ elim opened [
           | inl unmarked ↦ unmarked_goes stopped.stop unmarked
-          | inr unrepaired ↦ unrepaired_goes stopped.stop unrepaired
+          | inr unrepaired ↦
+              stopped_goes before after (at_marked asked ∷ []) (repair_limit asked) stopped.stop
+              (stood_pass (λ told tells. (unrepaired.holds told tells).stood)) unrepaired.why
         ]
       ])
   repair_goes ran (inr settled) =
-      settled_goes settled.one.wanted (ok_text settled.one.number) ran
-      (λ told tells. (settled.store.went told tells).stood) settled.settled
+      settled_goes before after (looks (Repair asked)) settled.one.wanted
+      (ok_text settled.one.number) before.out ran
+      (stood_pass (λ told tells. (settled.store.went told tells).stood)) settled.settled
 
   -- ---- the causes
 
-  -- no work on the store is stopped by the input, the sink or an actuator
-  only_store : (stop : Stop) (T : Type 0) → RepairTried asked before.disks after.disks (Err stop)
-      → (OpeningStops before.disks stop → ⊥) → (stop ≡ NotFaulty → ⊥)
-      → (ConcludingStops (repair_limit asked) before.disks stop → ⊥) → T
-  only_store stop T tried no_opening marked no_concluding =
-      absurd (elim tried.went [
-        | inl unopened ↦ no_opening unopened.why
-        | inr opened ↦ elim opened [
-          | inl unmarked ↦ marked unmarked.why
-          | inr unrepaired ↦ no_concluding unrepaired.why
-        ]
-      ])
-
-  stopped_caused : (stop : Stop) → RepairTried asked before.disks after.disks (Err stop)
-      → IsCaused before after stop
-  stopped_caused Disk tried = tried.counts
-  stopped_caused Read tried = only_store Read _ tried (λ why. why) (λ is. cc) (λ why. why)
-  stopped_caused Write tried = only_store Write _ tried (λ why. why) (λ is. cc) (λ why. why)
-  stopped_caused (Act index) tried =
-      only_store (Act index) _ tried (λ why. why) (λ is. cc) (λ why. why)
-  stopped_caused _ tried = tt
+  of_store : (stop : Stop) → RepairTried asked before.disks after.disks (Err stop)
+      → IsOfStore stop
+  of_store stop tried = elim tried.went [
+    | inl refused ↦ opening_of_store before.disks stop refused.why
+    | inr opened ↦ elim opened [
+      | inl unmarked ↦ subst IsOfStore (sym unmarked.why) tt
+      | inr unrepaired ↦
+          concluding_of_store (repair_limit asked) before.disks stop unrepaired.why
+    ]
+  ]
 
   repair_caused : (ran : Result (Unit {0}) Stop) → RanSo ran → IfErr ran (IsCaused before after)
   repair_caused ran (inl stopped) =
       subst (λ r. IfErr r (IsCaused before after)) (sym stopped.told)
-      (stopped_caused stopped.stop stopped.store)
+      (work_caused before after Repaired stopped.stop (of_store stopped.stop stopped.store)
+      stopped.store.counts)
   repair_caused ran (inr settled) =
       settled_caused before after settled.one.wanted (ok_text settled.one.number) before.out ran
       refl settled.settled
@@ -135,15 +99,9 @@ module _ (asked : RepairAsked) (before after : Outside) where
   repair_quiet (Ok done) input rules topo (inl stopped) =
       absurd (ok_no_err done stopped.stop stopped.told)
   repair_quiet (Ok done) input rules topo (inr settled) =
-      let out = settled.settled.1.quiet in
-      let disks = settled.store.counts in
-      let acts = acts_quiet settled.one.wanted before.acts after.acts settled.settled.0 in
-      λ i. record {
-        sources = (input i).failures ∷ (topo i).failures ∷ map (λ s. s.failures) (rules i);
-        out = out i;
-        disks = disks i;
-        acts = acts i;
-      }
+      acted_counts before after rules topo (λ i. (input i).failures) settled.settled.1.quiet
+      settled.store.counts
+      (acts_quiet settled.one.wanted before.acts after.acts settled.settled.0)
 
   -- ---- the headline
 
@@ -221,12 +179,8 @@ module _ (asked : RepairAsked) (before after : Outside) where
       → Headline (Repair asked) before after ran
   repair_headline ran unread (inl stopped) =
       elim stopped.store.went [
-        | inl unopened ↦ inl (record {
-          refused = subst (λ r. OnOk r ⊥) (sym stopped.told) tt;
-          unread = unread;
-          unsaid = stopped.unsaid;
-          left = λ image leaves name. (unopened.untouched name).images _ (leaves name);
-        })
+        | inl refused ↦ inl (unopened before after ran stopped.stop stopped.told unread
+            stopped.unsaid refused.untouched)
         | inr opened ↦ inr (λ told tells.
             subst (HeldSo told) (sym stopped.told) (elim opened [
               | inl unmarked ↦ unmarked_held told stopped.stop unmarked tells
@@ -239,30 +193,13 @@ module _ (asked : RepairAsked) (before after : Outside) where
       settled_held told settled.one settled.one.wanted (ok_text settled.one.number) ran
       settled.settled (settled.store.went told tells))
 
-pub does_repair : (asked : RepairAsked) (before after : Outside) (middle : SinkAt)
-    (ran : Result (Unit {0}) Stop) (result : ToolStatus)
-    → RepairRan asked before.acts after.acts before.out middle before.disks after.disks ran
-    → EndsAs middle after.out ran result → after.rules ≡ before.rules
-    → after.topo ≡ before.topo → after.input ≡ before.input
-    → Does (Some (Repair asked)) before after result
-does_repair asked before after middle ran result did ends rules topo unread =
-    let mid : Outside = record after { out = middle } in (
-      ran,
-      middle,
-      record {
-        order = repair_goes asked before mid ran did;
-        cause = repair_caused asked before mid ran did;
-        quiet = repair_quiet asked before mid ran unread rules topo did;
-        did = did;
-        headline = repair_headline asked before mid ran unread did;
-      },
-      ends,
-    )
-
--- what was put after a sink that is as it was
-pub settled_from : (paths : List (List ℕ)) (text : List ℕ) (acts acts_now : List ActuatorState)
-    (out middle out_now : SinkAt) (ran : Result (Unit {0}) Stop) → middle ≡ out
-    → SettlingEnds paths text acts acts_now middle out_now ran
-    → SettlingEnds paths text acts acts_now out out_now ran
-settled_from paths text acts acts_now out middle out_now ran same ends =
-    subst (λ (s : SinkAt). SettlingEnds paths text acts acts_now s out_now ran) same ends
+  pub ran_repair : (ran : Result (Unit {0}) Stop) → RanSo ran → after.rules ≡ before.rules
+      → after.topo ≡ before.topo → after.input ≡ before.input
+      → Ran (Repair asked) before after ran
+  ran_repair ran did rules topo unread = record {
+    order = repair_goes ran did;
+    cause = repair_caused ran did;
+    quiet = repair_quiet ran unread rules topo did;
+    did = did;
+    headline = repair_headline ran unread did;
+  }

@@ -52,11 +52,12 @@ use Rattle.fm_top.specs.Outside.{Tells, Leaves, disks_at}
 use Rattle.fm_top.specs.Repair.{MayHaveRepair, RepairDone, RepairHalts, RepairOnBook, RepairTried}
 use Rattle.fm_top.specs.Repair.{RepairedOf, UnmarkedOf, repair_limit}
 use Rattle.fm_top.specs.RepairEntry.{IsEntryAt, IsEntryOf, order_by}
-use Rattle.fm_top.proofs.Accepts.{limit_of, opening_account, opening_stops}
+use Rattle.fm_top.proofs.Accepts.{limit_of, opening_account}
 use Rattle.fm_top.proofs.Fmds.{OpenAt}
 use Rattle.fm_top.proofs.OpenedDisks.{none_rose, opened_at, some_rose, store_left}
-use Rattle.fm_top.proofs.SixDisks.{all_only_read, rose_any, none_counts}
-use Rattle.fm_top.proofs.Texts.{OpenFor, left_drained, open_for, same_counts, told_refused}
+use Rattle.fm_top.proofs.SixDisks.{rose_any, none_counts}
+use Rattle.fm_top.proofs.Texts.{OpenFor, left_drained, open_for, same_counts, store_unopened}
+use Rattle.fm_top.proofs.Texts.{told_refused}
 use Rattle.fm_top.proofs.WorkLimits.{told_seen, work_limit}
 
 none_some : {X : Type 0} {x : X} {o : Option X} → o ≡ None → o ≡ Some x → ⊥
@@ -239,10 +240,7 @@ pub repair_unopened : {D : Type 0} (g : Ghosts D) (disks disks_now : Disks D) (a
     → WereOnlyRead g disks disks_now
     → RepairTried asked (disks_at g disks) (disks_at g disks_now) (Err (of_store fault))
 repair_unopened g disks disks_now asked fault refused read = record {
-  went = inl (record {
-    untouched = all_only_read g disks disks_now read;
-    why = opening_stops g disks disks_now fault refused;
-  });
+  went = inl (store_unopened g disks disks_now fault refused read);
   counts = opening_account g Repaired disks disks_now fault refused;
 }
 

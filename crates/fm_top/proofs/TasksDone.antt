@@ -1,16 +1,18 @@
 -- From an open store that a task is done with to what its disks hold.
-use Rattle.std.proofs.Common.{◌≡◌, ℕ, List, Some, Result, Ok, Err, refl, subst}
+use Rattle.std.proofs.Common.{◌≡◌, ℕ, List, Some, Result, Ok, Err, OnOk, IfErr, inl, inr, refl}
+use Rattle.std.proofs.Common.{subst}
 use Rattle.std.specs.Global.{Vec}
+use Rattle.std.specs.Io.KnownBytes.{Appends}
 use Rattle.std.proofs.Common.{sym}
 use Rattle.dx_engine.specs.Diagnosers.{DiagnoserOf}
-use Rattle.fm_admin.specs.declared.repairing.Repaired.{Repaired as RepairedEntry}
+use Rattle.fm_act.specs.Reconciled.{ActuatorState}
 use Rattle.fm_answers.specs.Accounts.{Accounts}
+use Rattle.fm_answers.specs.Answers.{ok_text}
+use Rattle.fm_answers.specs.Refusing.{PutCut}
 use Rattle.fm_answers.specs.StreamsAt.{SourceAt, SinkAt}
 use Rattle.fm_answers.specs.Stops.{of_store}
 use Rattle.fm_answers.specs.declared.stops.Stop.{Stop}
 use Rattle.fm_answers.specs.declared.stops.Stop.TheVariants.{Read, Write}
-use Rattle.fm_command.specs.RepairAsked.{RepairAsked}
-use Rattle.fm_conclude.specs.declared.concluding.Conclusion.{Conclusion}
 use Rattle.fm_core.specs.Hands.{HandOf}
 use Rattle.fm_logs.specs.Contents.{Contents, AreTold, WereOnlyRead, disk_named}
 use Rattle.fm_logs.specs.declared.disks.DiskName.{DiskName}
@@ -24,11 +26,10 @@ use Rattle.fm_sources.specs.declared.sources.Sources.{Sources}
 use Rattle.fm_store.specs.StoreLeft.{store_disk, AreDisksOf}
 use Rattle.fm_store.specs.StoreOf.{StoreOf}
 use Rattle.fm_top.specs.Accepting.{AcceptRan}
-use Rattle.fm_top.specs.Fmd.{StoreRan}
-use Rattle.fm_top.specs.Generate.{GenerateTried, LinesTried}
-use Rattle.fm_top.specs.Outside.{DisksAt, disks_at}
-use Rattle.fm_top.specs.Repair.{RepairTried}
-use Rattle.fm_top.specs.Tasks.{TaskDoes, TaskRan}
+use Rattle.fm_top.specs.Esc.{TextEnds}
+use Rattle.fm_top.specs.Fmd.{FmdRan, SettlingEnds, SourcesRead}
+use Rattle.fm_top.specs.Outside.{DisksAt, Outside, disks_at}
+use Rattle.fm_top.specs.Tasks.{SettledAs, SettledRan, TaskDoes, TaskRan, TextRan}
 use Rattle.fm_top.specs.declared.tasks.StoreTask.{StoreTask}
 use Rattle.fm_top.specs.declared.tasks.StoreTask.TheVariants.{Accept, Fmd, Admin, Repair, Explain}
 use Rattle.fm_top.specs.declared.tasks.StoreTask.TheVariants.{Generate, GeneratedLines}
@@ -141,65 +142,133 @@ module _ {D : Type 0} (g : Ghosts D)
       (does.1, lines_halted g disks disks_now first new hands conf number kept opened are stop does.2)
   task_ran _ _ does counts_input counts_out = absurd does
 
--- ---- what a command takes of it
+-- ---- what is left to do once the disks are back
 
 pub accept_did : (input input_now : SourceAt) (out out_now : SinkAt) (disks disks_now : DisksAt)
     (done : TaskDone) → TaskRan Accept input input_now out out_now disks disks_now (Ok done)
     → AcceptRan input input_now out out_now disks disks_now (Ok tt)
 accept_did input input_now out out_now disks disks_now Nothing ran = ran
-accept_did input input_now out out_now disks disks_now (Concluded conclusion) ran = absurd ran
-accept_did input input_now out out_now disks disks_now (Text text) ran = absurd ran
-accept_did input input_now out out_now disks disks_now (Repaired one) ran = absurd ran
+accept_did input input_now out out_now disks disks_now _ ran = absurd ran
 
-pub fmd_did : (got : Sources) (done : TaskDone) (conclusion : Conclusion)
-    (input input_now : SourceAt) (out out_now : SinkAt) (disks disks_now : DisksAt)
-    → done ≡ Concluded conclusion
-    → TaskRan (Fmd got) input input_now out out_now disks disks_now (Ok done)
-    → StoreRan input input_now out out_now disks disks_now got (Ok conclusion)
-fmd_did got Nothing conclusion input input_now out out_now disks disks_now is ran = absurd ran
-fmd_did got (Text text) conclusion input input_now out out_now disks disks_now is ran = absurd ran
-fmd_did got (Repaired one) conclusion input input_now out out_now disks disks_now is ran = absurd ran
-fmd_did got (Concluded found) conclusion input input_now out out_now disks disks_now is ran =
-    subst (λ done. TaskRan (Fmd got) input input_now out out_now disks disks_now (Ok done)) is ran
+-- a text that was to be put, where the sink is as it was before the work on the store
+text_from : (out middle out_now : SinkAt) (text : List ℕ) (ran : Result (Unit {0}) Stop)
+    → middle ≡ out → TextEnds middle out_now text ran → TextEnds out out_now text ran
+text_from out middle out_now text ran same ends =
+    subst (λ (s : SinkAt). TextEnds s out_now text ran) same ends
 
-pub repair_did : (asked : RepairAsked) (done : TaskDone) (one : RepairedEntry)
-    (input input_now : SourceAt) (out out_now : SinkAt) (disks disks_now : DisksAt)
-    → done ≡ Repaired one
-    → TaskRan (Repair asked) input input_now out out_now disks disks_now (Ok done)
-    → (out_now ≡ out) × RepairTried asked disks disks_now (Ok one)
-repair_did asked Nothing one input input_now out out_now disks disks_now is ran = absurd ran
-repair_did asked (Text text) one input input_now out out_now disks disks_now is ran = absurd ran
-repair_did asked (Concluded conclusion) one input input_now out out_now disks disks_now is ran =
-    absurd ran
-repair_did asked (Repaired found) one input input_now out out_now disks disks_now is ran =
-    subst (λ done. TaskRan (Repair asked) input input_now out out_now disks disks_now (Ok done)) is
-    ran
+-- a text that was put by one call
+pub text_ends : (out out_now : SinkAt) (text : List ℕ) (ran : Result (Unit {0}) Stop)
+    → OnOk ran (Appends out.bytes out_now.bytes text) → IfErr ran (PutCut out out_now text)
+    → Accounts Write out.failures out_now.failures ran → TextEnds out out_now text ran
+text_ends out out_now text (Ok done) put cut counts = record { put = put; quiet = counts }
+text_ends out out_now text (Err stop) put cut counts = cut
 
-pub generate_did : (number : ℕ) (done : TaskDone) (conclusion : Conclusion)
-    (input input_now : SourceAt) (out out_now : SinkAt) (disks disks_now : DisksAt)
-    → done ≡ Concluded conclusion
-    → TaskRan (Generate number) input input_now out out_now disks disks_now (Ok done)
-    → (out_now ≡ out) × GenerateTried number disks disks_now (Ok conclusion)
-generate_did number Nothing conclusion input input_now out out_now disks disks_now is ran =
-    absurd ran
-generate_did number (Text text) conclusion input input_now out out_now disks disks_now is ran =
-    absurd ran
-generate_did number (Repaired one) conclusion input input_now out out_now disks disks_now is ran =
-    absurd ran
-generate_did number (Concluded found) conclusion input input_now out out_now disks disks_now is ran =
-    subst (λ done. TaskRan (Generate number) input input_now out out_now disks disks_now (Ok done))
-    is ran
+-- the text was told
+pub text_put : (task : StoreTask) (input : SourceAt) (out middle out_now : SinkAt)
+    (disks disks_now : DisksAt) (done : TaskDone) (text : Vec ℕ) (ran : Result (Unit {0}) Stop)
+    → done ≡ Text text → TaskRan task input input out middle disks disks_now (Ok done)
+    → TextEnds middle out_now text.items ran → TextRan task out out_now disks disks_now ran
+text_put task input out middle out_now disks disks_now done text ran is did ends =
+    told task
+    (subst (λ d. TaskRan task input input out middle disks disks_now (Ok d)) is did)
+  where
+    told : (task : StoreTask) → TaskRan task input input out middle disks disks_now (Ok (Text text))
+        → TextRan task out out_now disks disks_now ran
+    told (Admin asked) did = inl (record {
+      text = text.items;
+      store = did.1;
+      put = text_from out middle out_now text.items ran did.0 ends;
+    })
+    told (Explain uuid) did = inl (record {
+      text = text.items;
+      store = did.1;
+      put = text_from out middle out_now text.items ran did.0 ends;
+    })
+    told (GeneratedLines number) did = inl (record {
+      text = text.items;
+      store = did.1;
+      put = text_from out middle out_now text.items ran did.0 ends;
+    })
+    told _ did = tt
 
-pub lines_did : (number : ℕ) (done : TaskDone) (text : Vec ℕ)
-    (input input_now : SourceAt) (out out_now : SinkAt) (disks disks_now : DisksAt)
-    → done ≡ Text text
-    → TaskRan (GeneratedLines number) input input_now out out_now disks disks_now (Ok done)
-    → (out_now ≡ out) × LinesTried number disks disks_now (Ok text.items)
-lines_did number Nothing text input input_now out out_now disks disks_now is ran = absurd ran
-lines_did number (Concluded one) text input input_now out out_now disks disks_now is ran =
-    absurd ran
-lines_did number (Repaired one) text input input_now out out_now disks disks_now is ran = absurd ran
-lines_did number (Text found) text input input_now out out_now disks disks_now is ran =
-    subst
-    (λ done. TaskRan (GeneratedLines number) input input_now out out_now disks disks_now (Ok done))
-    is ran
+-- it was not
+pub text_stopped : (task : StoreTask) (input : SourceAt) (out out_now : SinkAt)
+    (disks disks_now : DisksAt) (stop : Stop)
+    → TaskRan task input input out out_now disks disks_now (Err stop)
+    → TextRan task out out_now disks disks_now (Err stop)
+text_stopped (Admin asked) input out out_now disks disks_now stop did =
+    inr (record { stop = stop; told = refl; store = did.1; unsaid = did.0 })
+text_stopped (Explain uuid) input out out_now disks disks_now stop did =
+    inr (record { stop = stop; told = refl; store = did.1; unsaid = did.0 })
+text_stopped (GeneratedLines number) input out out_now disks disks_now stop did =
+    inr (record { stop = stop; told = refl; store = did.1; unsaid = did.0 })
+text_stopped _ input out out_now disks disks_now stop did = tt
+
+-- what is left of a task that tells a text is that text
+pub no_text : (task : StoreTask) (input : SourceAt) (out out_now : SinkAt)
+    (disks disks_now : DisksAt) (done : TaskDone) (ran : Result (Unit {0}) Stop)
+    → ((text : Vec ℕ) → done ≡ Text text → ⊥)
+    → TaskRan task input input out out_now disks disks_now (Ok done)
+    → TextRan task out out_now disks disks_now ran
+no_text task input out out_now disks disks_now (Text text) ran other did =
+    absurd (other text refl)
+no_text (Admin asked) input out out_now disks disks_now _ ran other did = absurd did
+no_text (Explain uuid) input out out_now disks disks_now _ ran other did = absurd did
+no_text (GeneratedLines number) input out out_now disks disks_now _ ran other did = absurd did
+no_text _ input out out_now disks disks_now _ ran other did = tt
+
+settled_from : (paths : List (List ℕ)) (text : List ℕ) (acts acts_now : List ActuatorState)
+    (out middle out_now : SinkAt) (ran : Result (Unit {0}) Stop) → middle ≡ out
+    → SettlingEnds paths text acts acts_now middle out_now ran
+    → SettlingEnds paths text acts acts_now out out_now ran
+settled_from paths text acts acts_now out middle out_now ran same ends =
+    subst (λ (s : SinkAt). SettlingEnds paths text acts acts_now s out_now ran) same ends
+
+module _ (input : SourceAt) (acts acts_now : List ActuatorState) (out middle out_now : SinkAt)
+    (disks disks_now : DisksAt) where
+  pub settled_ran : (task : StoreTask) (done : TaskDone) (ran : Result (Unit {0}) Stop)
+      → TaskRan task input input out middle disks disks_now (Ok done)
+      → SettledAs done acts acts_now middle out_now ran
+      → SettledRan task acts acts_now out out_now disks disks_now ran
+  settled_ran (Repair asked) (Repaired one) ran did ends = inr (record {
+    one = one;
+    store = did.1;
+    settled =
+        settled_from one.wanted (ok_text one.number) acts acts_now out middle out_now ran did.0 ends;
+  })
+  settled_ran (Repair asked) _ ran did ends = absurd did
+  settled_ran (Generate number) (Concluded one) ran did ends = inr (record {
+    conclusion = one;
+    store = did.1;
+    settled =
+        settled_from one.wanted one.summary.items acts acts_now out middle out_now ran did.0 ends;
+  })
+  settled_ran (Generate number) _ ran did ends = absurd did
+  settled_ran _ _ ran did ends = tt
+
+pub settled_stopped : (task : StoreTask) (input : SourceAt) (acts : List ActuatorState)
+    (out out_now : SinkAt) (disks disks_now : DisksAt) (stop : Stop)
+    → TaskRan task input input out out_now disks disks_now (Err stop)
+    → SettledRan task acts acts out out_now disks disks_now (Err stop)
+settled_stopped (Repair asked) input acts out out_now disks disks_now stop did =
+    inl (record { stop = stop; told = refl; store = did.1; unsaid = did.0; unmoved = refl })
+settled_stopped (Generate number) input acts out out_now disks disks_now stop did =
+    inl (record { stop = stop; told = refl; store = did.1; unsaid = did.0; unmoved = refl })
+settled_stopped _ input acts out out_now disks disks_now stop did = tt
+
+-- what is left of `fmd -1` is a conclusion
+module _ (before after : Outside) (middle : SinkAt) (got : Sources)
+    (sources : SourcesRead before after got) where
+  pub fmd_settled : (done : TaskDone) (ran : Result (Unit {0}) Stop)
+      → TaskRan (Fmd got) before.input after.input before.out middle before.disks after.disks
+      (Ok done)
+      → SettledAs done before.acts after.acts middle after.out ran → FmdRan before after ran
+  fmd_settled (Concluded one) ran did ends = inr (inr (record {
+    got = got;
+    sources = sources;
+    conclusion = one;
+    middle = middle;
+    store = did;
+    settled = ends;
+  }))
+  fmd_settled _ ran did ends = absurd did

@@ -39,7 +39,7 @@ use Rattle.fm_store.proofs.StoreReads.{left_active, says_left}
 use Rattle.fm_summary.specs.DrainedSummary.{diagnosers}
 use Rattle.fm_top.specs.Accepting.{DisksAccount}
 use Rattle.fm_top.specs.Admin.{AdminDone, AdminOnBook, AdminRefused, TextAsked, ToldOf}
-use Rattle.fm_top.specs.Admin.{command_limit}
+use Rattle.fm_top.specs.Admin.{StoreUnopened, command_limit}
 use Rattle.fm_top.specs.DrainedBook.{ReadsDrained}
 use Rattle.fm_top.specs.Dump.{IsErrorLogOf, error_log}
 use Rattle.fm_top.specs.Fmd.{ConcludingStops}
@@ -84,15 +84,20 @@ open_for g first hands conf c one book =
 
 -- ---- a store that was not opened
 
+pub store_unopened : {D : Type 0} (g : Ghosts D) (disks disks_now : Disks D) (fault : StoreFault)
+    → OpenStoreRefused g disks disks_now fault → WereOnlyRead g disks disks_now
+    → StoreUnopened (disks_at g disks) (disks_at g disks_now) (of_store fault)
+store_unopened g disks disks_now fault refused read = record {
+  untouched = all_only_read g disks disks_now read;
+  why = opening_stops g disks disks_now fault refused;
+}
+
 pub unopened_asked : {D : Type 0} (g : Ghosts D) (disks disks_now : Disks D) (asked : AdminCommand)
     (fault : StoreFault) → OpenStoreRefused g disks disks_now fault
     → WereOnlyRead g disks disks_now
     → TextAsked asked (disks_at g disks) (disks_at g disks_now) (Err (of_store fault))
 unopened_asked g disks disks_now asked fault refused read = record {
-  went = inl (record {
-    untouched = all_only_read g disks disks_now read;
-    why = opening_stops g disks disks_now fault refused;
-  });
+  went = inl (store_unopened g disks disks_now fault refused read);
   counts = opening_account g (List ℕ) disks disks_now fault refused;
 }
 

@@ -13,9 +13,9 @@ use Rattle.fm_command.specs.declared.words.Command.TheVariants.{Admin, Repair}
 use Rattle.fm_top.specs.Calls.{Does}
 use Rattle.fm_top.specs.Init.{AreUnwritten}
 use Rattle.fm_top.specs.Outside.{Outside}
-use Rattle.fm_top.proofs.AdminDoing.{does_tell}
-use Rattle.fm_top.proofs.Doing.{Rests}
-use Rattle.fm_top.proofs.RepairDoing.{does_repair}
+use Rattle.fm_top.proofs.AdminDoing.{ran_tell}
+use Rattle.fm_top.proofs.RepairDoing.{ran_repair}
+use Rattle.fm_top.proofs.Shared.{Rests}
 
 abbrev no_text : List ℕ
 no_text = []
@@ -44,21 +44,29 @@ pub does_want : (o : Option Command) (before after : Outside) (result : ToolStat
     → Does o before after result
 does_want None before after result takes ends rests unread untouched =
     ends_without before.out after.out Usage result ends
-does_want (Some (Repair asked)) before after result takes ends rests unread untouched =
-    does_repair asked before after before.out (Err Memory) result
-    (inl (record {
-      stop = Memory;
-      told = refl;
-      store = record { went = inl (record { untouched = untouched; why = tt }); counts = tt };
-      unsaid = refl;
-      unmoved = rests.acts;
-    })) ends rests.rules rests.topo unread
-does_want (Some (Admin asked)) before after result takes ends rests unread untouched =
-    does_tell asked before after before.out (Err Memory) result
-    (inr (record {
-      stop = Memory;
-      told = refl;
-      store = record { went = inl (record { untouched = untouched; why = tt }); counts = tt };
-      unsaid = refl;
-    })) ends rests unread
+does_want (Some (Repair asked)) before after result takes ends rests unread untouched = (
+  Err Memory,
+  before.out,
+  ran_repair asked before (record after { out = before.out }) (Err Memory)
+      (inl (record {
+        stop = Memory;
+        told = refl;
+        store = record { went = inl (record { untouched = untouched; why = tt }); counts = tt };
+        unsaid = refl;
+        unmoved = rests.acts;
+      })) rests.rules rests.topo unread,
+  ends,
+)
+does_want (Some (Admin asked)) before after result takes ends rests unread untouched = (
+  Err Memory,
+  before.out,
+  ran_tell asked before (record after { out = before.out }) (Err Memory)
+      (inr (record {
+        stop = Memory;
+        told = refl;
+        store = record { went = inl (record { untouched = untouched; why = tt }); counts = tt };
+        unsaid = refl;
+      })) (record { rules = rests.rules; topo = rests.topo; acts = rests.acts }) unread,
+  ends,
+)
 does_want (Some _) before after result takes ends rests unread untouched = absurd takes

@@ -34,6 +34,18 @@ pub record Outside : Type 1 where
   pub disks : DisksAt
   pub acts : List ActuatorState
 
+-- what stands outside, part by part
+abbrev pub outside_with : SourceAt → List SourceAt → SourceAt → SinkAt → DisksAt
+    → List ActuatorState → Outside
+outside_with input rules topo out disks acts = record {
+  input = input;
+  rules = rules;
+  topo = topo;
+  out = out;
+  disks = disks;
+  acts = acts;
+}
+
 -- each object as it stands
 
 abbrev pub disk_at : {D : Type 0} → DiskGhosts D → D → DiskAt

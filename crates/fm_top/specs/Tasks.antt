@@ -2,6 +2,8 @@
 use Rattle.std.specs.Prelude.{◌≡◌, List, true, Some, Result, Ok, Err}
 use Rattle.std.specs.Io.KnownBytes.{Appends, Consumes, IsAtEnd}
 use Rattle.dx_engine.specs.Diagnosers.{DiagnoserOf}
+use Rattle.fm_act.specs.Reconciled.{ActuatorState}
+use Rattle.fm_answers.specs.Answers.{ok_text}
 use Rattle.fm_answers.specs.StreamsAt.{SourceAt, SinkAt}
 use Rattle.fm_answers.specs.Running.{RanAll, RanUntil}
 use Rattle.fm_answers.specs.Stops.{of_store}
@@ -13,14 +15,14 @@ use Rattle.fm_saved.specs.declared.conf.Conf.{Conf}
 use Rattle.fm_store.specs.StoreCalls.{next_entry}
 use Rattle.fm_store.specs.StoreOf.{StoreOf}
 use Rattle.fm_top.specs.Accepting.{AcceptRan}
-use Rattle.fm_top.specs.Admin.{AdminDone, TextAsked}
-use Rattle.fm_top.specs.Explain.{ExplainDone, ExplainHalts, ExplainTried}
-use Rattle.fm_top.specs.Fmd.{StoreRan}
+use Rattle.fm_top.specs.Admin.{AdminDone, AdminRan, TextAsked}
+use Rattle.fm_top.specs.Explain.{ExplainDone, ExplainHalts, ExplainRan, ExplainTried}
+use Rattle.fm_top.specs.Fmd.{SettlingEnds, StoreRan}
 use Rattle.fm_top.specs.FmdStore.{StoreWorks}
-use Rattle.fm_top.specs.Generate.{GenerateFinished, GenerateHalts, GenerateTried, LinesTried}
-use Rattle.fm_top.specs.Generate.{ListsGenerated}
+use Rattle.fm_top.specs.Generate.{GenerateFinished, GenerateHalts, GenerateRan, GenerateTried}
+use Rattle.fm_top.specs.Generate.{LinesRan, LinesTried, ListsGenerated}
 use Rattle.fm_top.specs.Outside.{DisksAt}
-use Rattle.fm_top.specs.Repair.{RepairDone, RepairHalts, RepairTried}
+use Rattle.fm_top.specs.Repair.{RepairDone, RepairHalts, RepairRan, RepairTried}
 use Rattle.fm_logs.specs.declared.fault.StoreFault.{StoreFault}
 use Rattle.fm_top.specs.declared.tasks.StoreTask.{StoreTask}
 use Rattle.fm_top.specs.declared.tasks.StoreTask.TheVariants.{Accept, Fmd, Admin, Repair, Explain}
@@ -97,3 +99,34 @@ TaskRan (GeneratedLines number) input input_now out out_now disks disks_now (Ok 
 TaskRan (GeneratedLines number) input input_now out out_now disks disks_now (Err stop) =
     (out_now ≡ out) × LinesTried number disks disks_now (Err stop)
 TaskRan _ _ _ _ _ _ _ _ = ⊥
+
+-- ---- what is left to do once the disks are back
+
+-- WHAT A COMMAND THAT PUTS ONE TEXT OF A STORE DOES, one line a task
+abbrev pub TextRan : StoreTask → SinkAt → SinkAt → DisksAt → DisksAt → Result (Unit {0}) Stop
+    → Type 0
+TextRan (Admin asked) out out_now disks disks_now ran =
+    AdminRan asked out out_now disks disks_now ran
+TextRan (Explain uuid) out out_now disks disks_now ran =
+    ExplainRan uuid out out_now disks disks_now ran
+TextRan (GeneratedLines number) out out_now disks disks_now ran =
+    LinesRan number out out_now disks disks_now ran
+TextRan _ _ _ _ _ _ = Unit {0}
+
+-- what is wanted was to be taken out of use, and a text put: the summary, or the number of an entry
+abbrev pub SettledAs : TaskDone → List ActuatorState → List ActuatorState → SinkAt → SinkAt
+    → Result (Unit {0}) Stop → Type 0
+SettledAs (Concluded one) acts acts_now out out_now ran =
+    SettlingEnds one.wanted one.summary.items acts acts_now out out_now ran
+SettledAs (Repaired one) acts acts_now out out_now ran =
+    SettlingEnds one.wanted (ok_text one.number) acts acts_now out out_now ran
+SettledAs _ _ _ _ _ _ = Unit {0}
+
+-- WHAT A COMMAND THAT READS NO INPUT AND SETTLES THE ACTUATORS DOES, one line a task
+abbrev pub SettledRan : StoreTask → List ActuatorState → List ActuatorState → SinkAt → SinkAt
+    → DisksAt → DisksAt → Result (Unit {0}) Stop → Type 0
+SettledRan (Repair asked) acts acts_now out out_now disks disks_now ran =
+    RepairRan asked acts acts_now out out_now disks disks_now ran
+SettledRan (Generate number) acts acts_now out out_now disks disks_now ran =
+    GenerateRan number acts acts_now out out_now disks disks_now ran
+SettledRan _ _ _ _ _ _ _ _ = Unit {0}

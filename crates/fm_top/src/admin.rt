@@ -1,28 +1,23 @@
-// The operator's commands that put one text.
+// The operator's commands that put one text: what becomes of an open store.
 ghost use Rattle.std.specs.Prelude.{◌≡◌, ◌≤◌, Err, None, length, IfOk};
-ghost use Rattle.fm_answers.specs.StreamsAt.{SinkAt, SourceAt, sink_at};
+ghost use Rattle.fm_answers.specs.StreamsAt.{SinkAt, SourceAt};
 ghost use Rattle.fm_drain.specs.DrainCalls.{AreAtCursors};
 ghost use Rattle.fm_saved.specs.declared.conf.Conf.{Conf};
 ghost use Rattle.fm_store.specs.StoreLeft.{AreSameStore};
 ghost use Rattle.fm_summary.specs.DrainedSummary.{diagnosers};
-ghost use Rattle.fm_top.specs.Admin.{AdminDone, AdminRan, rotated_text};
-ghost use Rattle.fm_top.specs.Calls.{names_of};
-ghost use Rattle.fm_top.specs.Outside.{disks_at};
+ghost use Rattle.fm_top.specs.Admin.{AdminDone, rotated_text};
 ghost use Rattle.fm_top.specs.Tasks.{TaskDoes};
 
 use crate::configuring::drained_conf;
 use crate::dumping::dump_text;
-use crate::no_input::NoInput;
-use crate::opened::work_store;
 use crate::tasks::{StoreTask, TaskDone};
 use dx_engine::Diagnoser;
 use fm_admin::{rotate_drained, tell_faulty};
-use fm_answers::{Stop, put_bytes};
+use fm_answers::Stop;
 use fm_bytes::NoMemory;
 use fm_command::AdminCommand;
 use fm_core::Hand;
-use fm_init::Disks;
-use fm_outer::{Disk, Sink};
+use fm_outer::Disk;
 use fm_saved::Conf;
 use fm_store::{Store, StoreFault};
 use std::alloc::Global;
@@ -97,27 +92,5 @@ pub(crate) fn tell_text<D: Disk>(
     match text_of(alloc, asked, store, hands, conf) {
         Ok(text) => Ok(TaskDone::Text(text)),
         Err(fault) => Err(Stop::from(fault)),
-    }
-}
-
-/// Does a command with the store on the disks, and puts its text.
-pub(crate) fn tell<K: Sink, D: Disk>(
-    alloc: Global,
-    asked: AdminCommand,
-    out: &mut K,
-    disks: &mut Disks<D>,
-) -> Result<(), Stop>
-    ensures ran { AdminRan asked (sink_at K.Sink out.old) (sink_at K.Sink out.new)
-        (disks_at D.Disk disks.old) (disks_at D.Disk disks.new) result }
-    ensures same_disks { names_of D.name disks.new ≡ names_of D.name disks.old }
-{
-    let task = StoreTask::Admin(asked);
-    let mut none = NoInput;
-    let done = work_store(alloc, &task, &mut none, out, disks)?;
-    match done {
-        TaskDone::Text(text) => put_bytes(out, text.as_slice()),
-        TaskDone::Nothing => Err(Stop::Memory),
-        TaskDone::Concluded(_) => Err(Stop::Memory),
-        TaskDone::Repaired(_) => Err(Stop::Memory),
     }
 }

@@ -1,19 +1,17 @@
 // The top call.
-ghost use Rattle.std.specs.Prelude.{◌≡◌, ◌<◌, ◌≤◌, ◌^◌, length, map};
+ghost use Rattle.std.specs.Prelude.{◌≡◌, ◌<◌, ◌≤◌, ◌^◌, Some, length, map};
+ghost use Rattle.fm_act.specs.Reconciled.{actuator_state};
 ghost use Rattle.fm_answers.specs.StreamsAt.{source_at, sink_at};
 ghost use Rattle.fm_command.specs.Words.{command_of};
-ghost use Rattle.fm_top.specs.Calls.{Does, WorksOn, handed, names_of};
-ghost use Rattle.fm_act.specs.Reconciled.{actuator_state};
-ghost use Rattle.fm_top.specs.Outside.{Outside, disks_at};
+ghost use Rattle.fm_top.specs.Calls.{Does, Ran, WorksOn, handed, names_of};
+ghost use Rattle.fm_top.specs.Outside.{Outside, disks_at, outside_with};
 
 use crate::accept::accept;
-use crate::admin::tell;
 use crate::esc::{esc, esc_input};
-use crate::explaining::explain;
 use crate::fmd::fmd;
-use crate::generating::{generate, put_generated};
 use crate::init::init;
-use crate::repairing::repair;
+use crate::tasks::StoreTask;
+use crate::working::{put_from_store, settle_from_store};
 use fm_act::Actuator;
 use fm_answers::{Stop, ToolStatus, end, replay};
 use fm_command::{Command, command_of};
@@ -21,6 +19,59 @@ use fm_init::Disks;
 use fm_outer::{Disk, Sink, Source};
 use fm_text::ArgText;
 use std::alloc::Global;
+use uuid::Uuid;
+
+/// Runs a command, up to its last line.
+fn run_command<S: Source, K: Sink, D: Disk>(
+    alloc: Global,
+    command: Command,
+    input: &mut S,
+    rules: &mut [S],
+    topo: &mut S,
+    out: &mut K,
+    disks: &mut Disks<D>,
+    acts: &mut [Box<dyn Actuator + Send>],
+) -> Result<(), Stop>
+    requires few { length rules.old ≤ 8 }
+    ensures ran { Ran command
+        (outside_with (source_at S.Source input.old) (map (source_at S.Source) rules.old)
+        (source_at S.Source topo.old) (sink_at K.Sink out.old) (disks_at D.Disk disks.old)
+        (map (λ a. actuator_state (kind_text a) (held a) (act_failures a)) acts.old))
+        (outside_with (source_at S.Source input.new) (map (source_at S.Source) rules.new)
+        (source_at S.Source topo.new) (sink_at K.Sink out.new) (disks_at D.Disk disks.new)
+        (map (λ a. actuator_state (kind_text a) (held a) (act_failures a)) acts.new)) result }
+    ensures works_on { WorksOn (Some command)
+        (handed input.old rules.old topo.old disks.old acts.old)
+        (handed input.new rules.new topo.new disks.new acts.new) }
+    ensures same_disks { names_of D.name disks.new ≡ names_of D.name disks.old }
+{
+    match command {
+        Command::Accept => accept(alloc, input, out, disks),
+        Command::Fmd => fmd(alloc, input, rules, topo, out, disks, acts),
+        Command::Replay => replay(alloc, input, out),
+        Command::Init(namespace) => init(alloc, namespace, rules, topo, disks),
+        Command::Esc(form) => esc(alloc, form, rules, topo, out),
+        Command::EscInput => esc_input(alloc, input, out),
+        Command::Admin(asked) => put_from_store(alloc, &StoreTask::Admin(asked), out, disks),
+        Command::Repair(request) => {
+            settle_from_store(alloc, &StoreTask::Repair(request), out, disks, acts)
+        }
+        Command::Explain(uuid) => {
+            put_from_store(
+                alloc,
+                &StoreTask::Explain(Uuid::from_bytes(uuid)),
+                out,
+                disks,
+            )
+        }
+        Command::Generate(number) => {
+            settle_from_store(alloc, &StoreTask::Generate(number), out, disks, acts)
+        }
+        Command::GeneratedLines(number) => {
+            put_from_store(alloc, &StoreTask::GeneratedLines(number), out, disks)
+        }
+    }
+}
 
 /// Does what the words say, and gives the exit status.
 ///
@@ -80,46 +131,12 @@ pub fn tool<S: Source, K: Sink, D: Disk>(
         (handed input.new rules.new topo.new disks.new acts.new) }
     ensures same_disks { names_of D.name disks.new ≡ names_of D.name disks.old }
 {
-    let command = match command_of(alloc, words, now) {
-        Ok(command) => command,
-        Err(_) => return end(alloc, Err(Stop::Memory), out),
-    };
-    match command {
-        Some(Command::Accept) => end(alloc, accept(alloc, input, out, disks), out),
-        Some(Command::Fmd) => {
-            let ran = fmd(alloc, input, rules, topo, out, disks, acts);
+    match command_of(alloc, words, now) {
+        Ok(Some(command)) => {
+            let ran = run_command(alloc, command, input, rules, topo, out, disks, acts);
             end(alloc, ran, out)
         }
-        Some(Command::Replay) => end(alloc, replay(alloc, input, out), out),
-        Some(Command::Init(namespace)) => {
-            let ran = init(alloc, namespace, rules, topo, disks);
-            end(alloc, ran, out)
-        }
-        Some(Command::Esc(form)) => {
-            let ran = esc(alloc, form, rules, topo, out);
-            end(alloc, ran, out)
-        }
-        Some(Command::EscInput) => end(alloc, esc_input(alloc, input, out), out),
-        Some(Command::Admin(asked)) => {
-            let ran = tell(alloc, asked, out, disks);
-            end(alloc, ran, out)
-        }
-        Some(Command::Repair(request)) => {
-            let ran = repair(alloc, request, out, disks, acts);
-            end(alloc, ran, out)
-        }
-        Some(Command::Explain(uuid)) => {
-            let ran = explain(alloc, uuid, out, disks);
-            end(alloc, ran, out)
-        }
-        Some(Command::Generate(number)) => {
-            let ran = generate(alloc, number, out, disks, acts);
-            end(alloc, ran, out)
-        }
-        Some(Command::GeneratedLines(number)) => {
-            let ran = put_generated(alloc, number, out, disks);
-            end(alloc, ran, out)
-        }
-        None => end(alloc, Err(Stop::Usage), out),
+        Ok(None) => end(alloc, Err(Stop::Usage), out),
+        Err(_) => end(alloc, Err(Stop::Memory), out),
     }
 }

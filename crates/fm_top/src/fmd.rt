@@ -11,13 +11,13 @@ ghost use Rattle.fm_store.specs.StoreLeft.{AreSameStore};
 ghost use Rattle.fm_summary.specs.DrainedSummary.{diagnosers};
 ghost use Rattle.fm_top.specs.Calls.{names_of};
 ghost use Rattle.fm_top.specs.Fmd.{FmdRan};
-ghost use Rattle.fm_top.specs.Outside.{Outside, disks_at};
+ghost use Rattle.fm_top.specs.Outside.{disks_at, outside_with};
 ghost use Rattle.fm_top.specs.Tasks.{TaskDoes};
 
 use crate::as_read::is_as_read;
 use crate::opened::work_store;
-use crate::settle::{Settlement, settle};
 use crate::tasks::{StoreTask, Streams, TaskDone};
+use crate::working::settle_done;
 use dx_engine::Diagnoser;
 use fm_act::ActCalls;
 use fm_answers::{Stop, run};
@@ -105,38 +105,18 @@ pub(crate) fn fmd<S: Source, K: Sink, D: Disk, A: ActCalls>(
     acts: &mut [A],
 ) -> Result<(), Stop>
     requires { length rules.old ≤ 8 }
-    ensures ran { let before : Outside = record {
-      input = source_at S.Source input.old;
-      rules = map (source_at S.Source) rules.old;
-      topo = source_at S.Source topo.old;
-      out = sink_at K.Sink out.old;
-      disks = disks_at D.Disk disks.old;
-      acts = map (λ a. actuator_state (A.kind_text a) (A.held a) (A.act_failures a)) acts.old;
-    } in
-        let after : Outside = record {
-          input = source_at S.Source input.new;
-          rules = map (source_at S.Source) rules.new;
-          topo = source_at S.Source topo.new;
-          out = sink_at K.Sink out.new;
-          disks = disks_at D.Disk disks.new;
-          acts = map (λ a. actuator_state (A.kind_text a) (A.held a) (A.act_failures a)) acts.new;
-        } in
-        FmdRan before after result }
+    ensures ran { FmdRan
+        (outside_with (source_at S.Source input.old) (map (source_at S.Source) rules.old)
+        (source_at S.Source topo.old) (sink_at K.Sink out.old) (disks_at D.Disk disks.old)
+        (map (λ a. actuator_state (A.kind_text a) (A.held a) (A.act_failures a)) acts.old))
+        (outside_with (source_at S.Source input.new) (map (source_at S.Source) rules.new)
+        (source_at S.Source topo.new) (sink_at K.Sink out.new) (disks_at D.Disk disks.new)
+        (map (λ a. actuator_state (A.kind_text a) (A.held a) (A.act_failures a)) acts.new))
+        result }
     ensures same_disks { names_of D.name disks.new ≡ names_of D.name disks.old }
 {
     let got = read_graphed(alloc, rules, topo)?;
     let task = StoreTask::Fmd(got);
     let done = work_store(alloc, &task, input, out, disks)?;
-    match done {
-        TaskDone::Concluded(conclusion) => {
-            let settlement = Settlement {
-                wanted: conclusion.wanted,
-                text: conclusion.summary,
-            };
-            settle(alloc, &settlement, acts, out)
-        }
-        TaskDone::Nothing => Err(Stop::Memory),
-        TaskDone::Text(_) => Err(Stop::Memory),
-        TaskDone::Repaired(_) => Err(Stop::Memory),
-    }
+    settle_done(alloc, done, acts, out)
 }

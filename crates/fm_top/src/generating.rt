@@ -1,10 +1,9 @@
-// The commands that generate entries of a number.
-ghost use Rattle.std.specs.Prelude.{◌≡◌, ◌≤◌, ◌<◌, ◌^◌, IsTrue, List, None, Err, length, map};
+// The commands that generate entries of a number: what becomes of an open store.
+ghost use Rattle.std.specs.Prelude.{◌≡◌, ◌≤◌, ◌<◌, ◌^◌, IsTrue, List, None, Err, length};
 ghost use Rattle.std.specs.Prelude.{OnOk, IfOk, IfErr};
 ghost use Rattle.std.specs.List.{list_all};
 ghost use Rattle.dx_engine.specs.Diagnosers.{DiagnoserOf};
-ghost use Rattle.fm_act.specs.Reconciled.{actuator_state};
-ghost use Rattle.fm_answers.specs.StreamsAt.{SinkAt, SourceAt, sink_at};
+ghost use Rattle.fm_answers.specs.StreamsAt.{SinkAt, SourceAt};
 ghost use Rattle.fm_config.specs.Reports.{AreReportsOf};
 ghost use Rattle.fm_core.specs.Hands.{HandOf};
 ghost use Rattle.fm_drain.specs.DrainCalls.{AreAtCursors};
@@ -12,27 +11,19 @@ ghost use Rattle.fm_name.specs.Category.{is_ereport};
 ghost use Rattle.fm_store.specs.StoreLeft.{AreSameStore};
 ghost use Rattle.fm_store.specs.StoreOf.{greatest_at};
 ghost use Rattle.fm_summary.specs.DrainedSummary.{diagnosers};
-ghost use Rattle.fm_top.specs.Calls.{names_of};
-ghost use Rattle.fm_top.specs.Generate.{GenerateRan, LinesRan, StartStops, StoreGenerates};
-ghost use Rattle.fm_top.specs.Generate.{TookUntil};
-ghost use Rattle.fm_top.specs.Outside.{disks_at};
+ghost use Rattle.fm_top.specs.Generate.{StartStops, StoreGenerates, TookUntil};
 ghost use Rattle.fm_top.specs.Tasks.{TaskDoes};
 
-use crate::no_input::NoInput;
-use crate::opened::work_store;
-use crate::settle::{Settlement, settle};
 use crate::tasks::{StoreTask, TaskDone};
 use dx_engine::Diagnoser;
-use fm_act::ActCalls;
-use fm_answers::{Stop, Taker, put_bytes};
+use fm_answers::{Stop, Taker};
 use fm_conclude::conclude;
 use fm_config::conf_reports;
 use fm_core::Hand;
 use fm_gen::{Gen, generated_lines};
-use fm_init::Disks;
 use fm_journal::FullKind;
 use fm_name::EventName;
-use fm_outer::{Disk, Sink};
+use fm_outer::Disk;
 use fm_saved::Conf;
 use fm_store::Store;
 use std::alloc::Global;
@@ -135,59 +126,4 @@ pub(crate) fn list_entries<D: Disk>(
     let entries = begin(alloc, number, store, conf)?;
     let text = generated_lines(alloc, entries)?;
     Ok(TaskDone::Text(text))
-}
-
-/// Has the store on the disks take what the number generates and concludes it, brings the actuators
-/// to what is wanted then, and puts the summary.
-pub(crate) fn generate<K: Sink, D: Disk, A: ActCalls>(
-    alloc: Global,
-    number: u64,
-    out: &mut K,
-    disks: &mut Disks<D>,
-    acts: &mut [A],
-) -> Result<(), Stop>
-    ensures ran { GenerateRan number
-        (map (λ a. actuator_state (A.kind_text a) (A.held a) (A.act_failures a)) acts.old)
-        (map (λ a. actuator_state (A.kind_text a) (A.held a) (A.act_failures a)) acts.new)
-        (sink_at K.Sink out.old) (sink_at K.Sink out.new)
-        (disks_at D.Disk disks.old) (disks_at D.Disk disks.new) result }
-    ensures same_disks { names_of D.name disks.new ≡ names_of D.name disks.old }
-{
-    let task = StoreTask::Generate(number);
-    let mut none = NoInput;
-    let done = work_store(alloc, &task, &mut none, out, disks)?;
-    match done {
-        TaskDone::Concluded(conclusion) => {
-            let settlement = Settlement {
-                wanted: conclusion.wanted,
-                text: conclusion.summary,
-            };
-            settle(alloc, &settlement, acts, out)
-        }
-        TaskDone::Nothing => Err(Stop::Memory),
-        TaskDone::Text(_) => Err(Stop::Memory),
-        TaskDone::Repaired(_) => Err(Stop::Memory),
-    }
-}
-
-/// Puts the lines of what the number generates, of the store on the disks.
-pub(crate) fn put_generated<K: Sink, D: Disk>(
-    alloc: Global,
-    number: u64,
-    out: &mut K,
-    disks: &mut Disks<D>,
-) -> Result<(), Stop>
-    ensures ran { LinesRan number (sink_at K.Sink out.old) (sink_at K.Sink out.new)
-        (disks_at D.Disk disks.old) (disks_at D.Disk disks.new) result }
-    ensures same_disks { names_of D.name disks.new ≡ names_of D.name disks.old }
-{
-    let task = StoreTask::GeneratedLines(number);
-    let mut none = NoInput;
-    let done = work_store(alloc, &task, &mut none, out, disks)?;
-    match done {
-        TaskDone::Text(text) => put_bytes(out, text.as_slice()),
-        TaskDone::Nothing => Err(Stop::Memory),
-        TaskDone::Concluded(_) => Err(Stop::Memory),
-        TaskDone::Repaired(_) => Err(Stop::Memory),
-    }
 }

@@ -17,7 +17,7 @@
 //!
 //! What is done with a store is a `tasks::StoreTask`. One chain of calls (`opened`) opens the store
 //! on six lent disks, does the task with it and gives the disks back, and says what came of it by
-//! the task (`specs/Tasks`). `fmadm` has fm_admin drain the store and tell a text of it, which is
+//! the task (`specs/Tasks`); then `working` does what is left. `fmadm` has fm_admin drain the store and tell a text of it, which is
 //! put when the disks are back (`admin`, `specs/Admin`); so does `fmdump`, of one of the logs
 //! (`dumping`, `specs/Dump`), and `explain`, of one case (`explaining`, `specs/Explain`). `gen`
 //! makes entries of a number, of the reports that fm_config has of the configuration in force,
@@ -64,6 +64,7 @@ mod opened;
 mod repairing;
 mod settle;
 mod tasks;
+mod working;
 
 pub use call::tool;
 pub use fm_act::{ActFault, Actuator};

@@ -6,14 +6,9 @@ ghost use Rattle.fm_answers.specs.StreamsAt.{SinkAt, SourceAt, sink_at};
 ghost use Rattle.fm_drain.specs.DrainCalls.{AreAtCursors};
 ghost use Rattle.fm_store.specs.StoreLeft.{AreSameStore};
 ghost use Rattle.fm_summary.specs.DrainedSummary.{diagnosers};
-ghost use Rattle.fm_top.specs.Calls.{names_of};
 ghost use Rattle.fm_top.specs.Fmd.{SettlingEnds};
-ghost use Rattle.fm_top.specs.Outside.{disks_at};
-ghost use Rattle.fm_top.specs.Repair.{RepairRan};
 ghost use Rattle.fm_top.specs.Tasks.{TaskDoes};
 
-use crate::no_input::NoInput;
-use crate::opened::work_store;
 use crate::settle::{Settlement, settle};
 use crate::tasks::{StoreTask, TaskDone};
 use dx_engine::Diagnoser;
@@ -23,7 +18,6 @@ use fm_answers::Stop;
 use fm_bytes::NoMemory;
 use fm_command::RepairRequest;
 use fm_core::Hand;
-use fm_init::Disks;
 use fm_outer::{Disk, Sink};
 use fm_saved::Conf;
 use fm_store::Store;
@@ -66,7 +60,7 @@ fn ok_line(alloc: Global, number: u64) -> Result<Vec<u8>, NoMemory>
 
 /// Brings each actuator to hold what is wanted of its kind, and tells the number of the entry.
 #[tactic(auto, using(fm_answers::proofs::Sinks::appends_none))]
-fn settle_repair<K: Sink, A: ActCalls>(
+pub(crate) fn settle_repair<K: Sink, A: ActCalls>(
     alloc: Global,
     repaired: Repaired,
     acts: &mut [A],
@@ -83,31 +77,4 @@ fn settle_repair<K: Sink, A: ActCalls>(
         text,
     };
     settle(alloc, &settlement, acts, out)
-}
-
-/// Has the store on the disks accept what the operator said, where that marks a suspect, brings the
-/// actuators to what is wanted then, and tells the number of the entry.
-pub(crate) fn repair<K: Sink, D: Disk, A: ActCalls>(
-    alloc: Global,
-    request: RepairRequest,
-    out: &mut K,
-    disks: &mut Disks<D>,
-    acts: &mut [A],
-) -> Result<(), Stop>
-    ensures ran { RepairRan request
-        (map (λ a. actuator_state (A.kind_text a) (A.held a) (A.act_failures a)) acts.old)
-        (map (λ a. actuator_state (A.kind_text a) (A.held a) (A.act_failures a)) acts.new)
-        (sink_at K.Sink out.old) (sink_at K.Sink out.new)
-        (disks_at D.Disk disks.old) (disks_at D.Disk disks.new) result }
-    ensures same_disks { names_of D.name disks.new ≡ names_of D.name disks.old }
-{
-    let task = StoreTask::Repair(request);
-    let mut none = NoInput;
-    let done = work_store(alloc, &task, &mut none, out, disks)?;
-    match done {
-        TaskDone::Repaired(repaired) => settle_repair(alloc, repaired, acts, out),
-        TaskDone::Nothing => Err(Stop::Memory),
-        TaskDone::Concluded(_) => Err(Stop::Memory),
-        TaskDone::Text(_) => Err(Stop::Memory),
-    }
 }
