@@ -19,6 +19,3 @@ pub use kept_case::KeptCase;
 pub use kept_state::KeptState;
 pub use reading::take_state;
 pub use writing::{put_case, put_moments, version_of};
-
-#[cfg(test)]
-mod tests;

@@ -23,6 +23,3 @@ pub use marking::{AtPath, Choice, OfCase, UnderPath, mark_word};
 pub use naming::names;
 pub use places::{put_word, put_words};
 pub use suspecting::{suspects, upsets};
-
-#[cfg(test)]
-mod tests;

@@ -19,6 +19,3 @@ mod laws;
 pub use engine::{Engine, are_lawful};
 pub use fm_bytes::NoMemory;
 pub use laws::{last_decide, notes_are_kept};
-
-#[cfg(test)]
-mod tests;

@@ -25,8 +25,6 @@ mod order;
 mod rows;
 mod search;
 mod table;
-#[cfg(test)]
-mod tests;
 
 pub use fm_bytes::NoMemory;
 pub use join_fault::JoinFault;

@@ -22,6 +22,3 @@ pub use fm_bytes::NoMemory;
 pub use generator::Gen;
 pub use laws::entries_are_generated;
 pub use lines::generated_lines;
-
-#[cfg(test)]
-mod tests;

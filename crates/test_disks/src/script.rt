@@ -123,6 +123,7 @@ fn answer_of_journals(
 }
 
 impl Held {
+    /// No bytes have a name, and the disk has none.
     pub fn new(alloc: Global) -> Held {
         Held {
             named: Named::new(alloc),

@@ -70,6 +70,7 @@ fn answer_of_records(
 }
 
 impl Held {
+    /// No entry and no record yet.
     pub fn new(alloc: Global) -> Held {
         Held {
             entries: Vec::new(alloc),

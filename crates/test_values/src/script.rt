@@ -152,6 +152,7 @@ fn answer_of_written(
 }
 
 impl Held {
+    /// No bytes have a name, and the list is empty.
     pub fn new(alloc: Global) -> Held {
         Held {
             named: Named::new(alloc),

@@ -1,7 +1,6 @@
 //! States whose bytes are known, read; and their open cases and moments, written again.
 
-use crate::{KeptCase, KeptState, put_case, put_moments, take_state, version_of};
-use fm_bytes::ReadFault;
+use dx_kept::{KeptCase, KeptState, ReadFault, put_case, put_moments, take_state, version_of};
 use std::alloc::Global;
 use std::test::Fail;
 

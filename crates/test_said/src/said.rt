@@ -1,8 +1,8 @@
-//! Certainties that are known, and each call once with ample memory.
+//! Certainties that are known, and each call of dx_said once.
 
 ghost use Rattle.std.specs.Prelude.{◌<◌, ◌^◌, length};
 
-use crate::{
+use dx_said::{
     NoMemory, OfCase, certainties, mark_word, mark_words, marks_any, names, put_word, put_words,
     suspects, upsets,
 };

@@ -1,9 +1,9 @@
-//! What no clause says: engines on plain numbers, each call with ample memory.
+//! Rate engines on plain numbers.
+
 ghost use Rattle.std.specs.Prelude.{◌≡◌};
 ghost use Rattle.dx_serd.specs.Rates.{none_past};
 
-use crate::engine::{Engine, are_lawful};
-use crate::laws::{last_decide, notes_are_kept};
+use dx_serd::{Engine, are_lawful, last_decide, notes_are_kept};
 use std::alloc::Global;
 use std::test::Fail;
 

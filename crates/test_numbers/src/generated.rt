@@ -1,23 +1,13 @@
-//! What no clause says: draws and entries in plain numbers, with ample memory.
+//! Entries made of a number, in plain numbers.
 
 ghost use Rattle.std.specs.Prelude.{◌≡◌, ◌<◌, ◌^◌, IfOk, IsTrue};
 ghost use Rattle.fm_gen.specs.Generated.{are_reports};
 
-use crate::draws::{draw_of, drawn};
-use crate::generator::Gen;
-use crate::laws::entries_are_generated;
 use fm_entry::Entry;
+use fm_gen::{Gen, entries_are_generated};
 use fm_name::{EventName, read_class, read_fmri};
 use std::alloc::Global;
 use std::test::Fail;
-
-#[test]
-fn draws_by_the_recurrence(rt: HostRuntime) {
-    let first = drawn(7);
-    assert_eq!(rt; first, 9_098_160_460_397_411_210);
-    assert_eq!(rt; draw_of(first), 1_059_165_278);
-    assert_eq!(rt; draw_of(drawn(first)), 2_052_263_231);
-}
 
 // an event of two texts
 fn event(alloc: Global, class: &str, path: &str) -> Result<EventName, Fail> {

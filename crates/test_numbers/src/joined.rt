@@ -1,6 +1,6 @@
 //! All candidates of small tables, worked out by hand.
 
-use crate::{JoinFault, Joined, Row, Table, join};
+use ev_join::{JoinFault, Joined, Row, Table, join};
 use fm_bytes::Items;
 use std::alloc::Global;
 use std::process::Abort;
