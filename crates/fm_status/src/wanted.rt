@@ -44,19 +44,30 @@ impl Wanted {
         self.paths.as_slice()
     }
 
-    /// The paths that rows want, which were met row by row. They are sorted when each stands there
-    /// once, so that many suspects of few resources take few comparisons.
+    /// The paths that rows want, which were met row by row.
     pub(crate) fn of(alloc: Global, met: IndexSet<Fmri>) -> Result<Wanted, NoMemory>
         ensures { (rows : List ListEvent)
             → met.keys ≡ insert_all (pointwise nat_eq) [] (flat_map row_paths rows)
             → IfOk result (IsWantedOf rows) }
     {
-        let mut paths: Vec<Fmri> = Vec::from_iter(alloc, met)?;
-        paths.sort_unstable();
-        // drops none, since a set holds no path twice; the proof takes the strict order from it
-        paths.dedup();
+        let paths = sorted_paths(alloc, met)?;
         Ok(Wanted { paths })
     }
+}
+
+/// The paths of a set in path order. They are sorted when each stands there once, so that many
+/// suspects of few resources take few comparisons.
+fn sorted_paths(alloc: Global, met: IndexSet<Fmri>) -> Result<Vec<Fmri>, NoMemory>
+    ensures ascend { IfOk result (λ paths. IsStrictlySortedBy path_cmp paths.items) }
+    ensures wanted { (rows : List ListEvent)
+        → met.keys ≡ insert_all (pointwise nat_eq) [] (flat_map row_paths rows)
+        → IfOk result (λ paths. IsWantedOf rows paths.items) }
+{
+    let mut paths: Vec<Fmri> = Vec::from_iter(alloc, met)?;
+    paths.sort_unstable();
+    // drops none, since a set holds no path twice; the proof takes the strict order from it
+    paths.dedup();
+    Ok(paths)
 }
 
 /// Whether a row of this kind is of a case that is solved and not yet repaired.
