@@ -1,6 +1,7 @@
 -- One more entry.
 use Rattle.std.proofs.Common.{◌≡◌, ℕ, ◌+◌, ◌<◌, ◌≤◌, List, [], ◌++◌, append_assoc, append-nil}
-use Rattle.std.proofs.Common.{ap, sym, ◌∙◌, length, drop, get_or, arith}
+use Rattle.std.proofs.Common.{ap, sym, subst, ◌∙◌, length, drop, get_or, arith}
+use Rattle.std.specs.Prelude.{OnErr, Result, Ok, Err}
 use Rattle.std.proofs.lemmas.List.{at_drop_all, at_drop_more}
 use Rattle.fm_entry.specs.declared.entry.Entry.{Entry}
 use Rattle.fm_dump.specs.declared.options.DumpOptions.{DumpOptions}
@@ -16,6 +17,12 @@ pub extends_more : (old now more new : List ℕ) → Extends old now → new ≡
     → Extends old new
 extends_more old now more new e grown =
     (e.0 ++ more, grown ∙ (ap (λ text. text ++ more) e.1 ∙ append_assoc old e.0 more))
+
+-- after an error a text that is as it was begins with what it began with
+pub extends_still : {T E : Type 0} (r : Result T E) (old now new : List ℕ) → Extends old now
+    → new ≡ now → OnErr r (Extends old new)
+extends_still (Ok value) old now new e same = tt
+extends_still (Err fault) old now new e same = subst (Extends old) (sym same) e
 
 -- what is left of the entries at one of them
 pub left_is : (options : DumpOptions) (first at : ℕ) (entries : List Entry) (entry : Entry)

@@ -114,19 +114,17 @@ fn put_kept(
     entry: &Entry,
     out: &mut Vec<u8>,
 ) -> Result<(), NoMemory>
-    ensures ok { OnOk result
+    ensures { OnOk result
         (out.new.items ≡ out.old.items ++ kept_entry options.now number entry.now) }
-    ensures err { OnErr result (out.new.items ≡ out.old.items) }
 {
     if keeps_entry(options, entry) {
-        let mut lines = Vec::with_capacity(alloc, USUAL_LINE)?;
-        put_entry(alloc, options.full, number, entry, &mut lines)?;
-        out.extend_from_slice(&lines)?;
+        put_entry(alloc, options.full, number, entry, out)?;
     }
     Ok(())
 }
 
-/// Appends the lines of the entries that the options keep.
+/// Appends the lines of the entries that the options keep. Those of an entry are made in a buffer
+/// first, so that all or none of them are there.
 fn put_entries(
     alloc: Global,
     first: u64,
@@ -139,8 +137,11 @@ fn put_entries(
         (out.new.items ≡ out.old.items ++ errors_text options.now first entries.now) }
     ensures err { OnErr result (Extends out.old.items out.new.items) }
 {
+    let mut lines = Vec::with_capacity(alloc, USUAL_LINE)?;
     'entries: for (at, entry) in entries.iter().enumerate() {
-        put_kept(alloc, options, first + at as u64, entry, out)?;
+        lines.clear();
+        put_kept(alloc, options, first + at as u64, entry, &mut lines)?;
+        out.extend_from_slice(&lines)?;
     }
     Ok(())
 }
