@@ -1,8 +1,8 @@
-//! The program `test_drawn`: a script about diagnosis modules of rules that are drawn, from standard
-//! input, and what each of its lines comes to, to standard output.
+//! The program `test_drawn`: a script about diagnosis modules of rules that are drawn, from
+//! standard input, and what each of its lines comes to, to standard output.
 //!
-//! What a module says of drawn entries is compared with a second opinion, `plain`, which was written
-//! from the definitions alone and tries all sets of events for stories.
+//! What a module says of drawn entries is compared with a second opinion, `plain`, which was
+//! written from the definitions alone and tries all sets of events for stories.
 #![tactic(auto)]
 
 mod drawn;
