@@ -56,6 +56,12 @@ pub record AreMarked (marks : List Bool) (items : List ℕ) : Type 0 where
   pub marked : (e : ℕ) → is_member items e ≡ true → has_mark marks e ≡ true
   pub count : length items ≤ count_by (λ b. b) marks
 
+-- the numbers from a place on stand in another order, and else nothing has changed
+pub record IsSortedFrom (at : ℕ) (old new : List ℕ) : Type 0 where
+  pub count : length new ≡ length old
+  pub front : (i : ℕ) → i < at → slice_index new i ≡ slice_index old i
+  pub same : (e : ℕ) → is_member new e ≡ is_member old e
+
 -- a list with more at its end
 pub record Extends (old new : List ℕ) : Type 0 where
   pub more : List ℕ

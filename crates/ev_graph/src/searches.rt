@@ -6,6 +6,7 @@ ghost use Rattle.std.specs.Prelude.{IfOk, OnOk};
 ghost use Rattle.ev_graph.specs.Sets.{is_member};
 ghost use Rattle.ev_graph.specs.Table.{row_at, AreRowsBelow};
 ghost use Rattle.ev_graph.specs.Reached.{AddsNodes, TakesRow, TakesRows, CanSearch, IsReach};
+ghost use Rattle.ev_graph.specs.Reached.{IsSortedFrom};
 
 use crate::rows::Rows;
 use fm_bytes::NoMemory;
@@ -82,6 +83,23 @@ impl Marked {
         self.marks[number as usize] = true;
         Ok(true)
     }
+
+    /// Puts the numbers from a place on in ascending order.
+    fn sort_from(&mut self, at: usize)
+        requires { at ≤ length self.old.items }
+        ensures sorted { IsSortedFrom at self.old.items self.new.items }
+        ensures size { self.new.size ≡ self.old.size }
+    {
+        sort_tail(self.items.as_mut_slice(), at);
+    }
+}
+
+fn sort_tail(numbers: &mut [u32], at: usize)
+    requires { at ≤ length numbers.old }
+    ensures { IsSortedFrom at numbers.old numbers.new }
+{
+    let (_, tail) = numbers.split_at_mut(at);
+    tail.sort_unstable();
 }
 
 fn note_each(numbers: &[u32], marked: &mut Marked) -> Result<(), NoMemory>
@@ -135,8 +153,23 @@ fn take_rows(
     Ok(())
 }
 
+/// Puts the nodes from a place on in ascending order, unless those up to a later place stand so
+/// already, and answers the place up to which they do.
+fn sort_wave(nodes: &mut Marked, at: usize, sorted: usize) -> usize
+    requires { at ≤ length nodes.old.items }
+    ensures sorted { IsSortedFrom at nodes.old.items nodes.new.items }
+    ensures size { nodes.new.size ≡ nodes.old.size }
+{
+    if at < sorted {
+        return sorted;
+    }
+    nodes.sort_from(at);
+    nodes.as_slice().len()
+}
+
 /// Notes the nodes that these starts come to along the lists, by no step or more, and the places of
-/// their rows. It takes the time of those rows.
+/// their rows. What is as many steps off is taken in ascending order, so that rows are read as they
+/// stand in memory: it takes the time of those rows, and that of sorting the nodes.
 pub fn search(
     index: &Rows,
     rows: &Rows,
@@ -152,7 +185,9 @@ pub fn search(
 {
     note_each(starts, nodes)?;
     let mut at = 0;
+    let mut sorted = 0;
     while at < nodes.as_slice().len() {
+        sorted = sort_wave(nodes, at, sorted);
         let node = nodes.as_slice()[at];
         take_rows(index.row(node), rows, nodes, places)?;
         at += 1;

@@ -1,9 +1,9 @@
 // What a graph answers, and marks.
-use crate::fault::ScriptFault;
-use crate::words::{first_part, first_word, number_in, numbers_text};
+use crate::words::{first_part, numbers_text};
 use ev_graph::{Graph, Incidence, Marked};
 use ev_small::name_at;
 use std::alloc::Global;
+use test_words::{ScriptFault, first_word, small_in};
 
 /// How many nodes, engines and instances there are.
 fn sizes(alloc: Global, graph: &Graph) -> Result<String, ScriptFault> {
@@ -17,7 +17,7 @@ fn sizes(alloc: Global, graph: &Graph) -> Result<String, ScriptFault> {
 /// The number of the node of a class at the chassis of a number.
 fn find(alloc: Global, graph: &Graph, words: &str) -> Result<String, ScriptFault> {
     let (class, chassis) = first_word(words);
-    match name_at(alloc, class, number_in(chassis)?)? {
+    match name_at(alloc, class, small_in(chassis)?)? {
         Some(name) => found_text(alloc, graph.find(&name)),
         None => Err(ScriptFault::Words),
     }
@@ -65,8 +65,8 @@ fn ask_graph(alloc: Global, graph: &Graph, word: &str, rest: &str) -> Result<Str
     match word {
         "sizes" => sizes(alloc, graph),
         "find" => find(alloc, graph, rest),
-        "rank" => found_text(alloc, rank(graph, number_in(rest)?)),
-        _ => ask_table(alloc, graph.incidence(), word, number_in(rest)?),
+        "rank" => found_text(alloc, rank(graph, small_in(rest)?)),
+        _ => ask_table(alloc, graph.incidence(), word, small_in(rest)?),
     }
 }
 
@@ -93,8 +93,8 @@ fn note(marked: &mut Marked, number: u32) -> Result<bool, ScriptFault> {
 fn mark(marked: &mut Marked, words: &str) -> Result<bool, ScriptFault> {
     let (word, number) = first_word(words);
     match word {
-        "note" => note(marked, number_in(number)?),
-        "has" => Ok(marked.has(number_in(number)?)),
+        "note" => note(marked, small_in(number)?),
+        "has" => Ok(marked.has(small_in(number)?)),
         _ => Err(ScriptFault::Words),
     }
 }
@@ -102,7 +102,7 @@ fn mark(marked: &mut Marked, words: &str) -> Result<bool, ScriptFault> {
 /// What marks of numbers below a size answer, one word after the other, and all that were put.
 pub fn marks(alloc: Global, words: &str) -> Result<String, ScriptFault> {
     let (size, rest) = first_part(words);
-    let mut marked = Marked::new(alloc, number_in(size)? as usize)?;
+    let mut marked = Marked::new(alloc, small_in(size)? as usize)?;
     let mut line = String::new(alloc);
     for each in rest.split(',') {
         let answer = mark(&mut marked, each.trim())?;

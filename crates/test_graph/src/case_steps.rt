@@ -1,9 +1,9 @@
 // What a case is opened with, and the steps that it takes.
-use crate::fault::ScriptFault;
-use crate::words::{first_word, links_in, long_in, longs_in, number_in, numbers_in};
+use crate::words::{links_in, longs_in, numbers_in};
 use ev_graph::Link;
 use fm_entry::Broken;
 use std::alloc::Global;
+use test_words::{ScriptFault, first_word, number_in, small_in};
 
 /// A first report: its node, when it comes, and the links that it breaks.
 #[derive(Drop)]
@@ -41,8 +41,8 @@ pub fn opening_in(alloc: Global, words: &str) -> Result<Opening, ScriptFault> {
     let (node, rest) = first_word(words);
     let (moment, links) = first_word(rest);
     Ok(Opening {
-        node: number_in(node)?,
-        moment: long_in(moment)?,
+        node: small_in(node)?,
+        moment: number_in(moment)?,
         broken: links_in(alloc, links)?,
     })
 }
@@ -52,8 +52,8 @@ fn joining_in(alloc: Global, words: &str) -> Result<CaseStep, ScriptFault> {
     let (node, rest) = first_word(words);
     let (entry, links) = first_word(rest);
     Ok(CaseStep::Join {
-        node: number_in(node)?,
-        entry: long_in(entry)?,
+        node: small_in(node)?,
+        entry: number_in(entry)?,
         broken: links_in(alloc, links)?,
     })
 }
@@ -62,7 +62,7 @@ fn joining_in(alloc: Global, words: &str) -> Result<CaseStep, ScriptFault> {
 fn step_in(alloc: Global, words: &str) -> Result<CaseStep, ScriptFault> {
     let (word, rest) = first_word(words);
     match word {
-        "move" => Ok(CaseStep::Move(long_in(rest)?)),
+        "move" => Ok(CaseStep::Move(number_in(rest)?)),
         "join" => joining_in(alloc, rest),
         "finish" => Ok(CaseStep::Finish),
         _ => Err(ScriptFault::Words),
@@ -102,7 +102,7 @@ pub fn kept_in(
     Ok(Kept {
         number: 3,
         opened: 10,
-        moment: long_in(moment)?,
+        moment: number_in(moment)?,
         entries: longs_in(alloc, "7 8 9")?,
         observed: numbers_in(alloc, observed)?,
         broken: kept_links(alloc, &links)?,

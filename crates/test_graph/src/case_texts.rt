@@ -1,8 +1,8 @@
 // What is told of a case.
-use crate::fault::ScriptFault;
 use crate::words::put_numbers;
 use ev_graph::Link;
 use std::alloc::{AllocError, Global};
+use test_words::ScriptFault;
 
 /// What a case comes to.
 #[derive(Drop)]

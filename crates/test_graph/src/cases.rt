@@ -4,11 +4,11 @@ ghost use Rattle.dx_case.specs.Cases.{IsCaseOf};
 
 use crate::case_steps::{CaseStep, Kept, Opening, kept_in, kept_links, opening_in, steps_in};
 use crate::case_texts::{CaseEnd, CaseView, case_text};
-use crate::fault::ScriptFault;
 use crate::words::first_part;
 use dx_case::{Case, CaseFacts, Outcome};
 use ev_graph::{Graph, Link, is_report_node};
 use std::alloc::Global;
+use test_words::ScriptFault;
 
 /// A case that a report opens, by the entry 7.
 pub fn opened(alloc: Global, graph: &Graph, opening: &Opening) -> Result<Case, ScriptFault>

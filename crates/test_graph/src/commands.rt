@@ -4,19 +4,18 @@ use crate::cases::{case, copy, kept};
 use crate::drawn_cases::drawn_cases;
 use crate::drawn_lives::drawn_lives;
 use crate::explained::{drawn_stories, explain_less, explain_root};
-use crate::fault::ScriptFault;
 use crate::graphs::GraphLines;
 use crate::live_sets::live;
 use crate::stories::{story, story_less};
-use crate::words::{first_word, number_in};
 use ev_graph::Graph;
 use std::alloc::Global;
+use test_words::{ScriptFault, first_word, small_in};
 
 /// A command on drawn graphs, `SEED COUNT`.
 fn answer_of_drawn(alloc: Global, word: &str, rest: &str) -> Result<String, ScriptFault> {
     let (seed, count) = first_word(rest);
-    let seed = number_in(seed)?;
-    let count = number_in(count)?;
+    let seed = small_in(seed)?;
+    let count = small_in(count)?;
     match word {
         "drawn_stories" => drawn_stories(alloc, seed, count),
         "drawn_shrinks" => drawn_lives(alloc, seed, count, false),

@@ -1,10 +1,10 @@
 // Small graphs that are drawn from a number, and a search over all sets of their nodes.
-use crate::fault::ScriptFault;
 use crate::graphs::GraphLines;
 use crate::lines::InstanceLine;
 use crate::stories::is_story_less;
 use ev_graph::{Graph, Link, NodeKind};
 use std::alloc::Global;
+use test_words::ScriptFault;
 
 /// The bits of the reports. The nodes 0 to 2 are reports, 3 to 5 are inner, 6 and 7 roots.
 pub const REPORTS: u32 = 7;

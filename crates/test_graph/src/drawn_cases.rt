@@ -5,11 +5,11 @@ use crate::case_steps::{CaseStep, Opening};
 use crate::case_texts::case_text;
 use crate::cases::{opened, told, told_again, told_of_copy, turn};
 use crate::drawn::{Draws, bit_of, drawn_graph};
-use crate::fault::ScriptFault;
 use crate::plain::{Plain, Searched};
 use dx_case::Case;
 use ev_graph::{Graph, Link};
 use std::alloc::Global;
+use test_words::ScriptFault;
 
 /// How often a case waited, what cases came to, and how often one was other than the search says.
 #[derive(Clone, Copy, Drop)]

@@ -2,13 +2,13 @@
 use crate::drawn::{
     Draws, REPORTS, bit_of, bits_of, drawn_graph, numbers_of, stories_of, union_of,
 };
-use crate::fault::ScriptFault;
 use crate::stories::is_own_story;
-use crate::words::{first_part, links_in, number_in, numbers_in, numbers_text};
+use crate::words::{first_part, links_in, numbers_in, numbers_text};
 use dx_explain::{Scratch, explain, explain_in};
 use dx_story::are_links;
 use ev_graph::{Graph, Link, ascends};
 use std::alloc::Global;
+use test_words::{ScriptFault, small_in};
 
 /// What `explain` answers, where what is allowed ascends.
 fn explained(
@@ -48,7 +48,7 @@ fn story_text(
 pub fn explain_root(alloc: Global, graph: &Graph, words: &str) -> Result<String, ScriptFault> {
     let (root, rest) = first_part(words);
     let (seen, allowed) = first_part(rest);
-    let root = number_in(root)?;
+    let root = small_in(root)?;
     let seen = numbers_in(alloc, seen)?;
     let allowed = numbers_in(alloc, allowed)?;
     let found = explained(alloc, graph, root, &seen, &allowed)?;
@@ -93,7 +93,7 @@ pub fn explain_less(alloc: Global, graph: &Graph, words: &str) -> Result<String,
     let (root, rest) = first_part(rest);
     let (seen, allowed) = first_part(rest);
     let less = links_in(alloc, links)?;
-    let root = number_in(root)?;
+    let root = small_in(root)?;
     let seen = numbers_in(alloc, seen)?;
     let allowed = numbers_in(alloc, allowed)?;
     if !are_links(graph, &less) {

@@ -1,10 +1,9 @@
 // Graphs that a script says, and what their making answers.
-use crate::fault::ScriptFault;
 use crate::lines::{EngineLine, InstanceLine, engine_in, instance_in, kind_in, kinds_in};
-use crate::words::{first_word, number_in};
 use ev_graph::{EngineSpec, Graph, GraphFault, Instance, Node, NodeKind};
 use ev_small::{node_at, nodes_of};
 use std::alloc::Global;
+use test_words::{ScriptFault, first_word, small_in};
 
 /// The kinds of the nodes, the engines and the instances of a graph.
 #[derive(Drop)]
@@ -109,7 +108,7 @@ impl GraphParts {
     /// Puts another instance in the place of one, `PLACE CAUSE .. > EFFECT .., N/K`.
     fn change_instance(&mut self, alloc: Global, words: &str) -> Result<(), ScriptFault> {
         let (place, rest) = first_word(words);
-        let place = number_in(place)? as usize;
+        let place = small_in(place)? as usize;
         let other = instance_in(alloc, rest)?.instance(alloc)?;
         *self.instances.get_mut(place).ok_or(ScriptFault::Words)? = other;
         Ok(())
@@ -118,7 +117,7 @@ impl GraphParts {
     /// Puts one more node at the end, `CHASSIS KIND`.
     fn add_node(&mut self, alloc: Global, words: &str) -> Result<(), ScriptFault> {
         let (chassis, kind) = first_word(words);
-        let node = node_at(alloc, number_in(chassis)?, kind_in(kind)?)?;
+        let node = node_at(alloc, small_in(chassis)?, kind_in(kind)?)?;
         self.nodes.push(node.ok_or(ScriptFault::Words)?)?;
         Ok(())
     }

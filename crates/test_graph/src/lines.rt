@@ -1,9 +1,9 @@
 // The lines of a script that say a graph: the kinds of nodes, engines and instances.
-use crate::fault::ScriptFault;
-use crate::words::{first_part, first_word, long_in, number_in, numbers_in, pair_in};
+use crate::words::{first_part, numbers_in, pair_in};
 use ev_graph::{EngineSpec, Instance, NodeKind};
 use ev_small::{Wire, name_at};
 use std::alloc::Global;
+use test_words::{ScriptFault, first_word, number_in, small_in};
 
 /// An engine.
 #[derive(Clone, Copy, Drop)]
@@ -27,7 +27,7 @@ fn number_or(word: &str, other: u32) -> Result<u32, ScriptFault> {
     if word.is_empty() {
         Ok(other)
     } else {
-        number_in(word)
+        small_in(word)
     }
 }
 
@@ -36,7 +36,7 @@ fn engine_of(word: &str) -> Result<Option<u32>, ScriptFault> {
     if word.is_empty() {
         Ok(None)
     } else {
-        Ok(Some(number_in(word)?))
+        Ok(Some(small_in(word)?))
     }
 }
 
@@ -46,7 +46,7 @@ pub fn kind_in(words: &str) -> Result<NodeKind, ScriptFault> {
     let (word, rest) = first_word(words);
     match word {
         "report" => Ok(NodeKind::Report {
-            within: long_in(rest)?,
+            within: number_in(rest)?,
         }),
         "inner" => Ok(NodeKind::Inner),
         "fault" => Ok(NodeKind::Fault {
@@ -78,9 +78,9 @@ pub fn engine_in(words: &str) -> Result<EngineLine, ScriptFault> {
     let (n, rest) = first_word(words);
     let (t, trip) = first_word(rest);
     Ok(EngineLine {
-        n: number_in(n)?,
-        t: long_in(t)?,
-        trip: number_in(trip)?,
+        n: small_in(n)?,
+        t: number_in(t)?,
+        trip: small_in(trip)?,
     })
 }
 

@@ -4,13 +4,13 @@ ghost use Rattle.ev_graph.specs.Kinds.{is_root_node};
 ghost use Rattle.dx_live.specs.Live.{IsLiveOf};
 
 use crate::drawn::{bit_of, numbers_of};
-use crate::fault::ScriptFault;
-use crate::words::{first_part, first_word, number_in, numbers_text, pair_in};
+use crate::words::{first_part, numbers_text, pair_in};
 use dx_live::{Live, Steps};
 use ev_graph::{Graph, Link, is_report_node, is_root_node};
 use std::alloc::Global;
 use std::marker::Brand;
 use std::sync::ledger::{Blank, Ledger};
+use test_words::{ScriptFault, first_word, small_in};
 
 /// What happens to a live set.
 #[derive(Clone, Copy, Drop)]
@@ -151,9 +151,9 @@ fn change_in(words: &str) -> Result<Change, ScriptFault> {
     let (word, rest) = first_word(words);
     match word {
         "stay" => Ok(Change::Stay),
-        "lose" => Ok(Change::Lose(number_in(rest)?)),
+        "lose" => Ok(Change::Lose(small_in(rest)?)),
         "cut" => Ok(Change::Cut(link_in(rest)?)),
-        "lose_in_copy" => Ok(Change::LoseInCopy(number_in(rest)?)),
+        "lose_in_copy" => Ok(Change::LoseInCopy(small_in(rest)?)),
         _ => Err(ScriptFault::Words),
     }
 }
@@ -184,6 +184,6 @@ fn sets_text(alloc: Global, sets: &[u32]) -> Result<String, ScriptFault> {
 pub fn live(alloc: Global, graph: &Graph, words: &str) -> Result<String, ScriptFault> {
     let (root, rest) = first_part(words);
     let changes = changes_in(alloc, rest)?;
-    let sets = live_sets(alloc, graph, number_in(root)?, &changes)?;
+    let sets = live_sets(alloc, graph, small_in(root)?, &changes)?;
     sets_text(alloc, &sets)
 }

@@ -17,7 +17,6 @@ mod drawn;
 mod drawn_cases;
 mod drawn_lives;
 mod explained;
-mod fault;
 mod graphs;
 mod lines;
 mod live_sets;
@@ -26,9 +25,9 @@ mod stories;
 mod words;
 
 use crate::commands::answer;
-use crate::fault::ScriptFault;
 use crate::graphs::GraphLines;
 use std::io;
+use test_words::ScriptFault;
 
 /// Want of memory, as `main` answers it.
 fn out_of_memory() -> io::Error {
@@ -49,8 +48,8 @@ fn main(rt: HostRuntime) -> io::Result<()> {
         match answer(rt.alloc(), &mut graph, line) {
             Ok(Some(answer)) => println!(rt; "{line}\n  {answer}")?,
             Ok(None) => println!(rt; "{line}")?,
-            Err(ScriptFault::Words) => println!(rt; "{line}\n  no command")?,
             Err(ScriptFault::NoMemory) => return Err(out_of_memory()),
+            Err(_) => println!(rt; "{line}\n  no command")?,
         }
     }
     Ok(())

@@ -3,9 +3,9 @@
 use crate::case_steps::{CaseStep, Opening};
 use crate::case_texts::{CaseEnd, CaseView};
 use crate::drawn::{REPORTS, bit_of, numbers_of, stories_of};
-use crate::fault::ScriptFault;
 use ev_graph::{Graph, Link, NodeKind};
 use std::alloc::Global;
+use test_words::ScriptFault;
 
 /// A case: its reports as bits, and the broken links in order.
 #[derive(Drop)]

@@ -1,9 +1,9 @@
 // Which sets of nodes are stories.
-use crate::fault::ScriptFault;
-use crate::words::{first_part, links_in, number_in, numbers_in};
+use crate::words::{first_part, links_in, numbers_in};
 use dx_story::{are_links, check_story, check_story_less};
 use ev_graph::{Graph, Link, is_report_node};
 use std::alloc::Global;
+use test_words::{ScriptFault, small_in};
 
 /// Whether the links are some of the graph's, and less these the set is a story.
 pub fn is_story_less(graph: &Graph, less: &[Link], root: u32, seen: &[u32], story: &[u32]) -> bool {
@@ -46,7 +46,7 @@ pub fn story(alloc: Global, graph: &Graph, words: &str) -> Result<String, Script
     let (seen, nodes) = first_part(rest);
     let seen = numbers_in(alloc, seen)?;
     let nodes = numbers_in(alloc, nodes)?;
-    let answer = check_story(graph, number_in(root)?, &seen, &nodes);
+    let answer = check_story(graph, small_in(root)?, &seen, &nodes);
     Ok(format!(in alloc; "{answer}")?)
 }
 
@@ -61,6 +61,6 @@ pub fn story_less(alloc: Global, graph: &Graph, words: &str) -> Result<String, S
     if !are_links(graph, &less) {
         return Ok(String::from_str(alloc, "no links")?);
     }
-    let answer = check_story_less(graph, &less, number_in(root)?, &seen, &nodes);
+    let answer = check_story_less(graph, &less, small_in(root)?, &seen, &nodes);
     Ok(format!(in alloc; "{answer}")?)
 }

@@ -1,31 +1,7 @@
 // The words of a line, and lists of numbers and links as text.
-use crate::fault::ScriptFault;
 use ev_graph::Link;
 use std::alloc::{AllocError, Global};
-
-/// The number that a word says.
-pub fn number_in(word: &str) -> Result<u32, ScriptFault> {
-    match word.parse::<u32>() {
-        Ok(number) => Ok(number),
-        Err(_) => Err(ScriptFault::Words),
-    }
-}
-
-/// The same of a number of 64 bits.
-pub fn long_in(word: &str) -> Result<u64, ScriptFault> {
-    match word.parse::<u64>() {
-        Ok(number) => Ok(number),
-        Err(_) => Err(ScriptFault::Words),
-    }
-}
-
-/// The first word of a text, and what is behind it.
-pub fn first_word(text: &str) -> (&str, &str) {
-    match text.split_once(' ') {
-        Some(both) => both,
-        None => (text, ""),
-    }
-}
+use test_words::{ScriptFault, number_in, small_in};
 
 /// The part of a text up to its first comma, and what is behind it, both without blanks around.
 pub fn first_part(text: &str) -> (&str, &str) {
@@ -38,14 +14,14 @@ pub fn first_part(text: &str) -> (&str, &str) {
 /// The two numbers of a text with a `/` between them.
 pub fn pair_in(text: &str) -> Result<(u32, u32), ScriptFault> {
     let (first, second) = text.split_once('/').ok_or(ScriptFault::Words)?;
-    Ok((number_in(first)?, number_in(second)?))
+    Ok((small_in(first)?, small_in(second)?))
 }
 
 /// The numbers of a text.
 pub fn numbers_in(alloc: Global, text: &str) -> Result<Vec<u32>, ScriptFault> {
     let mut numbers = Vec::new(alloc);
     for word in text.split_whitespace() {
-        numbers.push(number_in(word)?)?;
+        numbers.push(small_in(word)?)?;
     }
     Ok(numbers)
 }
@@ -54,7 +30,7 @@ pub fn numbers_in(alloc: Global, text: &str) -> Result<Vec<u32>, ScriptFault> {
 pub fn longs_in(alloc: Global, text: &str) -> Result<Vec<u64>, ScriptFault> {
     let mut numbers = Vec::new(alloc);
     for word in text.split_whitespace() {
-        numbers.push(long_in(word)?)?;
+        numbers.push(number_in(word)?)?;
     }
     Ok(numbers)
 }

@@ -1,11 +1,11 @@
 // The distances and the first cycles of small drawings.
 ghost use Rattle.std.specs.Prelude.{◌≡◌, ◌<◌, ◌≤◌, ◌∷◌, ◌^◌, [], length, IfOk};
 
-use crate::fault::ScriptFault;
-use crate::words::{first_word, number_in, numbers_text, two_in};
+use crate::words::{numbers_text, two_in};
 use ev_ways::Arrows;
 use fm_bytes::{Items, NoMemory};
 use std::alloc::{AllocError, Global};
+use test_words::{ScriptFault, first_word, small_in};
 
 /// A link from a node to a node.
 #[derive(Clone, Copy, Drop)]
@@ -65,7 +65,7 @@ fn cycle_of(alloc: Global, nodes: u32, steps: &[Step]) -> Result<String, ScriptF
 pub fn cycle(alloc: Global, words: &str) -> Result<String, ScriptFault> {
     let (nodes, links) = words.split_once(',').ok_or(ScriptFault::Words)?;
     let steps = steps_in(alloc, links)?;
-    cycle_of(alloc, number_in(nodes)?, &steps)
+    cycle_of(alloc, small_in(nodes)?, &steps)
 }
 
 /// Puts each distance, or `-`.

@@ -1,9 +1,9 @@
 // What checked files have.
 use crate::checks::checked;
-use crate::fault::ScriptFault;
 use ev_check::{Checked, DeclKind, EventSpec, PropSpec, SerdSpec};
 use ev_tree::Count;
 use std::alloc::{AllocError, Global};
+use test_words::ScriptFault;
 
 /// The rate of a root, and whether it is retired.
 fn root_text(alloc: Global, word: &str, fit: u32, retire: bool) -> Result<String, AllocError> {

@@ -1,10 +1,10 @@
 // What the checks say of texts, of events in a ring, and of a name that no text has.
-use crate::fault::ScriptFault;
 use crate::trees::tree_of;
 use ev_check::{CheckFault, CheckKind, Checked, check};
 use ev_tree::{Declared, EventAttrs, Names, Statement, Statements, Tree, TreeText};
 use fm_name::read_class;
 use std::alloc::{AllocError, Global};
+use test_words::ScriptFault;
 
 /// The word of a kind.
 pub fn check_word(kind: &CheckKind) -> &'static str {

@@ -5,7 +5,6 @@ use crate::checks::{checks, name, ring};
 use crate::compiled::{alter, beginnings, read, write};
 use crate::conditions::{compare, cond_holds};
 use crate::explained::{explain, explain_alone};
-use crate::fault::ScriptFault;
 use crate::guards::{breaks, guarded};
 use crate::instances::instances;
 use crate::listed::list;
@@ -17,8 +16,8 @@ use crate::texts::bytes_in;
 use crate::tokens::tokens;
 use crate::topologies::{ask_topo, names, topo};
 use crate::trees::tree;
-use crate::words::{first_word, number_in};
 use std::alloc::Global;
+use test_words::{ScriptFault, first_word, small_in};
 
 /// A command on what rules come to over some parts.
 fn answer_of_rules(
@@ -78,7 +77,7 @@ fn answer_of_text(
         "instances" => instances(alloc, &settings.rules(alloc, rest)?, &settings.parts),
         "topology" => topo(alloc, &bytes_in(alloc, rest)?),
         "sources" => sources(alloc, settings, rest),
-        "ring" => ring(alloc, number_in(rest)?),
+        "ring" => ring(alloc, small_in(rest)?),
         "name" => name(alloc, rest),
         "names" => names(alloc, rest),
         _ => answer_of_file(alloc, settings, word, rest),

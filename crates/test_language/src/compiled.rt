@@ -1,11 +1,10 @@
 // The bytes of compiled files, read, written, cut and altered.
-use crate::fault::ScriptFault;
 use crate::instances::put_instances;
 use crate::texts::bytes_in;
-use crate::words::{first_word, number_in};
 use ev_file::{Made, read_file, write_file};
 use ev_graph::EngineSpec;
 use std::alloc::{AllocError, Global};
+use test_words::{ScriptFault, first_word, small_in};
 
 /// What bytes begin with: a file, and how long it is.
 fn file_in(alloc: Global, bytes: &[u8]) -> Result<(Made, usize), ScriptFault> {
@@ -88,7 +87,7 @@ pub fn beginnings(alloc: Global, bytes: &[u8]) -> Result<String, ScriptFault> {
 /// What the bytes read as where one is altered, `PLACE BYTE`.
 pub fn alter(alloc: Global, bytes: &[u8], words: &str) -> Result<String, ScriptFault> {
     let (place, byte) = first_word(words);
-    let place = number_in(place)? as usize;
+    let place = small_in(place)? as usize;
     let Ok(byte) = byte.parse::<u8>() else {
         return Err(ScriptFault::Words);
     };

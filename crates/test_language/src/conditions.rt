@@ -1,5 +1,4 @@
 // Conditions of rules, asked at the path `hc:///cpu=1` with the name `cpu` bound to 7.
-use crate::fault::ScriptFault;
 use crate::parts::{path_in, topology};
 use crate::settings::Settings;
 use crate::trees::tree_of;
@@ -8,6 +7,7 @@ use ev_expr::{Bound, Prop, holds, holds_for};
 use ev_tree::{Cond, Statement, Tree, TreeText};
 use fm_topo::TopoValue;
 use std::alloc::Global;
+use test_words::ScriptFault;
 
 /// The rule whose first pattern has the condition of a text.
 fn rule_of(alloc: Global, cond: &str) -> Result<Tree, ScriptFault> {

@@ -1,9 +1,7 @@
 // What is put of the row of a case at the path `hc:///chassis=0/cpu=1`.
 use crate::checks::checked;
-use crate::fault::ScriptFault;
 use crate::parts::{path_in, topology};
 use crate::texts::shown_bytes;
-use crate::words::number_in;
 use ev_graph::Graph;
 use ev_inst::instantiate;
 use fm_entry::{
@@ -12,6 +10,7 @@ use fm_entry::{
 use fm_explain::put_explained;
 use fm_name::{Class, EventName, Fmri, read_class};
 use std::alloc::Global;
+use test_words::{ScriptFault, small_in};
 
 /// The class of a text that has one.
 fn class_in(alloc: Global, text: &str) -> Result<Class, ScriptFault> {
@@ -59,8 +58,8 @@ fn broken(alloc: Global, links: &str) -> Result<BrokenLinks, ScriptFault> {
     let mut list = Vec::new(alloc);
     for link in links.split_whitespace() {
         let (instance, effect) = link.split_once('/').ok_or(ScriptFault::Words)?;
-        let instance = number_in(instance)?;
-        let effect = number_in(effect)?;
+        let instance = small_in(instance)?;
+        let effect = small_in(effect)?;
         list.push(Broken { instance, effect })?;
     }
     Ok(BrokenLinks::new(list))

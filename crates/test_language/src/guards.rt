@@ -1,13 +1,13 @@
 // Guarded links, and those that payloads break.
 use crate::checks::checked;
 use crate::conditions::bank_props;
-use crate::fault::ScriptFault;
 use crate::parts::topology;
 use crate::words::{numbers_text, two_in};
 use ev_check::Checked;
 use ev_inst::{Guards, instantiate, make_guards};
 use fm_topo::Topo;
 use std::alloc::Global;
+use test_words::ScriptFault;
 
 /// The guards of a rule file over some parts.
 fn guards_of(alloc: Global, file: &Checked, topo: Topo) -> Result<Guards, ScriptFault> {

@@ -1,10 +1,10 @@
 // What rules come to over some parts, as a line.
 use crate::checks::checked;
-use crate::fault::ScriptFault;
 use crate::parts::topology;
 use ev_graph::Instance;
 use ev_inst::{InstFault, Made, instantiate};
 use std::alloc::{AllocError, Global};
+use test_words::ScriptFault;
 
 /// Puts some numbers, with a blank behind each.
 fn put_numbers(numbers: &[u32], line: &mut String) -> Result<(), AllocError> {

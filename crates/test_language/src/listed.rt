@@ -1,8 +1,8 @@
 // The lines of compiled files.
-use crate::fault::ScriptFault;
 use crate::texts::{push_text, shown_bytes};
 use ev_listing::put_files;
 use std::alloc::Global;
+use test_words::ScriptFault;
 
 /// The lines of the files in these bytes with a text behind them, and where no file begins.
 pub fn list(alloc: Global, file: &[u8], behind: &str) -> Result<String, ScriptFault> {

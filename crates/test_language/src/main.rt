@@ -14,7 +14,6 @@ mod commands;
 mod compiled;
 mod conditions;
 mod explained;
-mod fault;
 mod guards;
 mod instances;
 mod listed;
@@ -30,9 +29,9 @@ mod trees;
 mod words;
 
 use crate::commands::answer;
-use crate::fault::ScriptFault;
 use crate::settings::Settings;
 use std::io;
+use test_words::ScriptFault;
 
 /// Want of memory, as `main` answers it.
 fn out_of_memory() -> io::Error {
@@ -53,8 +52,8 @@ fn main(rt: HostRuntime) -> io::Result<()> {
         match answer(rt.alloc(), &mut settings, line) {
             Ok(Some(answer)) => println!(rt; "{line}\n  {answer}")?,
             Ok(None) => println!(rt; "{line}")?,
-            Err(ScriptFault::Words) => println!(rt; "{line}\n  no command")?,
             Err(ScriptFault::NoMemory) => return Err(out_of_memory()),
+            Err(_) => println!(rt; "{line}\n  no command")?,
         }
     }
     Ok(())

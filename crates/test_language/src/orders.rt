@@ -2,21 +2,20 @@
 ghost use Rattle.std.specs.Prelude.{IfOk};
 ghost use Rattle.ev_join.specs.Tables.{RisesFrom};
 
-use crate::fault::ScriptFault;
-use crate::words::{first_word, number_in};
 use ev_join::{Table, search_order};
 use std::alloc::Global;
+use test_words::{ScriptFault, first_word, small_in};
 
 /// The columns of a text: one number, or two that ascend.
 fn columns_in(alloc: Global, text: &str) -> Result<Vec<u32>, ScriptFault>
     ensures { IfOk result (λ columns. RisesFrom 0 columns.items) }
 {
     let (first, second) = first_word(text);
-    let first = number_in(first)?;
+    let first = small_in(first)?;
     if second.is_empty() {
         return Ok(Vec::from_array(alloc, [first])?);
     }
-    let second = number_in(second)?;
+    let second = small_in(second)?;
     if second <= first {
         return Err(ScriptFault::Words);
     }
@@ -54,6 +53,6 @@ fn places_text(alloc: Global, places: &[usize]) -> Result<String, ScriptFault> {
 pub fn ordered_iterators(alloc: Global, words: &str) -> Result<String, ScriptFault> {
     let (count, columns) = words.split_once(',').ok_or(ScriptFault::Words)?;
     let tables = tables_in(alloc, columns)?;
-    let order = search_order(alloc, &tables, number_in(count)? as usize)?;
+    let order = search_order(alloc, &tables, small_in(count)? as usize)?;
     places_text(alloc, &order)
 }

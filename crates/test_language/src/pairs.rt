@@ -1,8 +1,8 @@
 // What rules come to over drawn parts, compared with all pairs tried one by one.
-use crate::fault::ScriptFault;
 use crate::instances::instances;
 use crate::words::two_in;
 use std::alloc::{AllocError, Global};
+use test_words::ScriptFault;
 
 const SIDE: u32 = 4;
 

@@ -1,9 +1,9 @@
 // Topologies of scripts, and paths.
-use crate::fault::ScriptFault;
 use crate::words::two_in;
 use fm_name::{Fmri, read_fmri};
 use fm_topo::{Topo, TopoFault, read_topo};
 use std::alloc::{AllocError, Global};
+use test_words::ScriptFault;
 
 /// The topology of a text that has one.
 pub fn topology(alloc: Global, text: &[u8]) -> Result<Topo, ScriptFault> {

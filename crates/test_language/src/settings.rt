@@ -1,9 +1,9 @@
 // What the commands of a script have in common: texts that stay from line to line.
-use crate::fault::ScriptFault;
 use crate::parts::machine;
 use crate::texts::{bytes_in, push_text};
 use crate::words::numbers_in;
 use std::alloc::Global;
+use test_words::ScriptFault;
 
 /// What stands in front of each text of rules, a topology, two rule files, a compiled file, and the
 /// numbers of a payload.

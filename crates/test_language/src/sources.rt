@@ -1,11 +1,10 @@
 // Rule files and a topology, as they are read from sources.
-use crate::fault::ScriptFault;
 use crate::settings::Settings;
 use crate::topologies::topo_word;
-use crate::words::first_word;
 use fm_outer::MemSource;
 use fm_sources::{RulesFault, RulesKind, SourceFault, Sources, read_rules, read_sources};
 use std::alloc::{AllocError, Global};
+use test_words::{ScriptFault, first_word};
 
 /// The word of a kind.
 fn rules_word(kind: &RulesKind) -> &'static str {

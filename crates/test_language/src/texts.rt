@@ -1,8 +1,7 @@
 // Texts as a script writes and shows them: `\n` is a newline, `\0` the byte 0, `\xHH` a byte, and
 // `\*COUNT;HH` so many times a byte.
-use crate::fault::ScriptFault;
-use crate::words::number_in;
 use std::alloc::Global;
+use test_words::{ScriptFault, small_in};
 
 /// Appends a byte so many times, and then a text.
 fn push_times(byte: u8, count: u32, rest: &str, bytes: &mut Vec<u8>) -> Result<(), ScriptFault> {
@@ -30,7 +29,7 @@ fn push_escaped(piece: &str, bytes: &mut Vec<u8>) -> Result<(), ScriptFault> {
         "x" => push_digits(1, rest, bytes),
         "*" => {
             let (count, digits) = rest.split_once(';').ok_or(ScriptFault::Words)?;
-            push_digits(number_in(count)?, digits, bytes)
+            push_digits(small_in(count)?, digits, bytes)
         }
         _ => Err(ScriptFault::Words),
     }

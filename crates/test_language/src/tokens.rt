@@ -1,8 +1,8 @@
 // The tokens of a text.
-use crate::fault::ScriptFault;
 use crate::words::or_none;
 use ev_lex::{Kind, LexFault, Token, lex};
 use std::alloc::{AllocError, Global};
+use test_words::ScriptFault;
 
 /// The letter that stands for a kind.
 fn letter(kind: Kind) -> char {

@@ -1,13 +1,13 @@
 // What texts of topologies come to, and what a topology answers.
-use crate::fault::ScriptFault;
 use crate::parts::{path_in, topology};
 use crate::texts::{shown, shown_bytes};
-use crate::words::{first_word, number_in, numbers_text};
+use crate::words::numbers_text;
 use fm_name::Fmri;
 use fm_topo::{
     Groups, Topo, TopoFault, TopoKind, TopoText, TopoValue, names_text, print_topo, read_topo,
 };
 use std::alloc::Global;
+use test_words::{ScriptFault, first_word, small_in};
 
 /// The word of a kind.
 pub fn topo_word(kind: TopoKind) -> &'static str {
@@ -99,7 +99,7 @@ pub fn ask_topo(alloc: Global, text: &[u8], word: &str, rest: &str) -> Result<St
     let topo = topology(alloc, text)?;
     match word {
         "len" => Ok(format!(in alloc; "{}", topo.len())?),
-        "path" => path_text(alloc, &topo, number_in(rest)? as usize),
+        "path" => path_text(alloc, &topo, small_in(rest)? as usize),
         "under" => range_text(alloc, &topo, rest),
         "property" => property(alloc, &topo, rest),
         "numbers" => group_text(alloc, &topo.groups(alloc)?, rest),

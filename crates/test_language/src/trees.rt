@@ -1,9 +1,9 @@
 // Trees of texts.
-use crate::fault::ScriptFault;
 use ev_lex::{LexFault, lex};
 use ev_parse::{ParseFault, parse};
 use ev_tree::Tree;
 use std::alloc::Global;
+use test_words::ScriptFault;
 
 /// What a text reads as: a tree, or the place of the first fault.
 #[derive(Drop)]

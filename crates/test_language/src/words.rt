@@ -1,34 +1,18 @@
 // The words of a line, and lists of numbers as text.
-use crate::fault::ScriptFault;
 use std::alloc::Global;
-
-/// The number that a word says.
-pub fn number_in(word: &str) -> Result<u32, ScriptFault> {
-    match word.parse::<u32>() {
-        Ok(number) => Ok(number),
-        Err(_) => Err(ScriptFault::Words),
-    }
-}
-
-/// The first word of a text, and what is behind it.
-pub fn first_word(text: &str) -> (&str, &str) {
-    match text.split_once(' ') {
-        Some(both) => both,
-        None => (text, ""),
-    }
-}
+use test_words::{ScriptFault, first_word, small_in};
 
 /// The two numbers of a text.
 pub fn two_in(text: &str) -> Result<(u32, u32), ScriptFault> {
     let (first, second) = first_word(text);
-    Ok((number_in(first)?, number_in(second)?))
+    Ok((small_in(first)?, small_in(second)?))
 }
 
 /// The numbers of a text.
 pub fn numbers_in(alloc: Global, text: &str) -> Result<Vec<u32>, ScriptFault> {
     let mut numbers = Vec::new(alloc);
     for word in text.split_whitespace() {
-        numbers.push(number_in(word)?)?;
+        numbers.push(small_in(word)?)?;
     }
     Ok(numbers)
 }
