@@ -47,15 +47,15 @@ tick_left ended reports turns x moment e t = rw (e, t) (end_is reports x moment)
 
 -- what is left where a turn is to come, by the values that it comes to
 pub turn_left : (ended : Bool) (reports : List EventName)
-    (turns left x moment first second later : ℕ) (event : EventName)
-    → ended ≡ false → turns ≡ left + 1 → first ≡ drawn x
-    → second ≡ drawn first → later ≡ moment + draw_of second % 2000000000
-    → picked reports (draw_of first) ≡ Some event
+    (turns left x moment after later : ℕ) (event : EventName)
+    → ended ≡ false → turns ≡ left + 1 → after ≡ drawn (drawn x)
+    → later ≡ moment + draw_of (drawn (drawn x)) % 2000000000
+    → picked reports (draw_of (drawn x)) ≡ Some event
     → cond ended [] (entries_from reports turns x moment)
     ≡ Report event.class event.path later no_pairs
-    ∷ cond ended [] (entries_from reports left second later)
-turn_left ended reports turns left x moment first second later event n e f s l p =
-    rw (n, e, add-one left, l, s, f) (turn_is reports left x moment event (rw f at p))
+    ∷ cond ended [] (entries_from reports left after later)
+turn_left ended reports turns left x moment after later event n e a l p =
+    rw (n, e, add-one left, l, a) (turn_is reports left x moment event p)
 
 as_many_from : (reports : List EventName) (turns x moment : ℕ) → (1 ≤ turns → 1 ≤ length reports)
     → length (entries_from reports turns x moment) ≡ turns + 1

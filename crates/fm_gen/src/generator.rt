@@ -6,7 +6,7 @@ ghost use Rattle.fm_nv.specs.Data.{no_pairs};
 ghost use Rattle.fm_entry.specs.Entries.{IsReport, IsSpelled, is_reload};
 ghost use Rattle.fm_gen.specs.Generated.{generated, are_reports, picked};
 
-use crate::draws::{draw_of, drawn};
+use crate::draws::TurnDraws;
 use fm_bytes::NoMemory;
 use fm_entry::Entry;
 use fm_name::EventName;
@@ -91,12 +91,11 @@ impl Gen {
                 moment: self.moment + REST,
             }));
         };
-        let picking = drawn(self.state);
-        let delaying = drawn(picking);
-        let moment = self.moment + draw_of(delaying) % LONGEST;
-        let event = pick(&self.reports, draw_of(picking))?;
+        let draws = TurnDraws::from_state(self.state);
+        let moment = self.moment + draws.delay % LONGEST;
+        let event = pick(&self.reports, draws.event)?;
         let EventName { class, path } = event;
-        self.state = delaying;
+        self.state = draws.state;
         self.moment = moment;
         self.turns = turns;
         Ok(Some(Entry::Report {

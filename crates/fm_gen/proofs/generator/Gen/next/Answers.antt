@@ -15,10 +15,9 @@ returns-clause-ok c =
     let one : c.self.inside.turns ≡ c.in-Some.turns + 1 = omega (arith, c.in-Some.ensures) in
     rw (← c.self.view_is, c.new.ensures)
     (turn_left c.self.inside.ended c.self.inside.reports.items c.self.inside.turns
-    c.in-Some.turns c.self.inside.state c.self.inside.moment c.drawn-picking.result
-    c.drawn-delaying.result _ c.in_ok-event.event c.if-self.false one c.drawn-picking.ensures
-    c.drawn-delaying.ensures
-    (ap (λ n. c.self.inside.moment + n % 2000000000) c.draw_of.ensures)
-    (ap (picked c.self.inside.reports.items) (sym c.draw_of-2.ensures)
-    ∙ ap (λ events. picked events c.draw_of-2.result) (sym c.deref.ensures.value)
+    c.in-Some.turns c.self.inside.state c.self.inside.moment c.from_state-draws.result.state
+    _ c.in_ok-event.event c.if-self.false one c.from_state-draws.ensures.state
+    (ap (λ n. c.self.inside.moment + n % 2000000000) c.from_state-draws.ensures.delay)
+    (ap (picked c.self.inside.reports.items) (sym c.from_state-draws.ensures.event)
+    ∙ ap (λ events. picked events c.from_state-draws.result.event) (sym c.deref.ensures.value)
     ∙ c.in_ok-event.ensures.picked))
