@@ -3,7 +3,7 @@ use fm_entry::{ListEvent, ListKind, read_case_name};
 use fm_status::Status;
 use std::alloc::{AllocError, Global};
 use test_words::ScriptFault;
-use text_modules::{Setup, put_open, put_solved, put_word, run};
+use text_modules::{Setup, put_cases, put_word, run};
 
 /// How many rows there are of a kind.
 fn count_of(rows: &[&ListEvent], kind: ListKind) -> usize {
@@ -37,8 +37,8 @@ pub fn show_rows(alloc: Global, setup: &Setup, out: &mut String) -> Result<(), S
     let open = ended.again.open.as_slice();
     let rows = ended.heard.status.rows(alloc)?;
     put_counts(open.len(), rows.as_slice(), out)?;
-    put_open(open, out)?;
-    put_solved(ended.again.solved.as_slice(), out)?;
+    put_cases(open, "open", out)?;
+    put_cases(ended.again.solved.as_slice(), "solved", out)?;
     put_wanted(alloc, &ended.heard.status, out)
 }
 

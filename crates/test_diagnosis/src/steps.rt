@@ -1,13 +1,13 @@
 // What a module says at entries, and whether its state is kept.
 use std::alloc::Global;
 use test_words::{ScriptFault, first_word, number_in, show_difference};
-use text_modules::{Ended, Setup, loaded, put_open, run};
+use text_modules::{Ended, Setup, loaded, put_cases, run};
 
 /// Appends what was said, and which cases are open then.
 fn show_said(ended: &Ended, out: &mut String) -> Result<(), ScriptFault> {
     let said = ended.heard.text.as_str();
     out.push_str(if said.is_empty() { "silent" } else { said })?;
-    put_open(ended.again.open.as_slice(), out)?;
+    put_cases(ended.again.open.as_slice(), "open", out)?;
     Ok(())
 }
 

@@ -2,10 +2,10 @@
 use crate::draws::Draws;
 use crate::happenings::Happening;
 use crate::plain::{Counts, Plain};
-use crate::sketch::{PARTS, Sketch, drawn_sketch, text_of};
+use crate::rules::{DrawnRules, PARTS, drawn_rules, text_of};
 use std::alloc::Global;
 use test_words::{Script, ScriptFault, first_word, number_in, small_in};
-use text_modules::{Setup, put_open, run};
+use text_modules::{Setup, put_cases, run};
 
 /// What each place of the counts is of.
 const NAMES: [&str; 7] = [
@@ -26,17 +26,17 @@ struct Drawn {
 }
 
 /// A module of the rules, to which nothing has happened.
-fn setup_of(alloc: Global, sketch: &Sketch) -> Result<Setup, ScriptFault> {
+fn setup_of(alloc: Global, rules: &DrawnRules) -> Result<Setup, ScriptFault> {
     let mut setup = Setup::new(alloc);
     setup.topology = String::from_str(alloc, PARTS)?;
-    setup.rules.push(text_of(alloc, sketch)?)?;
+    setup.rules.push(text_of(alloc, rules)?)?;
     setup.number = Some(0);
     Ok(setup)
 }
 
 impl Drawn {
-    fn new(alloc: Global, sketch: &Sketch) -> Result<Drawn, ScriptFault> {
-        let setup = setup_of(alloc, sketch)?;
+    fn new(alloc: Global, rules: &DrawnRules) -> Result<Drawn, ScriptFault> {
+        let setup = setup_of(alloc, rules)?;
         Ok(Drawn {
             setup,
             plain: Plain::new(alloc),
@@ -44,30 +44,30 @@ impl Drawn {
     }
 
     /// Draws what happens next, not before the clock's moment less one.
-    fn happen(
+    fn take_next(
         &mut self,
         alloc: Global,
         draws: &mut Draws,
-        sketch: &Sketch,
+        rules: &DrawnRules,
         clock: u64,
     ) -> Result<(), ScriptFault> {
         let moment = clock.saturating_sub(u64::from(draws.up_to(1)));
         let happening = Happening::drawn(draws);
-        let line = happening.line(alloc, sketch, moment)?;
+        let line = happening.line(alloc, rules, moment)?;
         self.setup.entries.push(line)?;
-        self.plain.take(sketch, moment, happening)
+        self.plain.take(rules, moment, happening)
     }
 }
 
 /// Draws rules, and so many entries.
 fn draw_all(alloc: Global, seed: u64, entries: u64) -> Result<Drawn, ScriptFault> {
     let mut draws = Draws::new(seed);
-    let sketch = drawn_sketch(alloc, &mut draws)?;
-    let mut drawn = Drawn::new(alloc, &sketch)?;
+    let rules = drawn_rules(alloc, &mut draws)?;
+    let mut drawn = Drawn::new(alloc, &rules)?;
     let mut clock = 0u64;
     for _entry in 0..entries {
         clock = clock.saturating_add(u64::from(draws.up_to(2)));
-        drawn.happen(alloc, &mut draws, &sketch, clock)?;
+        drawn.take_next(alloc, &mut draws, &rules, clock)?;
     }
     drawn.plain.put_open()?;
     Ok(drawn)
@@ -78,7 +78,7 @@ fn module_text(alloc: Global, setup: &Setup) -> Result<String, ScriptFault> {
     let ended = run(alloc, setup, 0)?;
     let mut text = String::new(alloc);
     text.push_str(ended.heard.text.as_str())?;
-    put_open(ended.again.open.as_slice(), &mut text)?;
+    put_cases(ended.again.open.as_slice(), "open", &mut text)?;
     Ok(text)
 }
 

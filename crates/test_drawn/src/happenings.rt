@@ -1,6 +1,6 @@
 // What happens to a module of drawn rules: as a plain value, and as a line of the input.
 use crate::draws::Draws;
-use crate::sketch::{Sketch, path_of};
+use crate::rules::{DrawnRules, path_of};
 use crate::spoken_of::Said;
 use fm_entry::Mark;
 use std::alloc::{AllocError, Global};
@@ -28,7 +28,7 @@ pub enum Happening {
     /// A report, whose payload has this number as b, or is empty.
     Report { report: u32, payload: Option<u32> },
     /// A report at a path that the graph does not have.
-    Stranger { report: u32 },
+    Unknown { report: u32 },
     /// A report of a class that is not declared.
     Undeclared,
     Tick,
@@ -135,13 +135,13 @@ fn drawn_report(draws: &mut Draws) -> Happening {
 }
 
 fn put_report(
-    sketch: &Sketch,
+    rules: &DrawnRules,
     report: u32,
     payload: Option<u32>,
     moment: u64,
     text: &mut String,
 ) -> Result<(), AllocError> {
-    let class = sketch.class_of(report);
+    let class = rules.class_of(report);
     let path = path_of(report);
     match payload {
         None => write!(text, "report {class} {path} {moment}"),
@@ -161,7 +161,7 @@ impl Happening {
         match draws.up_to(11) {
             0..=6 => drawn_report(draws),
             7 => Happening::Tick,
-            8 => Happening::Stranger {
+            8 => Happening::Unknown {
                 report: draws.up_to(2),
             },
             9 => Happening::Undeclared,
@@ -170,14 +170,19 @@ impl Happening {
     }
 
     /// The line of the input that says so.
-    pub fn line(self, alloc: Global, sketch: &Sketch, moment: u64) -> Result<String, ScriptFault> {
+    pub fn line(
+        self,
+        alloc: Global,
+        rules: &DrawnRules,
+        moment: u64,
+    ) -> Result<String, ScriptFault> {
         let mut text = String::new(alloc);
         match self {
             Happening::Report { report, payload } => {
-                put_report(sketch, report, payload, moment, &mut text)?;
+                put_report(rules, report, payload, moment, &mut text)?;
             }
-            Happening::Stranger { report } => {
-                let class = sketch.class_of(report);
+            Happening::Unknown { report } => {
+                let class = rules.class_of(report);
                 write!(text, "report {class} hc:///chassis=1 {moment}")?;
             }
             Happening::Undeclared => write!(text, "report ereport.p.z hc:///chassis=0 {moment}")?,

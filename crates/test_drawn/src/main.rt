@@ -9,7 +9,7 @@ mod drawn;
 mod draws;
 mod happenings;
 mod plain;
-mod sketch;
+mod rules;
 mod spoken_of;
 mod stories;
 

@@ -1,8 +1,8 @@
 // A second opinion of a diagnosis module, over drawn rules: cases, an engine and repairs, from the
 // definitions alone.
 use crate::happenings::{Happening, Repair};
-use crate::sketch::{FIRST_ROOT, RootKind, Sketch, TRIP, bit_of};
-use crate::spoken_of::{Blame, Said, put_said, put_stranger};
+use crate::rules::{DrawnRules, FIRST_ROOT, RootKind, TRIP, bit_of};
+use crate::spoken_of::{Blame, Said, put_said, put_unknown};
 use crate::stories::{Cut, Observation, search};
 use fm_entry::{ListKind, Mark};
 use std::alloc::Global;
@@ -82,10 +82,10 @@ fn place_of(kind: ListKind) -> usize {
 }
 
 /// The bits of the roots that are upsets.
-fn upsets_of(sketch: &Sketch) -> u32 {
+fn upsets_of(rules: &DrawnRules) -> u32 {
     let mut bits = 0;
     for number in FIRST_ROOT..10 {
-        if sketch.root(number).kind == RootKind::Upset {
+        if rules.root(number).kind == RootKind::Upset {
             bits |= bit_of(number);
         }
     }
@@ -93,11 +93,11 @@ fn upsets_of(sketch: &Sketch) -> u32 {
 }
 
 /// The rates of the roots of these bits, together.
-fn rates_of(sketch: &Sketch, bits: u32) -> u64 {
+fn rates_of(rules: &DrawnRules, bits: u32) -> u64 {
     let mut sum = 0u64;
     for number in FIRST_ROOT..10 {
         if bits & bit_of(number) != 0 {
-            sum = sum.saturating_add(sketch.root(number).fit);
+            sum = sum.saturating_add(rules.root(number).fit);
         }
     }
     sum
@@ -105,40 +105,40 @@ fn rates_of(sketch: &Sketch, bits: u32) -> u64 {
 
 /// The bits of the reports that are allowed at a time: those that were observed, and those of which
 /// the window has not passed.
-fn allowed(sketch: &Sketch, case: &Pending, time: u64) -> u32 {
+fn allowed(rules: &DrawnRules, case: &Pending, time: u64) -> u32 {
     let mut bits = case.observed;
     for number in 0..4 {
-        if case.opened.saturating_add(sketch.within(number)) >= time {
+        if case.opened.saturating_add(rules.within(number)) >= time {
             bits |= bit_of(number);
         }
     }
     bits
 }
 
-fn observation_of<'a>(sketch: &Sketch, case: &'a Pending, time: u64) -> Observation<'a> {
+fn observation_of<'a>(rules: &DrawnRules, case: &'a Pending, time: u64) -> Observation<'a> {
     Observation {
         observed: case.observed,
-        allowed: allowed(sketch, case, time),
+        allowed: allowed(rules, case, time),
         cuts: case.cuts.as_slice(),
     }
 }
 
 /// Whether a report joins the case: it was observed, or is pending.
-fn takes(sketch: &Sketch, case: &Pending, time: u64, report: u32) -> bool {
-    let pending = search(sketch, observation_of(sketch, case, time)).pending;
+fn takes(rules: &DrawnRules, case: &Pending, time: u64, report: u32) -> bool {
+    let pending = search(rules, observation_of(rules, case, time)).pending;
     (case.observed | pending) & bit_of(report) != 0
 }
 
 /// The links to a report that a payload breaks: the guarded ones, unless it has b = 1.
 fn cuts_of(
     alloc: Global,
-    sketch: &Sketch,
+    rules: &DrawnRules,
     report: u32,
     payload: Option<u32>,
 ) -> Result<Vec<Cut>, ScriptFault> {
     let mut cuts = Vec::new(alloc);
     let mut arrow = 0u32;
-    for each in sketch.arrows.as_slice() {
+    for each in rules.arrows.as_slice() {
         if each.guarded & bit_of(report) != 0 && payload != Some(1) {
             cuts.push(Cut { arrow, report })?;
         }
@@ -173,23 +173,23 @@ impl Plain {
         }
     }
 
-    fn say(&mut self, sketch: &Sketch, kind: ListKind, said: &Said) -> Result<(), ScriptFault> {
+    fn say(&mut self, rules: &DrawnRules, kind: ListKind, said: &Said) -> Result<(), ScriptFault> {
         self.counts.count(place_of(kind));
-        put_said(self.alloc, sketch, kind, self.time, said, &mut self.text)?;
+        put_said(self.alloc, rules, kind, self.time, said, &mut self.text)?;
         Ok(())
     }
 
     /// The engine notes the time: it fires where enough moments since the last time that it fired
     /// are not longer ago than its time.
-    fn note(&mut self, sketch: &Sketch) -> Result<(), ScriptFault> {
+    fn note(&mut self, rules: &DrawnRules) -> Result<(), ScriptFault> {
         self.moments.push(self.time)?;
-        let since = self.time.saturating_sub(sketch.time);
+        let since = self.time.saturating_sub(rules.time);
         let near = self
             .moments
             .iter()
             .filter(|moment| **moment >= since)
             .count();
-        if near as u64 >= sketch.count {
+        if near as u64 >= rules.count {
             self.moments.clear();
             self.fired = self.fired.saturating_add(1);
             self.counts.count(5);
@@ -197,10 +197,10 @@ impl Plain {
         Ok(())
     }
 
-    fn note_each(&mut self, sketch: &Sketch, upsets: u32) -> Result<(), ScriptFault> {
+    fn note_each(&mut self, rules: &DrawnRules, upsets: u32) -> Result<(), ScriptFault> {
         for number in FIRST_ROOT..10 {
-            if upsets & bit_of(number) != 0 && sketch.root(number).notes {
-                self.note(sketch)?;
+            if upsets & bit_of(number) != 0 && rules.root(number).notes {
+                self.note(rules)?;
             }
         }
         Ok(())
@@ -208,13 +208,13 @@ impl Plain {
 
     /// The roots of these bits as suspects. Each has its share of the rates in percent, rounded
     /// down, and the first what is left; upsets have none.
-    fn blames(&self, sketch: &Sketch, bits: u32) -> Result<Vec<Blame>, ScriptFault> {
+    fn blames(&self, rules: &DrawnRules, bits: u32) -> Result<Vec<Blame>, ScriptFault> {
         let mut blames = Vec::new(self.alloc);
-        let sum = rates_of(sketch, bits).max(1);
+        let sum = rates_of(rules, bits).max(1);
         let mut left = 100u64;
         for number in FIRST_ROOT..10 {
             if bits & bit_of(number) != 0 {
-                let share = sketch.root(number).fit.saturating_mul(100) / sum;
+                let share = rules.root(number).fit.saturating_mul(100) / sum;
                 left = left.saturating_sub(share);
                 blames.push(Blame {
                     root: number,
@@ -238,59 +238,69 @@ impl Plain {
     }
 
     /// These faults explain a case.
-    fn solve(&mut self, sketch: &Sketch, case: Pending, faults: u32) -> Result<(), ScriptFault> {
-        let suspects = self.blames(sketch, faults)?;
+    fn solve(&mut self, rules: &DrawnRules, case: Pending, faults: u32) -> Result<(), ScriptFault> {
+        let suspects = self.blames(rules, faults)?;
         let said = case.said(suspects);
-        self.say(sketch, ListKind::Suspect, &said)?;
+        self.say(rules, ListKind::Suspect, &said)?;
         self.keep(said)
     }
 
     /// No fault explains a case, and these upsets do, if there are some.
-    fn give_up(&mut self, sketch: &Sketch, case: Pending, upsets: u32) -> Result<(), ScriptFault> {
+    fn give_up(
+        &mut self,
+        rules: &DrawnRules,
+        case: Pending,
+        upsets: u32,
+    ) -> Result<(), ScriptFault> {
         let kind = if upsets == 0 {
             ListKind::Undiagnosable
         } else {
             ListKind::Upset
         };
-        let suspects = self.blames(sketch, upsets)?;
+        let suspects = self.blames(rules, upsets)?;
         let said = case.said(suspects);
-        self.say(sketch, kind, &said)
+        self.say(rules, kind, &said)
     }
 
     /// What a case comes to of which nothing is pending, and which these roots explain.
     fn end(
         &mut self,
-        sketch: &Sketch,
+        rules: &DrawnRules,
         case: Pending,
         explain: u32,
         notes: bool,
     ) -> Result<(), ScriptFault> {
-        let upsets = explain & upsets_of(sketch);
+        let upsets = explain & upsets_of(rules);
         let faults = explain & !upsets;
         if faults != 0 {
-            return self.solve(sketch, case, faults);
+            return self.solve(rules, case, faults);
         }
-        self.give_up(sketch, case, upsets)?;
+        self.give_up(rules, case, upsets)?;
         if notes {
-            self.note_each(sketch, upsets)?;
+            self.note_each(rules, upsets)?;
         }
         Ok(())
     }
 
     /// Decides a case of which nothing is pending, and keeps each other one open.
-    fn settle(&mut self, sketch: &Sketch, case: Pending, notes: bool) -> Result<(), ScriptFault> {
-        let found = search(sketch, observation_of(sketch, &case, self.time));
+    fn settle(
+        &mut self,
+        rules: &DrawnRules,
+        case: Pending,
+        notes: bool,
+    ) -> Result<(), ScriptFault> {
+        let found = search(rules, observation_of(rules, &case, self.time));
         if found.pending != 0 {
             self.open.push(case)?;
             return Ok(());
         }
-        self.end(sketch, case, found.explain, notes)
+        self.end(rules, case, found.explain, notes)
     }
 
-    fn settle_all(&mut self, sketch: &Sketch) -> Result<(), ScriptFault> {
+    fn settle_all(&mut self, rules: &DrawnRules) -> Result<(), ScriptFault> {
         let cases = mem::replace(&mut self.open, Vec::new(self.alloc));
         for case in cases {
-            self.settle(sketch, case, true)?;
+            self.settle(rules, case, true)?;
         }
         Ok(())
     }
@@ -311,7 +321,7 @@ impl Plain {
     /// A report joins a case.
     fn join_case(
         &mut self,
-        sketch: &Sketch,
+        rules: &DrawnRules,
         case: Pending,
         report: u32,
         cuts: &[Cut],
@@ -321,13 +331,13 @@ impl Plain {
         case.reports = case.reports.saturating_add(1);
         case.observed |= bit_of(report);
         add_cuts(&mut case.cuts, cuts)?;
-        self.settle(sketch, case, notes)
+        self.settle(rules, case, notes)
     }
 
     /// A report joins the first case that has it or waits for it; whether there is one.
     fn join_first(
         &mut self,
-        sketch: &Sketch,
+        rules: &DrawnRules,
         report: u32,
         cuts: &[Cut],
         notes: bool,
@@ -335,11 +345,11 @@ impl Plain {
         let cases = mem::replace(&mut self.open, Vec::new(self.alloc));
         let mut has_joined = false;
         for case in cases {
-            if has_joined || !takes(sketch, &case, self.time, report) {
+            if has_joined || !takes(rules, &case, self.time, report) {
                 self.open.push(case)?;
             } else {
                 has_joined = true;
-                self.join_case(sketch, case, report, cuts, notes)?;
+                self.join_case(rules, case, report, cuts, notes)?;
             }
         }
         Ok(has_joined)
@@ -348,53 +358,53 @@ impl Plain {
     /// A report joins the first case that has it or waits for it, or opens one.
     fn join(
         &mut self,
-        sketch: &Sketch,
+        rules: &DrawnRules,
         report: u32,
         payload: Option<u32>,
         notes: bool,
     ) -> Result<(), ScriptFault> {
-        let cuts = cuts_of(self.alloc, sketch, report, payload)?;
+        let cuts = cuts_of(self.alloc, rules, report, payload)?;
         if !cuts.is_empty() {
             self.counts.count(6);
         }
-        if !self.join_first(sketch, report, cuts.as_slice(), notes)? {
+        if !self.join_first(rules, report, cuts.as_slice(), notes)? {
             let case = self.begun(report, cuts.as_slice())?;
-            self.settle(sketch, case, notes)?;
+            self.settle(rules, case, notes)?;
         }
         Ok(())
     }
 
     /// A report of a declared class at a path that the graph does not have.
-    fn wonder(&mut self, sketch: &Sketch, report: u32) -> Result<(), ScriptFault> {
+    fn open_unknown(&mut self, rules: &DrawnRules, report: u32) -> Result<(), ScriptFault> {
         let number = self.next;
         self.next = number.saturating_add(1);
         self.counts.count(1);
-        put_stranger(sketch, number, self.time, report, &mut self.text)?;
+        put_unknown(rules, number, self.time, report, &mut self.text)?;
         Ok(())
     }
 
     /// Marks the present suspects of which a repair speaks, and says so of each case with a mark.
-    fn repair(&mut self, sketch: &Sketch, repair: Repair) -> Result<(), ScriptFault> {
+    fn repair(&mut self, rules: &DrawnRules, repair: Repair) -> Result<(), ScriptFault> {
         let before = mem::replace(&mut self.solved, Vec::new(self.alloc));
         for said in before {
             let mut said = said;
             if !repair.mark(&mut said) {
                 self.solved.push(said)?;
             } else if said.is_any_present() {
-                self.say(sketch, ListKind::Updated, &said)?;
+                self.say(rules, ListKind::Updated, &said)?;
                 self.solved.push(said)?;
             } else {
-                self.say(sketch, ListKind::Repaired, &said)?;
+                self.say(rules, ListKind::Repaired, &said)?;
             }
         }
         Ok(())
     }
 
-    fn act(&mut self, sketch: &Sketch, happening: Happening) -> Result<(), ScriptFault> {
+    fn act(&mut self, rules: &DrawnRules, happening: Happening) -> Result<(), ScriptFault> {
         match happening {
-            Happening::Report { report, payload } => self.join(sketch, report, payload, true),
-            Happening::Stranger { report } => self.wonder(sketch, report),
-            Happening::Repair(repair) => self.repair(sketch, repair),
+            Happening::Report { report, payload } => self.join(rules, report, payload, true),
+            Happening::Unknown { report } => self.open_unknown(rules, report),
+            Happening::Repair(repair) => self.repair(rules, repair),
             Happening::Undeclared => Ok(()),
             Happening::Tick => Ok(()),
         }
@@ -403,16 +413,16 @@ impl Plain {
     /// Takes what happens at a moment, part by part.
     pub fn take(
         &mut self,
-        sketch: &Sketch,
+        rules: &DrawnRules,
         moment: u64,
         happening: Happening,
     ) -> Result<(), ScriptFault> {
         self.time = self.time.max(moment);
         self.fired = 0;
-        self.settle_all(sketch)?;
-        self.act(sketch, happening)?;
+        self.settle_all(rules)?;
+        self.act(rules, happening)?;
         for _trip in 0..self.fired {
-            self.join(sketch, TRIP, None, false)?;
+            self.join(rules, TRIP, None, false)?;
         }
         Ok(())
     }

@@ -1,5 +1,5 @@
 // What the second opinion says of cases, as text.
-use crate::sketch::{RootKind, Sketch, bit_of, path_of};
+use crate::rules::{DrawnRules, RootKind, bit_of, path_of};
 use crate::stories::Cut;
 use fm_entry::{ListKind, Mark};
 use std::alloc::{AllocError, Global};
@@ -39,12 +39,12 @@ fn put_head(kind: &str, number: u64, time: u64, text: &mut String) -> Result<(),
     write!(text, "{kind} dx0/{number} at {time} under 0")
 }
 
-fn put_observed(sketch: &Sketch, bits: u32, text: &mut String) -> Result<(), AllocError> {
+fn put_observed(rules: &DrawnRules, bits: u32, text: &mut String) -> Result<(), AllocError> {
     let mut at = 0usize;
     for number in 0..4 {
         if bits & bit_of(number) != 0 {
             let front = link_text(at, " of ");
-            let class = sketch.class_of(number);
+            let class = rules.class_of(number);
             let path = path_of(number);
             write!(text, "{front}{class} {path}")?;
             at = at.saturating_add(1);
@@ -54,10 +54,14 @@ fn put_observed(sketch: &Sketch, bits: u32, text: &mut String) -> Result<(), All
 }
 
 /// The links in order of instance and effect.
-fn in_order(alloc: Global, sketch: &Sketch, cuts: &[Cut]) -> Result<Vec<(u32, u32)>, ScriptFault> {
+fn in_order(
+    alloc: Global,
+    rules: &DrawnRules,
+    cuts: &[Cut],
+) -> Result<Vec<(u32, u32)>, ScriptFault> {
     let mut links = Vec::with_capacity(alloc, cuts.len())?;
     for cut in cuts {
-        links.push((cut.arrow, sketch.node_of(cut.report)))?;
+        links.push((cut.arrow, rules.node_of(cut.report)))?;
     }
     links.as_mut_slice().sort_unstable();
     Ok(links)
@@ -74,16 +78,16 @@ fn put_cuts(links: &[(u32, u32)], text: &mut String) -> Result<(), AllocError> {
 }
 
 fn put_blame(
-    sketch: &Sketch,
+    rules: &DrawnRules,
     at: usize,
     blame: Blame,
     text: &mut String,
 ) -> Result<(), AllocError> {
     let front = link_text(at, " by ");
-    let root = sketch.root(blame.root);
+    let root = rules.root(blame.root);
     let is_upset = root.kind == RootKind::Upset;
     let certainty = if is_upset { 0 } else { blame.certainty };
-    let class = sketch.class_of(blame.root);
+    let class = rules.class_of(blame.root);
     let path = path_of(blame.root);
     let mark = mark_text(blame.mark);
     write!(text, "{front}{certainty}% {class} {path} {mark}")?;
@@ -93,9 +97,9 @@ fn put_blame(
     Ok(())
 }
 
-fn put_blames(sketch: &Sketch, blames: &[Blame], text: &mut String) -> Result<(), AllocError> {
+fn put_blames(rules: &DrawnRules, blames: &[Blame], text: &mut String) -> Result<(), AllocError> {
     for (at, blame) in blames.iter().enumerate() {
-        put_blame(sketch, at, *blame, text)?;
+        put_blame(rules, at, *blame, text)?;
     }
     Ok(())
 }
@@ -103,29 +107,29 @@ fn put_blames(sketch: &Sketch, blames: &[Blame], text: &mut String) -> Result<()
 /// Puts a word of a case.
 pub fn put_said(
     alloc: Global,
-    sketch: &Sketch,
+    rules: &DrawnRules,
     kind: ListKind,
     time: u64,
     said: &Said,
     text: &mut String,
 ) -> Result<(), ScriptFault> {
     put_head(kind_text(kind), said.number, time, text)?;
-    put_observed(sketch, said.observed, text)?;
-    let links = in_order(alloc, sketch, said.cuts.as_slice())?;
+    put_observed(rules, said.observed, text)?;
+    let links = in_order(alloc, rules, said.cuts.as_slice())?;
     put_cuts(links.as_slice(), text)?;
-    put_blames(sketch, said.suspects.as_slice(), text)?;
+    put_blames(rules, said.suspects.as_slice(), text)?;
     Ok(())
 }
 
 /// Puts the word of a case of a report at a path that the graph does not have.
-pub fn put_stranger(
-    sketch: &Sketch,
+pub fn put_unknown(
+    rules: &DrawnRules,
     number: u64,
     time: u64,
     report: u32,
     text: &mut String,
 ) -> Result<(), AllocError> {
     put_head("undiagnosable", number, time, text)?;
-    let class = sketch.class_of(report);
+    let class = rules.class_of(report);
     write!(text, " of {class} hc:///chassis=1")
 }

@@ -1,5 +1,5 @@
 // Stories of drawn rules, by a search over all sets of events.
-use crate::sketch::{REPORTS, ROOTS, Sketch, bit_of};
+use crate::rules::{DrawnRules, REPORTS, ROOTS, bit_of};
 
 /// A link that a payload broke: of which instance, to which report.
 #[derive(Clone, Copy, PartialEq, Eq, Drop)]
@@ -37,10 +37,10 @@ fn cut_of(cuts: &[Cut], arrow: u32) -> u32 {
 /// Whether a set of events is a story of the root: it is the only root among them, each other event
 /// is an effect of an instance with enough causes among them, and of each instance with some cause
 /// among them enough effects are.
-fn is_story(sketch: &Sketch, cuts: &[Cut], root: u32, set: u32) -> bool {
+fn is_story(rules: &DrawnRules, cuts: &[Cut], root: u32, set: u32) -> bool {
     let mut shown = root;
     let mut number = 0u32;
-    for arrow in sketch.arrows.as_slice() {
+    for arrow in rules.arrows.as_slice() {
         let effects = arrow.effects & !cut_of(cuts, number);
         if arrow.causes & set != 0 && (effects & set).count_ones() < arrow.n {
             return false;
@@ -54,14 +54,19 @@ fn is_story(sketch: &Sketch, cuts: &[Cut], root: u32, set: u32) -> bool {
 }
 
 /// The same with what the stories of a root say.
-fn with_root(sketch: &Sketch, observation: Observation<'_>, root: u32, found: Verdict) -> Verdict {
+fn with_root(
+    rules: &DrawnRules,
+    observation: Observation<'_>,
+    root: u32,
+    found: Verdict,
+) -> Verdict {
     let mut found = found;
     for others in 0..128 {
         let set = others | root;
         let reports = set & REPORTS;
         let is_possible = observation.observed & !reports == 0
             && reports & !observation.allowed == 0;
-        if is_possible && is_story(sketch, observation.cuts, root, set) {
+        if is_possible && is_story(rules, observation.cuts, root, set) {
             found.pending |= reports & !observation.observed;
             if reports == observation.observed {
                 found.explain |= root;
@@ -72,12 +77,12 @@ fn with_root(sketch: &Sketch, observation: Observation<'_>, root: u32, found: Ve
 }
 
 /// What all stories of all roots say.
-pub fn search(sketch: &Sketch, observation: Observation<'_>) -> Verdict {
+pub fn search(rules: &DrawnRules, observation: Observation<'_>) -> Verdict {
     let none = Verdict {
         pending: 0,
         explain: 0,
     };
-    let first = with_root(sketch, observation, bit_of(7), none);
-    let second = with_root(sketch, observation, bit_of(8), first);
-    with_root(sketch, observation, bit_of(9), second)
+    let first = with_root(rules, observation, bit_of(7), none);
+    let second = with_root(rules, observation, bit_of(8), first);
+    with_root(rules, observation, bit_of(9), second)
 }

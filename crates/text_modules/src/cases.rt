@@ -44,22 +44,12 @@ impl Cases for Diagnoser {
     }
 }
 
-/// Appends open cases, each with its number of reports.
-pub fn put_open(rows: &[CaseRow], text: &mut String) -> Result<(), AllocError> {
+/// Appends cases, each with whether it is `open` or `solved`, and its number of reports or suspects.
+pub fn put_cases(rows: &[CaseRow], kind: &str, text: &mut String) -> Result<(), AllocError> {
     for row in rows {
         let case = row.case;
-        let reports = row.count;
-        write!(text, "; dx0/{case} open {reports}")?;
-    }
-    Ok(())
-}
-
-/// Appends solved cases, each with its number of suspects.
-pub fn put_solved(rows: &[CaseRow], text: &mut String) -> Result<(), AllocError> {
-    for row in rows {
-        let case = row.case;
-        let suspects = row.count;
-        write!(text, "; dx0/{case} solved {suspects}")?;
+        let count = row.count;
+        write!(text, "; dx0/{case} {kind} {count}")?;
     }
     Ok(())
 }

@@ -14,7 +14,7 @@ mod heard;
 mod runs;
 mod setup;
 
-pub use cases::{CaseRow, Cases, put_open, put_solved};
+pub use cases::{CaseRow, Cases, put_cases};
 pub use cores::{loaded_from, saved};
 pub use files::twins;
 pub use heard::{Heard, kind_text, link_text, mark_text, put_word};

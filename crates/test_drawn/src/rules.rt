@@ -34,6 +34,7 @@ pub enum RootKind {
     Upset,
 }
 
+/// A root: what it is, its rate, and whether its resource is to be retired.
 #[derive(Clone, Copy, Drop)]
 pub struct Root {
     pub kind: RootKind,
@@ -57,7 +58,7 @@ pub struct Arrow {
 /// Rules: the instances, the three roots, for how long each report is awaited, and at how many
 /// moments within which time the engine fires.
 #[derive(Drop)]
-pub struct Sketch {
+pub struct DrawnRules {
     pub arrows: Vec<Arrow>,
     pub roots: [Root; 3],
     pub within: [u64; 4],
@@ -100,7 +101,7 @@ fn root_class(number: u32, kind: RootKind) -> &'static str {
     }
 }
 
-impl Sketch {
+impl DrawnRules {
     /// The root of this number.
     pub fn root(&self, number: u32) -> Root {
         match number {
@@ -197,7 +198,7 @@ fn drawn_root(draws: &mut Draws, other: RootKind) -> Root {
 }
 
 /// Draws rules.
-pub fn drawn_sketch(alloc: Global, draws: &mut Draws) -> Result<Sketch, ScriptFault> {
+pub fn drawn_rules(alloc: Global, draws: &mut Draws) -> Result<DrawnRules, ScriptFault> {
     let arrows = drawn_arrows(alloc, draws)?;
     let first = drawn_root(draws, RootKind::Defect);
     let second = drawn_root(draws, RootKind::Upset);
@@ -208,7 +209,7 @@ pub fn drawn_sketch(alloc: Global, draws: &mut Draws) -> Result<Sketch, ScriptFa
         u64::from(draws.up_to(6)),
         u64::from(draws.up_to(6)),
     ];
-    Ok(Sketch {
+    Ok(DrawnRules {
         arrows,
         roots: [first, second, third],
         within,
@@ -217,22 +218,22 @@ pub fn drawn_sketch(alloc: Global, draws: &mut Draws) -> Result<Sketch, ScriptFa
     })
 }
 
-fn put_report(sketch: &Sketch, number: u32, text: &mut String) -> Result<(), AllocError> {
-    let class = sketch.class_of(number);
+fn put_report(rules: &DrawnRules, number: u32, text: &mut String) -> Result<(), AllocError> {
+    let class = rules.class_of(number);
     let names = names_of(number);
-    let within = sketch.within(number);
+    let within = rules.within(number);
     write!(text, "event {class}@{names}, within={within}ns;\n")
 }
 
-fn put_error(sketch: &Sketch, number: u32, text: &mut String) -> Result<(), AllocError> {
-    let class = sketch.class_of(number);
+fn put_error(rules: &DrawnRules, number: u32, text: &mut String) -> Result<(), AllocError> {
+    let class = rules.class_of(number);
     let names = names_of(number);
     write!(text, "event {class}@{names};\n")
 }
 
-fn put_root(sketch: &Sketch, number: u32, text: &mut String) -> Result<(), AllocError> {
-    let root = sketch.root(number);
-    let class = sketch.class_of(number);
+fn put_root(rules: &DrawnRules, number: u32, text: &mut String) -> Result<(), AllocError> {
+    let root = rules.root(number);
+    let class = rules.class_of(number);
     let names = names_of(number);
     let fit = root.fit;
     let retire = u32::from(root.retire);
@@ -246,17 +247,17 @@ fn put_root(sketch: &Sketch, number: u32, text: &mut String) -> Result<(), Alloc
     }
 }
 
-fn put_event(sketch: &Sketch, number: u32, text: &mut String) -> Result<(), AllocError> {
+fn put_event(rules: &DrawnRules, number: u32, text: &mut String) -> Result<(), AllocError> {
     match number {
-        0..=3 => put_report(sketch, number, text),
-        4..=6 => put_error(sketch, number, text),
-        _ => put_root(sketch, number, text),
+        0..=3 => put_report(rules, number, text),
+        4..=6 => put_error(rules, number, text),
+        _ => put_root(rules, number, text),
     }
 }
 
 /// Puts the events of some bits as patterns; those that are guarded ask of the payload.
 fn put_patterns(
-    sketch: &Sketch,
+    rules: &DrawnRules,
     bits: u32,
     guarded: u32,
     text: &mut String,
@@ -264,7 +265,7 @@ fn put_patterns(
     let mut front = "";
     for number in 0..10 {
         if bits & bit_of(number) != 0 {
-            let class = sketch.class_of(number);
+            let class = rules.class_of(number);
             let names = names_of(number);
             write!(text, "{front}{class}@{names}")?;
             if guarded & bit_of(number) != 0 {
@@ -276,30 +277,30 @@ fn put_patterns(
     Ok(())
 }
 
-fn put_arrow(sketch: &Sketch, arrow: Arrow, text: &mut String) -> Result<(), AllocError> {
+fn put_arrow(rules: &DrawnRules, arrow: Arrow, text: &mut String) -> Result<(), AllocError> {
     let n = arrow.n;
     let k = arrow.k;
     text.push_str("prop ")?;
-    put_patterns(sketch, arrow.causes, 0, text)?;
+    put_patterns(rules, arrow.causes, 0, text)?;
     write!(text, " ({n})->({k}) ")?;
-    put_patterns(sketch, arrow.effects, arrow.guarded, text)?;
+    put_patterns(rules, arrow.effects, arrow.guarded, text)?;
     text.push_str(";\n")
 }
 
 /// The text of the rule file.
-pub fn text_of(alloc: Global, sketch: &Sketch) -> Result<String, AllocError> {
+pub fn text_of(alloc: Global, rules: &DrawnRules) -> Result<String, AllocError> {
     let mut text = String::new(alloc);
     for number in 0..10 {
-        put_event(sketch, number, &mut text)?;
+        put_event(rules, number, &mut text)?;
     }
-    let count = sketch.count;
-    let time = sketch.time;
+    let count = rules.count;
+    let time = rules.time;
     write!(
         text,
         "engine serd.p.e@chassis/x, N={count}, T={time}ns, trip=ereport.p.t;\n"
     )?;
-    for arrow in sketch.arrows.as_slice() {
-        put_arrow(sketch, *arrow, &mut text)?;
+    for arrow in rules.arrows.as_slice() {
+        put_arrow(rules, *arrow, &mut text)?;
     }
     Ok(text)
 }
