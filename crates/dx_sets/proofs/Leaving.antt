@@ -4,7 +4,7 @@ use Rattle.std.proofs.Common.{cond, List, [], ◌∷◌, length, set, refl, sym,
 use Rattle.std.proofs.Common.{arith, inl, inr, get_or-set_same, get_or-set_other}
 use Rattle.std.specs.List.{sum_by, count_by}
 use Rattle.std.proofs.lemmas.List.{get_or_past, length-set}
-use Rattle.std.proofs.lemmas.List.Sums.{sum_by_push}
+use Rattle.std.proofs.lemmas.List.Sums.{sum_by_push, sum_by-cons}
 use Rattle.std.proofs.lemmas.Bool.{cases_lt, cases_eq, cases_Bool, false≢true}
 use Rattle.ev_graph.specs.Sets.{has_mark, occurs}
 use Rattle.dx_sets.specs.Sets.{SetsValue, removed, weight, sum_held, sum_below, Moves}
@@ -109,13 +109,13 @@ removed_support s e =
     elim (has_mark s.marks e) as (λ b. (cond b (gone s e) s).support ≡ s.support)
     [ true ↦ refl | false ↦ refl ]
 
--- the last node that waits is looked at
+-- the first node that waits is looked at
 pub popped_weight : (t : SetsValue) (e : ℕ) (xs : List ℕ)
-    → count_by (has_mark t.marks) xs + sum_by (λ v. occurs v xs) (t.pending ++ e ∷ [])
+    → count_by (has_mark t.marks) xs + sum_by (λ v. occurs v xs) (e ∷ t.pending)
     ≡ weight t xs + occurs e xs
-popped_weight t e xs = omega (arith, sum_by_push (λ v. occurs v xs) t.pending e)
+popped_weight t e xs = omega (arith, sum_by-cons (λ v. occurs v xs) e t.pending)
 
 pub popped_held : (t : SetsValue) (e : ℕ) (f : ℕ → ℕ)
     → sum_below (length t.marks) (λ i. cond (has_mark t.marks i) (f i) 0) + sum_by f
-    (t.pending ++ e ∷ []) ≡ sum_held t f + f e
-popped_held t e f = omega (arith, sum_by_push f t.pending e)
+    (e ∷ t.pending) ≡ sum_held t f + f e
+popped_held t e f = omega (arith, sum_by-cons f e t.pending)

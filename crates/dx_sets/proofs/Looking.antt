@@ -1,5 +1,5 @@
 -- A node that left is looked at, link by link.
-use Rattle.std.proofs.Common.{◌≡◌, ◌+◌, ◌<◌, ◌∷◌, ◌++◌, [], not, ℕ, Bool, true}
+use Rattle.std.proofs.Common.{◌≡◌, ◌+◌, ◌<◌, ◌∷◌, [], not, ℕ, Bool, true}
 use Rattle.std.proofs.Common.{false}
 use Rattle.std.proofs.Common.{List, length, get_or, drop, refl, sym, ap, subst, ◌∙◌, arith}
 use Rattle.std.specs.List.{filter}
@@ -183,7 +183,7 @@ pub looking_begins : (v : IncidenceValue) (cut : CutsOf) (root node : ℕ) (s t 
     → IsSteady v cut root s
     → s ≡ record {
       marks = t.marks;
-      pending = t.pending ++ node ∷ [];
+      pending = node ∷ t.pending;
       causes_left =
           t.causes_left;
       effects_left = t.effects_left;
@@ -220,7 +220,7 @@ looking_again v cut root dc de s t h = record {
 pub settles_on : (v : IncidenceValue) (cut : CutsOf) (root node : ℕ) (r s t u x : SetsValue)
     → s ≡ record {
       marks = t.marks;
-      pending = t.pending ++ node ∷ [];
+      pending = node ∷ t.pending;
       causes_left =
           t.causes_left;
       effects_left = t.effects_left;

@@ -1,5 +1,5 @@
 -- Why what leaves may leave, and what the counters say then.
-use Rattle.std.proofs.Common.{◌≡◌, ◌≢◌, ◌+◌, ◌-◌, ◌<◌, ◌≤◌, ◌++◌, not, ℕ}
+use Rattle.std.proofs.Common.{◌≡◌, ◌≢◌, ◌+◌, ◌-◌, ◌<◌, ◌≤◌, not, ℕ}
 use Rattle.std.proofs.Common.{Bool, true, false, cond, eqb, leb, List, [], ◌∷◌, length, get_or}
 use Rattle.std.proofs.Common.{take, set, refl, sym, ap, subst, ◌∙◌, arith, inl, inr}
 use Rattle.std.proofs.Common.{get_or-set_same, get_or-set_other}
@@ -632,7 +632,7 @@ module _ (v : IncidenceValue) (cut : CutsOf) (root j : ℕ) (rest : List ℕ) (s
 module _ (v : IncidenceValue) (cut : CutsOf) (node : ℕ) (s t : SetsValue) (inc : IsIncidence v)
     (popped : s ≡ record {
       marks = t.marks;
-      pending = t.pending ++ node ∷ [];
+      pending = node ∷ t.pending;
       causes_left =
           t.causes_left;
       effects_left = t.effects_left;
@@ -641,7 +641,7 @@ module _ (v : IncidenceValue) (cut : CutsOf) (node : ℕ) (s t : SetsValue) (inc
   abbrev before : SetsValue
   before = record {
     marks = t.marks;
-    pending = t.pending ++ node ∷ [];
+    pending = node ∷ t.pending;
     causes_left =
         t.causes_left;
     effects_left = t.effects_left;

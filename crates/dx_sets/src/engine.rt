@@ -146,7 +146,7 @@ pub fn settle<C: CutTest, L: Ledger>(
     ensures settles { SettlesTo table.now (C.is_cut cuts.now) root sets.old sets.new }
     ensures cost { steps.new + cost table.now sets.new ≡ steps.old + cost table.now sets.old }
 {
-    while let Some(node) = sets.pop() {
+    while let Some(node) = sets.pop_front() {
         steps.tick();
         lose_causes(table, cuts, node, root, sets, steps);
         lose_effects(table, cuts, node, root, sets, steps);

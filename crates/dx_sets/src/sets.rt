@@ -15,17 +15,18 @@ use std::marker::Model;
 #[derive(Drop)]
 pub struct Sets {
     marks: Vec<bool>,
-    /// The first of these have left the set and are not yet looked at. There is a place for each
-    /// node.
-    pending: Vec<u32>,
-    waiting: usize,
+    /// The nodes that have left the set, in that order. There is a place for each node.
+    gone: Vec<u32>,
+    /// How many have left, and how many of these were looked at.
+    left: usize,
+    looked: usize,
     causes_left: Vec<u32>,
     effects_left: Vec<u32>,
     support: Vec<u32>,
 }
 
 impl Model for Sets {
-    ghost use Rattle.std.specs.Prelude.{◌≡◌, ◌+◌, ◌≤◌, take, length};
+    ghost use Rattle.std.specs.Prelude.{◌≡◌, ◌+◌, ◌≤◌, drop, take, length};
     ghost use Rattle.std.specs.List.{count_by};
     ghost use Rattle.dx_sets.specs.Sets.{SetsValue};
 
@@ -33,15 +34,15 @@ impl Model for Sets {
 
     ghost view = { λ s. record {
       marks = s.marks.items;
-      pending = take s.waiting s.pending.items;
+      pending = drop s.looked (take s.left s.gone.items);
       causes_left = s.causes_left.items;
       effects_left = s.effects_left.items;
       support = s.support.items;
     } };
 
     ghost invariant = { λ s.
-        (s.waiting + count_by (λ b. b) s.marks.items ≤ length s.pending.items)
-        × (length s.pending.items ≡ length s.marks.items) };
+        (s.left + count_by (λ b. b) s.marks.items ≤ length s.gone.items)
+        × (length s.gone.items ≡ length s.marks.items) × (s.looked ≤ s.left) };
 }
 
 fn number_at(numbers: &[u32], place: u32) -> u32
@@ -71,14 +72,15 @@ impl Sets {
         }) }
     {
         let marks = vec![in alloc; false; nodes]?;
-        let pending = vec![in alloc; 0; nodes]?;
+        let gone = vec![in alloc; 0; nodes]?;
         let causes_left = vec![in alloc; 0; count]?;
         let effects_left = vec![in alloc; 0; count]?;
         let support = vec![in alloc; 0; nodes]?;
         Ok(Sets {
             marks,
-            pending,
-            waiting: 0,
+            gone,
+            left: 0,
+            looked: 0,
             causes_left,
             effects_left,
             support,
@@ -90,14 +92,15 @@ impl Sets {
         ensures { IfOk result (λ sets. sets ≡ self.now) }
     {
         let marks = Vec::from_slice(alloc, self.marks.as_slice())?;
-        let pending = Vec::from_slice(alloc, self.pending.as_slice())?;
+        let gone = Vec::from_slice(alloc, self.gone.as_slice())?;
         let causes_left = Vec::from_slice(alloc, self.causes_left.as_slice())?;
         let effects_left = Vec::from_slice(alloc, self.effects_left.as_slice())?;
         let support = Vec::from_slice(alloc, self.support.as_slice())?;
         Ok(Sets {
             marks,
-            pending,
-            waiting: self.waiting,
+            gone,
+            left: self.left,
+            looked: self.looked,
             causes_left,
             effects_left,
             support,
@@ -124,22 +127,24 @@ impl Sets {
     {
         if self.has(node) {
             self.marks[node as usize] = false;
-            self.pending[self.waiting] = node;
-            self.waiting += 1;
+            self.gone[self.left] = node;
+            self.left += 1;
         }
     }
 
-    /// The last node that left the set and is not yet looked at.
-    pub fn pop(&mut self) -> Option<u32>
+    /// The first node that left the set and is not yet looked at, so that what leaves together is
+    /// looked at together.
+    pub fn pop_front(&mut self) -> Option<u32>
         ensures none { result ≡ None → (self.new ≡ self.old) × (self.old.pending ≡ []) }
         ensures some { IfSome result (λ node.
-            self.old ≡ record self.new { pending = self.new.pending ++ node ∷ [] }) }
+            self.old ≡ record self.new { pending = node ∷ self.new.pending }) }
     {
-        if self.waiting == 0 {
+        if self.looked == self.left {
             return None;
         }
-        self.waiting -= 1;
-        Some(self.pending[self.waiting])
+        let node = self.gone[self.looked];
+        self.looked += 1;
+        Some(node)
     }
 
     /// How many causes of the instance are in the set or not yet looked at; 0 past the end.
@@ -202,7 +207,8 @@ impl Sets {
         ensures size { length self.new.marks ≡ length self.old.marks }
         ensures same { self.new ≡ record self.old { marks = self.new.marks; pending = [] } }
     {
-        self.waiting = 0;
+        self.left = 0;
+        self.looked = 0;
         mark_each(self.marks.as_mut_slice());
     }
 

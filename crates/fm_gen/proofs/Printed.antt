@@ -1,5 +1,5 @@
 -- The lines of entries that are given one after another.
-use Rattle.std.proofs.Common.{◌≡◌, ◌∙◌, ℕ, List, [], ◌∷◌, ◌++◌, Option, Some, None, refl, sym, ap}
+use Rattle.std.proofs.Common.{◌≡◌, ◌∙◌, ℕ, List, [], ◌∷◌, ◌++◌, Option, Some, None, sym, ap}
 use Rattle.std.proofs.Common.{append_assoc, append-nil, codes}
 use Rattle.std.specs.Prelude.{option_to_list, IfNone}
 use Rattle.fm_entry.specs.declared.entry.Entry.{Entry}

@@ -8,6 +8,7 @@ const FACTOR: u64 = 6_364_136_223_846_793_005;
 const INCREMENT: u64 = 1_442_695_040_888_963_407;
 
 /// What is drawn for one turn.
+#[derive(Clone, Copy, Drop)]
 pub struct TurnDraws {
     /// The first number, which picks the event.
     pub event: u64,
