@@ -13,13 +13,6 @@ pub(crate) fn reload_words(line: &str) -> Option<&str> {
     line.strip_prefix("reload ")
 }
 
-/// Whether some line is a reload.
-pub(crate) fn has_reload(lines: &[String]) -> bool {
-    lines
-        .iter()
-        .any(|line| reload_words(line.as_str()).is_some())
-}
-
 /// A reload to a configuration at a moment, as two numbers.
 fn reload_of(words: &str) -> Option<Entry>
     ensures { IfSome result IsSpelled }

@@ -11,26 +11,11 @@ use crate::setup::Setup;
 use dx_engine::{Diagnoser, NoMemory};
 use dx_rules::{Configs, Rulebook, Ruled};
 use dx_standing::can_begin;
-use ev_check::Checked;
 use ev_inst::{Guards, instantiate, make_guards};
 use fm_sources::read_rules;
-use fm_topo::{Topo, read_topo};
+use fm_topo::read_topo;
 use std::alloc::Global;
 use test_words::ScriptFault;
-
-fn checked(alloc: Global, text: &str) -> Result<Checked, ScriptFault> {
-    match read_rules(alloc, text.as_bytes()) {
-        Ok(checked) => Ok(checked),
-        Err(_) => Err(ScriptFault::NoSpelling),
-    }
-}
-
-fn topology(alloc: Global, text: &str) -> Result<Topo, ScriptFault> {
-    match read_topo(alloc, text.as_bytes()) {
-        Ok(topo) => Ok(topo),
-        Err(_) => Err(ScriptFault::NoSpelling),
-    }
-}
 
 /// The guards, none where payloads can break no link.
 fn some_guards(guards: Guards) -> Option<Guards> {
@@ -42,8 +27,12 @@ fn some_guards(guards: Guards) -> Option<Guards> {
 
 /// What a rule file comes to over a topology.
 fn ruled(alloc: Global, text: &str, parts: &str) -> Result<Ruled, ScriptFault> {
-    let topo = topology(alloc, parts)?;
-    let checked = checked(alloc, text)?;
+    let Ok(topo) = read_topo(alloc, parts.as_bytes()) else {
+        return Err(ScriptFault::NoSpelling);
+    };
+    let Ok(checked) = read_rules(alloc, text.as_bytes()) else {
+        return Err(ScriptFault::NoSpelling);
+    };
     let Ok(made) = instantiate(alloc, &checked, &topo) else {
         return Err(ScriptFault::NoSpelling);
     };

@@ -40,16 +40,12 @@ pub fn link_text(at: usize, first: &'static str) -> &'static str {
     if at == 0 { first } else { ", " }
 }
 
-fn put_event(at: usize, event: &EventName, text: &mut String) -> Result<(), AllocError> {
-    let front = link_text(at, " of ");
-    let class = event.class.text();
-    let path = event.path.text();
-    write!(text, "{front}{class} {path}")
-}
-
 fn put_observed(events: &[EventName], text: &mut String) -> Result<(), AllocError> {
     for (at, event) in events.iter().enumerate() {
-        put_event(at, event, text)?;
+        let front = link_text(at, " of ");
+        let class = event.class.text();
+        let path = event.path.text();
+        write!(text, "{front}{class} {path}")?;
     }
     Ok(())
 }
@@ -64,22 +60,17 @@ fn put_broken(links: &[Broken], text: &mut String) -> Result<(), AllocError> {
     Ok(())
 }
 
-fn put_suspect(at: usize, suspect: &Suspect, text: &mut String) -> Result<(), AllocError> {
-    let front = link_text(at, " by ");
-    let class = suspect.class.text();
-    let path = suspect.path.text();
-    let certainty = suspect.certainty;
-    let mark = mark_text(suspect.mark);
-    write!(text, "{front}{certainty}% {class} {path} {mark}")?;
-    if suspect.retire {
-        text.push_str(" retire")?;
-    }
-    Ok(())
-}
-
 fn put_suspects(suspects: &[Suspect], text: &mut String) -> Result<(), AllocError> {
     for (at, suspect) in suspects.iter().enumerate() {
-        put_suspect(at, suspect, text)?;
+        let front = link_text(at, " by ");
+        let class = suspect.class.text();
+        let path = suspect.path.text();
+        let certainty = suspect.certainty;
+        let mark = mark_text(suspect.mark);
+        write!(text, "{front}{certainty}% {class} {path} {mark}")?;
+        if suspect.retire {
+            text.push_str(" retire")?;
+        }
     }
     Ok(())
 }
@@ -109,23 +100,19 @@ impl Heard {
         }
     }
 
-    fn put(&mut self, words: &[ListEvent]) -> Result<(), AllocError> {
-        for word in words {
-            if !self.text.is_empty() {
-                self.text.push_str("; ")?;
-            }
-            put_word(word, &mut self.text)?;
-        }
-        Ok(())
-    }
-
     /// Takes what was said at an entry.
     pub fn take(&mut self, alloc: Global, spoken: &Spoken) -> Result<(), ScriptFault> {
         self.status.apply(alloc, spoken)?;
         let words = spoken.events.as_slice();
         self.words = self.words.saturating_add(words.len() as u64);
-        if spoken.number >= self.from {
-            self.put(words)?;
+        if spoken.number < self.from {
+            return Ok(());
+        }
+        for word in words {
+            if !self.text.is_empty() {
+                self.text.push_str("; ")?;
+            }
+            put_word(word, &mut self.text)?;
         }
         Ok(())
     }

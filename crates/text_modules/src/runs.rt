@@ -1,7 +1,7 @@
 // A module that takes the entries of a setup, and what it has come to.
 use crate::cases::{CaseRow, Cases};
 use crate::cores::{loaded_from, play, saved, step_all};
-use crate::entries::has_reload;
+use crate::entries::reload_words;
 use crate::files::{configs_of, module_of, twins};
 use crate::heard::Heard;
 use crate::setup::Setup;
@@ -50,7 +50,8 @@ fn play_setup(
 fn state_after(alloc: Global, setup: &Setup, heard: &mut Heard) -> Result<Vec<u8>, ScriptFault> {
     match setup.number {
         Some(number) => {
-            if has_reload(setup.entries.as_slice()) {
+            let mut lines = setup.entries.iter();
+            if lines.any(|line| reload_words(line.as_str()).is_some()) {
                 step_setup(alloc, setup, heard)
             } else {
                 play_setup(alloc, setup, number, heard)
