@@ -44,7 +44,7 @@ impl Cases for Diagnoser {
     }
 }
 
-/// Appends cases, each with whether it is `open` or `solved`, and its number of reports or suspects.
+/// Appends cases, each with whether it is `open` or `solved`, and its count of reports or suspects.
 pub fn put_cases(rows: &[CaseRow], kind: &str, text: &mut String) -> Result<(), AllocError> {
     for row in rows {
         let case = row.case;
