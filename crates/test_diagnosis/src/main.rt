@@ -1,17 +1,16 @@
-//! Tests of the diagnosis of rule files: what a module says at entries, from the text of the rules
-//! on.
+//! The program `test_diagnosis`: a script about diagnosis modules that take entries, from standard
+//! input, and what each of its lines comes to, to standard output.
 #![tactic(auto)]
 
-#[cfg(test)]
-mod engines;
-#[cfg(test)]
-mod files;
-#[cfg(test)]
-mod payloads;
-#[cfg(test)]
-mod played;
-#[cfg(test)]
-mod solved;
+mod fields;
+mod rows;
+mod script;
+mod steps;
 
-/// Nothing: the tests are what this program is for.
-fn main() {}
+use crate::script::Held;
+use std::process::ExitCode;
+use test_words::run_script;
+
+fn main(rt: HostRuntime) -> ExitCode {
+    run_script(&rt, &mut Held::new(rt.alloc()))
+}
