@@ -13,7 +13,7 @@ records-init c =
 pub records-preserved : goal.records-preserved
 records-preserved c =
     let is : into_iter_items c.records.record-iterator
-            ≡ c.in-Some.record ∷ into_iter_items c.next.new.self = grind (arith, common_steps) in
+    ≡ c.in-Some.record ∷ into_iter_items c.next.new.self = grind (arith, common_steps) in
     rows_more c.args.records.items (into_iter_items c.records.record-iterator)
     (into_iter_items c.next.new.self) c.in-Some.record c.records.status c.take.new.self is
     c.records.invariant c.in_ok-take.ensures.last
