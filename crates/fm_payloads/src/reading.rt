@@ -40,7 +40,7 @@ fn read_at<D: Disk>(
 
 /// Reads the payload at a place into the front of the buffer, which is made longer where it has to
 /// be, and answers how many bytes the payload has.
-fn read_into<D: Disk>(
+pub fn read_into<D: Disk>(
     journal: &mut Journal<D>,
     piece: &mut Piece,
     place: u64,

@@ -23,5 +23,5 @@ mod words;
 pub use fm_bytes::NoMemory;
 pub use hands::hands_of;
 pub use logged::LoggedSpoken;
-pub use records::retrace;
+pub use records::{retrace, retrace_record};
 pub use retraced::Retraced;

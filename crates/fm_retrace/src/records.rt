@@ -16,8 +16,9 @@ use fm_core::Module;
 use fm_entry::{Entry, Spoken};
 use std::alloc::Global;
 
-/// Whether the module at a place says the record next. Then it has come there.
-fn take_at<M: Module>(
+/// Whether the record's module says it next, along the entries from the base on. Then it has come
+/// there.
+pub fn retrace_record<M: Module>(
     alloc: Global,
     base: u64,
     entries: &[Entry],
@@ -73,7 +74,7 @@ pub fn retrace<M: Module>(
 {
     let mut place = 0;
     'records: for record in records {
-        if !take_at(alloc, base, entries, modules, record.get())? {
+        if !retrace_record(alloc, base, entries, modules, record.get())? {
             return Ok(Some(place));
         }
         place += 1;

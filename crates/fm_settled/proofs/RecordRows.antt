@@ -1,7 +1,6 @@
 -- Rows of records, one after another, and those of the book that a store stands for.
-use Rattle.std.proofs.Common.{◌≡◌, ℕ, ◌+◌, ◌<◌, ◌≤◌, List, [], ◌∷◌, ◌++◌, length, take, get_or}
-use Rattle.std.proofs.Common.{append-nil, refl, sym, ◌∙◌, ap, subst}
-use Rattle.std.proofs.lemmas.List.{take_more, take_all}
+use Rattle.std.proofs.Common.{◌≡◌, List, [], ◌∷◌, ◌++◌}
+use Rattle.std.proofs.Common.{append-nil, append_assoc, refl, sym, ◌∙◌, ap, subst}
 use Rattle.std.proofs.lemmas.List.Concat.{flat_map-append}
 use Rattle.std.specs.List.Sorted.{IsStrictlySortedBy}
 use Rattle.fm_core.specs.Book.{ModuleState}
@@ -19,30 +18,44 @@ no_rows : AreRows [] []
 unfolding IsStrictlySortedBy
 no_rows = record { ascend = tt; last = λ c. refl }
 
-pub rows_start : (xs : List Spoken) (rows : List ListEvent) → rows ≡ []
-    → AreRows (words_in (take 0 xs)) rows
-rows_start [] rows none = subst (AreRows []) (sym none) no_rows
-rows_start (x ∷ xs) rows none = subst (AreRows []) (sym none) no_rows
+-- the rows are those of the records before the rest of all
+pub record AreRowsBefore (all rest : List Spoken) (rows : List ListEvent) : Type 0 where
+  done : List Spoken
+  whole : done ++ rest ≡ all
+  rows_are : AreRows (words_in done) rows
 
-words_more : (xs : List Spoken) (i : ℕ) (x : Spoken) → i < length xs → x ≡ get_or xs i x
-    → words_in (take i xs) ++ x.events ≡ words_in (take (i + 1) xs)
-words_more xs i x low is =
-    ap (λ l. words_in (take i xs) ++ l) (sym (append-nil x.events))
-    ∙ (sym (flat_map-append (λ (r : Spoken). r.events) (take i xs) (x ∷ []))
-    ∙ ap words_in (ap (λ y. take i xs ++ y ∷ []) is ∙ sym (take_more xs i x low)))
+pub rows_start : (all rest : List Spoken) (rows : List ListEvent) → rest ≡ all → rows ≡ []
+    → AreRowsBefore all rest rows
+rows_start all rest rows same none = record {
+  done = [];
+  whole = same;
+  rows_are = subst (AreRows []) (sym none) no_rows;
+}
 
-pub rows_more : (xs : List Spoken) (i : ℕ) (x : Spoken) (old new : List ListEvent)
-    → i < length xs → x ≡ get_or xs i x → AreRows (words_in (take i xs)) old
+words_more : (done : List Spoken) (x : Spoken)
+    → words_in done ++ x.events ≡ words_in (done ++ x ∷ [])
+words_more done x =
+    ap (λ l. words_in done ++ l) (sym (append-nil x.events))
+    ∙ sym (flat_map-append (λ (r : Spoken). r.events) done (x ∷ []))
+
+pub rows_more : (all whole rest : List Spoken) (x : Spoken) (old new : List ListEvent)
+    → whole ≡ x ∷ rest → AreRowsBefore all whole old
     → ((words : List ListEvent) → AreRows words old → AreRows (words ++ x.events) new)
-    → AreRows (words_in (take (i + 1) xs)) new
-rows_more xs i x old new low is are last =
-    subst (λ (words : List ListEvent). AreRows words new) (words_more xs i x low is)
-    (last (words_in (take i xs)) are)
+    → AreRowsBefore all rest new
+rows_more all whole rest x old new is before last = record {
+  done = before.done ++ x ∷ [];
+  whole = append_assoc before.done (x ∷ []) rest
+      ∙ (ap (λ l. before.done ++ l) (sym is) ∙ before.whole);
+  rows_are = subst (λ (words : List ListEvent). AreRows words new) (words_more before.done x)
+      (last (words_in before.done) before.rows_are);
+}
 
-pub rows_end : (xs : List Spoken) (i : ℕ) (rows : List ListEvent) → length xs ≤ i
-    → AreRows (words_in (take i xs)) rows → AreRows (words_in xs) rows
-rows_end xs i rows past are =
-    subst (λ (records : List Spoken). AreRows (words_in records) rows) (take_all i xs past) are
+pub rows_end : (all rest : List Spoken) (rows : List ListEvent) → rest ≡ []
+    → AreRowsBefore all rest rows → AreRows (words_in all) rows
+rows_end all rest rows none before =
+    subst (λ (records : List Spoken). AreRows (words_in records) rows)
+    (sym (append-nil before.done) ∙ (ap (λ l. before.done ++ l) (sym none) ∙ before.whole))
+    before.rows_are
 
 -- the rows of a book's records, in order
 pub book_status : {D M : Type 0} (g : Ghosts D) (fresh : List ModuleState) (store : StoreOf D M)

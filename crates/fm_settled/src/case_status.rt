@@ -19,12 +19,12 @@ use fm_store::{Store, StoreFault};
 use std::alloc::Global;
 
 /// The rows of the words of records, in the order of these.
-fn status_from(alloc: Global, records: &[Spoken]) -> Result<Status, NoMemory>
-    ensures { IfOk result (AreRows (words_in records.now)) }
+fn status_from(alloc: Global, records: Vec<Spoken>) -> Result<Status, NoMemory>
+    ensures { IfOk result (AreRows (words_in records.items)) }
 {
     let mut status = Status::new(alloc);
     'records: for record in records {
-        status.apply(alloc, record)?;
+        status.take(record)?;
     }
     Ok(status)
 }
@@ -46,5 +46,5 @@ pub fn read_status<D: Disk, M>(store: &mut Store<D, M>, alloc: Global) -> Result
     ensures same_disks { AreSameStore D.Disk store.old store.new }
 {
     let records = store.spoken(alloc)?;
-    Ok(status_from(alloc, &records)?)
+    Ok(status_from(alloc, records)?)
 }

@@ -99,6 +99,20 @@ impl Status {
         Ok(())
     }
 
+    /// Takes the words of a record, as they are: each is the row of its case from now on. Without
+    /// memory some of them may have been taken.
+
+    pub fn take(&mut self, spoken: Spoken) -> Result<(), NoMemory>
+        ensures ok { OnOk result (self.new ≡ put_rows self.old spoken.events) }
+        ensures last { OnOk result ((words : List ListEvent)
+            → AreRows words self.old → AreRows (words ++ spoken.events) self.new) }
+    {
+        'words: for word in spoken.events.into_vec() {
+            self.put(word)?;
+        }
+        Ok(())
+    }
+
     /// The row of a case; None where it was not spoken of.
     pub fn row(&self, case: &CaseName) -> Option<&ListEvent>
         ensures { option_copied result ≡ case_row case.now self.now }

@@ -12,22 +12,22 @@ returns-then-not-branch-clause-retraces g c = λ k has start begun.
     (slice_get_read c.args.records.now (length c.args.records.now) c.records.record-index
     c.record-item.result refl c.records-test.true c.record-item.is)
     c.records.invariant.place_is c.get.ensures.same so_far.0
-    (c.in_ok-take_at.ensures.no c.if-not-branch.true k
+    (c.in_ok-retrace_record.ensures.no c.if-not-branch.true k
     (take c.records.record-index c.args.records.now) has so_far.0 so_far.1)
 
 pub records-preserved : goal.records-preserved
 records-preserved g c = record {
   place_is = omega (arith, c.records.invariant.place_is);
-  kept = c.take_at.ensures.kept ∙ c.records.invariant.kept;
-  within = λ all. c.take_at.ensures.within (c.records.invariant.within all);
+  kept = c.retrace_record.ensures.kept ∙ c.records.invariant.kept;
+  within = λ all. c.retrace_record.ensures.within (c.records.invariant.within all);
   so_far = λ k has start begun.
       let so_far = c.records.invariant.so_far k has start begun in
-      go_on g.M.Module k c.args.records.now c.records.record-index c.take_at.new.modules.items
+      go_on g.M.Module k c.args.records.now c.records.record-index c.retrace_record.new.modules.items
       c.record-item.result c.get.result.now
       (slice_get_read c.args.records.now (length c.args.records.now) c.records.record-index
       c.record-item.result refl c.records-test.true c.record-item.is)
       c.get.ensures.same
-      (c.in_ok-take_at.ensures.yes c.if-not-branch.false k
+      (c.in_ok-retrace_record.ensures.yes c.if-not-branch.false k
       (take c.records.record-index c.args.records.now) has so_far.0 so_far.1);
 }
 

@@ -1,7 +1,5 @@
 -- The records were read, and their words are rows.
-use Rattle.std.proofs.Common.{rules, subst}
-use Rattle.fm_status.specs.Rows.{AreRows}
-use Rattle.fm_settled.specs.CaseStatus.{words_in}
+use Rattle.std.proofs.Common.{rules}
 use Rattle.fm_settled.proofs.RecordRows.{book_status}
 use Rattle.fm_settled.proofs.case_status.read_status.Goals as goal
 
@@ -14,5 +12,4 @@ pub returns-clause-status : goal.returns-clause-status
 returns-clause-status g c = λ fresh k st.
     book_status g.D.Disk fresh c.args.store.now k c.in_ok-records.records.items
     c.in_ok-status_from.field-0 st (c.in_ok-records.ensures.records fresh k st)
-    (subst (λ records. AreRows (words_in records) c.in_ok-status_from.field-0)
-    c.deref.ensures.value c.in_ok-status_from.ensures)
+    c.in_ok-status_from.ensures

@@ -2,7 +2,7 @@
 use Rattle.std.proofs.Common.{◌+◌, arith, length, refl}
 use Rattle.fm_retrace.proofs.Come.{own_number, meanings_kept, take_yes, take_no, take_none}
 use Rattle.fm_retrace.proofs.Come.{within_set}
-use Rattle.fm_retrace.proofs.records.take_at.Goals as goal
+use Rattle.fm_retrace.proofs.records.retrace_record.Goals as goal
 
 pub returns-then-at-len-clause-no : goal.returns-then-at-len-clause-no
 returns-then-at-len-clause-no g c = λ _ k records has so_far come.
