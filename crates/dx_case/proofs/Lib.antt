@@ -9,3 +9,4 @@ pub mod Steps
 pub mod Fresh
 pub mod Verdicts
 pub mod Fitting
+pub mod Masks

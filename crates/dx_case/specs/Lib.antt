@@ -5,3 +5,4 @@ pub mod Cases
 pub mod Places
 pub mod Facts
 pub mod Kinds
+pub mod Numbers

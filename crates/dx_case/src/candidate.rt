@@ -34,7 +34,7 @@ impl Candidate {
 pub(crate) fn copies_of(alloc: Global, candidates: &[Candidate]) -> Result<Vec<Candidate>, NoMemory>
     ensures { IfOk result (λ made. made.items ≡ candidates.now) }
 {
-    let mut made = Vec::new(alloc);
+    let mut made = Vec::with_capacity(alloc, candidates.len())?;
     for candidate in candidates {
         made.push(candidate.copy(alloc)?)?;
     }

@@ -19,7 +19,8 @@ use crate::changes::{Change, awaited_until, change_each};
 use crate::facts::{CaseFacts, as_links};
 use crate::finding::fresh_from;
 use crate::kinds::Asked;
-use crate::lists::{is_among, put_links, put_number};
+use crate::lists::{put_links, put_number};
+use crate::numbers::Numbers;
 use crate::outcome::{Outcome, roots_among};
 use ev_graph::{Graph, Link, NoMemory};
 use std::alloc::Global;
@@ -34,11 +35,11 @@ pub struct Case {
     /// The age up to which each report is awaited whose window is not over.
     until: u64,
     entries: Vec<u64>,
-    observed: Vec<u32>,
+    observed: Numbers,
     broken: Vec<Link>,
     candidates: Vec<Candidate>,
     /// The reports that the candidates' roots reach, ascending.
-    reports: Vec<u32>,
+    reports: Numbers,
     /// Whether some report is pending.
     waiting: bool,
 }
@@ -79,7 +80,8 @@ impl Case {
             (λ c. open_of c ≡ case_opened number node moment entry broken.now) }
         ensures time { IfOk result (λ c. time_of c ≡ Some moment) }
     {
-        let observed = Vec::from_array(alloc, [node])?;
+        let reported = Vec::from_array(alloc, [node])?;
+        let observed = Numbers::new(reported);
         let entries = Vec::from_array(alloc, [entry])?;
         let mut links = Vec::new(alloc);
         put_links(&mut links, broken)?;
@@ -92,7 +94,7 @@ impl Case {
             observed,
             broken: links,
             candidates: Vec::new(alloc),
-            reports: Vec::new(alloc),
+            reports: Numbers::new(Vec::new(alloc)),
             waiting: false,
         };
         case.find_candidates(alloc, graph)?;
@@ -113,7 +115,8 @@ impl Case {
         ensures time { IfOk result (λ c. time_of c ≡ Some moment) }
     {
         let entries = Vec::from_slice(alloc, facts.entries)?;
-        let observed = Vec::from_slice(alloc, facts.observed)?;
+        let reported = Vec::from_slice(alloc, facts.observed)?;
+        let observed = Numbers::new(reported);
         let broken = as_links(alloc, facts.broken)?;
         let mut case = Case {
             number: facts.number,
@@ -124,7 +127,7 @@ impl Case {
             observed,
             broken,
             candidates: Vec::new(alloc),
-            reports: Vec::new(alloc),
+            reports: Numbers::new(Vec::new(alloc)),
             waiting: false,
         };
         case.find_candidates(alloc, graph)?;
@@ -140,10 +143,10 @@ impl Case {
             → IfOk result (λ c. IsCaseOf g c) }
     {
         let entries = Vec::from_slice(alloc, self.entries.as_slice())?;
-        let observed = Vec::from_slice(alloc, self.observed.as_slice())?;
+        let observed = self.observed.copy(alloc)?;
         let broken = Vec::from_slice(alloc, self.broken.as_slice())?;
         let candidates = copies_of(alloc, self.candidates.as_slice())?;
-        let reports = Vec::from_slice(alloc, self.reports.as_slice())?;
+        let reports = self.reports.copy(alloc)?;
         Ok(Case {
             number: self.number,
             opened: self.opened,
@@ -210,8 +213,8 @@ impl Case {
             → result ≡ takes_at g (time_of self.now) node (open_of self.now) }
     {
         joins(
-            self.observed.as_slice(),
-            self.reports.as_slice(),
+            &self.observed,
+            &self.reports,
             self.candidates.as_slice(),
             node,
         )
@@ -252,7 +255,7 @@ impl Case {
         let mut links = Vec::from_slice(alloc, self.broken.as_slice())?;
         put_links(&mut links, broken)?;
         self.entries.push(entry)?;
-        self.observed = observed;
+        self.observed = Numbers::new(observed);
         self.broken = links;
         self.cut(graph, broken);
         Ok(())
@@ -336,9 +339,10 @@ impl Case {
     {
         // This says that the graph is a lawful one.
         let _ = graph.nodes();
-        let fresh = fresh_from(alloc, graph, self.observed[0])?;
+        let node = self.observed.first();
+        let fresh = fresh_from(alloc, graph, node)?;
         self.candidates = fresh.candidates;
-        self.reports = fresh.reports;
+        self.reports = Numbers::new(fresh.reports);
         let change = Change {
             links: self.broken.as_slice(),
             reports: &[],
@@ -407,10 +411,10 @@ impl Case {
 }
 
 /// Whether a node was observed, or is a report of some set.
-fn joins(observed: &[u32], reports: &[u32], candidates: &[Candidate], node: u32) -> bool
-    ensures { ascends observed.now ≡ true → ascends reports.now ≡ true
-        → result ≡ (is_member observed.now node
-        || (is_member reports.now node && is_held candidates.now node)) }
+fn joins(observed: &Numbers, reports: &Numbers, candidates: &[Candidate], node: u32) -> bool
+    ensures { ascends observed.now.items ≡ true → ascends reports.now.items ≡ true
+        → result ≡ (is_member observed.now.items node
+        || (is_member reports.now.items node && is_held candidates.now node)) }
 {
-    is_among(observed, node) || (is_among(reports, node) && is_held(candidates, node))
+    observed.has(node) || (reports.has(node) && is_held(candidates, node))
 }

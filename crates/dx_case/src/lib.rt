@@ -33,6 +33,7 @@ mod facts;
 mod finding;
 mod kinds;
 mod lists;
+mod numbers;
 mod outcome;
 
 pub use case::Case;

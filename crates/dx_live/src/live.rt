@@ -207,7 +207,7 @@ impl Live {
     pub fn copy(&self, alloc: Global) -> Result<Live, NoMemory>
         ensures { IfOk result (λ live. live ≡ self.now) }
     {
-        let region = self.region.copy(alloc)?;
+        let region = self.region.copy()?;
         let sets = self.sets.copy(alloc)?;
         let cuts = self.cuts.copy(alloc)?;
         Ok(Live {

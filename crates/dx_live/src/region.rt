@@ -11,20 +11,21 @@ ghost use Rattle.dx_live.specs.Region.{table_over, region_over};
 use ev_graph::{Incidence, Marked, NoMemory, Rows, search};
 use std::alloc::Global;
 use std::marker::Model;
+use std::sync::Arc;
 
 /// What a root reaches: its nodes and instances, ascending, and what the instances say of places
 /// among the nodes. It takes 12 bytes a node, 20 an instance and 8 a link, of what is reached.
 /// Where that is more than half of the instances of a graph, the part is the whole graph, of which
 /// the incidence serves: it takes 4 bytes a node and 4 an instance then.
 #[derive(Drop)]
-pub struct Region {
+struct Part {
     nodes: Vec<u32>,
     places: Vec<u32>,
     /// What the instances say, none for the whole graph.
     own: Option<Incidence>,
 }
 
-impl Model for Region {
+impl Model for Part {
     ghost use Rattle.dx_live.specs.Region.{KeptRegion};
 
     ghost Value = { KeptRegion };
@@ -253,12 +254,12 @@ fn numbers_below(alloc: Global, count: usize) -> Result<Vec<u32>, NoMemory>
 }
 
 /// The whole graph of an incidence.
-fn whole(alloc: Global, table: &Incidence) -> Result<Region, NoMemory>
+fn whole(alloc: Global, table: &Incidence) -> Result<Part, NoMemory>
     ensures { IfOk result (λ part. IsWholeOf table.now part) }
 {
     let nodes = numbers_below(alloc, table.nodes())?;
     let places = numbers_below(alloc, table.count())?;
-    Ok(Region {
+    Ok(Part {
         nodes,
         places,
         own: None,
@@ -270,11 +271,9 @@ fn are_most(places: &[u32], table: &Incidence) -> bool {
     places.len() > table.count() / 2
 }
 
-impl Region {
-    /// The part that a node reaches. It takes the time of what is reached and that of sorting it,
-    /// or the time of the graph if that is reached for the most part; while it runs, it takes 5
-    /// bytes for each node and one for each instance of the graph.
-    pub fn new(alloc: Global, table: &Incidence, root: u32) -> Result<Region, NoMemory>
+impl Part {
+    /// The part that a node reaches.
+    fn new(alloc: Global, table: &Incidence, root: u32) -> Result<Part, NoMemory>
         requires { root < length table.now.uses }
         ensures region { IfOk result
             (λ part. IsRegionOf (wiring_of table.now) root (region_over table.now part)) }
@@ -293,28 +292,15 @@ impl Region {
         let nodes = ascending_of(alloc, reached.as_slice())?;
         let places = ascending_of(alloc, taken.as_slice())?;
         let table = local_table(alloc, table, nodes.as_slice(), places.as_slice())?;
-        Ok(Region {
+        Ok(Part {
             nodes,
             places,
             own: Some(table),
         })
     }
 
-    /// An equal region.
-    pub fn copy(&self, alloc: Global) -> Result<Region, NoMemory>
-        ensures { IfOk result (λ part. part ≡ self.now) }
-    {
-        let nodes = Vec::from_slice(alloc, self.nodes.as_slice())?;
-        let places = Vec::from_slice(alloc, self.places.as_slice())?;
-        let own = match &self.own {
-            Some(table) => Some(table.copy(alloc)?),
-            None => None,
-        };
-        Ok(Region { nodes, places, own })
-    }
-
     /// The nodes, ascending.
-    pub fn nodes(&self) -> &[u32]
+    fn nodes(&self) -> &[u32]
         ensures nodes { result.now ≡ self.now.nodes }
         ensures ascend { ascends self.now.nodes ≡ true }
         ensures few { length self.now.nodes < 2 ^ 32 }
@@ -323,7 +309,7 @@ impl Region {
     }
 
     /// The instances, ascending.
-    pub fn places(&self) -> &[u32]
+    fn places(&self) -> &[u32]
         ensures places { result.now ≡ self.now.places }
         ensures ascend { ascends self.now.places ≡ true }
         ensures few { length self.now.places < 2 ^ 32 }
@@ -331,13 +317,78 @@ impl Region {
         self.places.as_slice()
     }
 
-    /// The incidence of the part by local numbers, where this is the one of the graph.
-    pub fn table<'a>(&'a self, whole: &'a Incidence) -> &'a Incidence
+    /// The incidence by local numbers, where this is the one of the graph.
+    fn table<'a>(&'a self, whole: &'a Incidence) -> &'a Incidence
         ensures { result.now ≡ table_over whole.now self.now.own }
     {
         match &self.own {
             Some(table) => table,
             None => whole,
         }
+    }
+}
+
+/// A part that a root reaches. It never changes, and its copies share it.
+#[derive(Drop)]
+pub struct Region {
+    part: Arc<Part>,
+}
+
+impl Model for Region {
+    ghost use Rattle.dx_live.specs.Region.{KeptRegion};
+
+    ghost Value = { KeptRegion };
+
+    ghost view = { λ r. r.part.value };
+}
+
+impl Region {
+    /// The part that a node reaches. It takes the time of what is reached and that of sorting it,
+    /// or the time of the graph if that is reached for the most part; while it runs, it takes 5
+    /// bytes for each node and one for each instance of the graph.
+    pub fn new(alloc: Global, table: &Incidence, root: u32) -> Result<Region, NoMemory>
+        requires { root < length table.now.uses }
+        ensures region { IfOk result
+            (λ part. IsRegionOf (wiring_of table.now) root (region_over table.now part)) }
+        ensures part { IfOk result (λ part. IsPartOf table.now (region_over table.now part)) }
+        ensures local { IfOk result (λ part.
+            IsLocalTable table.now part.nodes part.places (table_over table.now part.own)) }
+    {
+        let part = Part::new(alloc, table, root)?;
+        let part = Arc::new(alloc, part)?;
+        Ok(Region { part })
+    }
+
+    /// An equal region. It takes no memory: it is want of memory alone where 2^63 share one part.
+    pub fn copy(&self) -> Result<Region, NoMemory>
+        ensures { IfOk result (λ part. part ≡ self.now) }
+    {
+        let part = self.part.clone()?;
+        Ok(Region { part })
+    }
+
+    /// The nodes, ascending.
+    pub fn nodes(&self) -> &[u32]
+        ensures nodes { result.now ≡ self.now.nodes }
+        ensures ascend { ascends self.now.nodes ≡ true }
+        ensures few { length self.now.nodes < 2 ^ 32 }
+    {
+        self.part.nodes()
+    }
+
+    /// The instances, ascending.
+    pub fn places(&self) -> &[u32]
+        ensures places { result.now ≡ self.now.places }
+        ensures ascend { ascends self.now.places ≡ true }
+        ensures few { length self.now.places < 2 ^ 32 }
+    {
+        self.part.places()
+    }
+
+    /// The incidence of the part by local numbers, where this is the one of the graph.
+    pub fn table<'a>(&'a self, whole: &'a Incidence) -> &'a Incidence
+        ensures { result.now ≡ table_over whole.now self.now.own }
+    {
+        self.part.table(whole)
     }
 }

@@ -2,12 +2,13 @@
 use Rattle.std.proofs.Common.{◌≡◌, ℕ, ◌+◌, ◌<◌, Bool, true, false, List, [], ◌∷◌, ◌++◌, length}
 use Rattle.std.proofs.Common.{map, refl, sym, ap, ◌∙◌, Option, Some, None, get_or, take}
 use Rattle.std.proofs.Math.ListN.{set}
-use Rattle.std.specs.List.{filter}
+use Rattle.std.specs.List.{filter, list_all}
+use Rattle.std.proofs.lemmas.Bool.{false≢true}
 use Rattle.std.proofs.lemmas.List.{take_more, take_more_set, map-append}
 use Rattle.dx_case.specs.declared.case.Case.{Case}
 use Rattle.dx_turn.specs.declared.tracked.Tracked.{Tracked}
 use Rattle.dx_turn.specs.Tracking.{cases_of, kept_of}
-use Rattle.dx_turn.specs.Standing.{still_of, after_turn, before_turn, has_kept}
+use Rattle.dx_turn.specs.Standing.{still_of, after_turn, before_turn, has_kept, is_still}
 
 -- one more was changed so
 pub changed_step : (f : Tracked → Tracked) (all ts : List Tracked) (at : ℕ) (e t : Tracked)
@@ -50,3 +51,19 @@ pub back_cases : (ts : List Tracked)
     → filter has_kept (map before_turn ts) ≡ map still_of (kept_of ts)
 back_cases [] = refl
 back_cases (t ∷ ts) = back_one t.kept t.changed t.decided ts (back_cases ts)
+
+-- those that the turn has not changed are left as they are
+still_one : (kept changed : Option Case) (decided : Bool) (ts : List Tracked)
+    → list_all is_still (record { kept = kept; changed = changed; decided = decided } ∷ ts) ≡ true
+    → (list_all is_still ts ≡ true → ts ≡ map still_of (cases_of ts))
+    → record { kept = kept; changed = changed; decided = decided } ∷ ts
+    ≡ map still_of (cases_of (record { kept = kept; changed = changed; decided = decided } ∷ ts))
+still_one None changed decided ts h k = absurd (false≢true h)
+still_one (Some c) (Some d) decided ts h k = absurd (false≢true h)
+still_one (Some c) None true ts h k = absurd (false≢true h)
+still_one (Some c) None false ts h k = ap (λ (xs : List Tracked). still_of c ∷ xs) (k h)
+
+pub still_cases : (ts : List Tracked) → list_all is_still ts ≡ true
+    → ts ≡ map still_of (cases_of ts)
+still_cases [] h = refl
+still_cases (t ∷ ts) h = still_one t.kept t.changed t.decided ts h (still_cases ts)

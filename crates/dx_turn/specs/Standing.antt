@@ -1,5 +1,5 @@
 -- Open cases between two turns.
-use Rattle.std.specs.Prelude.{Bool, true, false, Option, Some, None, if◌then◌else◌}
+use Rattle.std.specs.Prelude.{Bool, true, false, not, ◌&&◌, Option, Some, None, if◌then◌else◌}
 use Rattle.dx_case.specs.declared.case.Case.{Case}
 use Rattle.dx_turn.specs.declared.tracked.Tracked.{Tracked}
 
@@ -30,3 +30,7 @@ is_some_case (Some c) = true
 -- there is a case
 abbrev pub has_kept : Tracked → Bool
 has_kept t = is_some_case t.kept
+
+-- it is a case that the turn has not changed
+abbrev pub is_still : Tracked → Bool
+is_still t = is_some_case t.kept && (not (is_some_case t.changed) && not t.decided)

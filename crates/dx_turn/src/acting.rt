@@ -95,6 +95,10 @@ fn report(
     ensures ok { OnOk result
         (HasGone ground.now (reported_by ground.now entry name payload.now) work.old work.new) }
 {
+    // Most reports of other modules' classes end here, before a search among all names.
+    if !declares(ground.graph, &name.class) {
+        return Ok(());
+    }
     match report_named(ground.graph, &name) {
         Some(node) => join_known(ground, work, entry, node, payload),
         None => join_unknown(ground, work, name),

@@ -1,9 +1,9 @@
 //! Open cases at the end of a turn, which is kept or undone.
 
 ghost use Rattle.std.specs.Prelude.{◌≡◌, map};
-ghost use Rattle.std.specs.List.{filter};
+ghost use Rattle.std.specs.List.{filter, list_all};
 ghost use Rattle.dx_turn.specs.Tracking.{cases_of, kept_of};
-ghost use Rattle.dx_turn.specs.Standing.{after_turn, before_turn, has_kept, still_of};
+ghost use Rattle.dx_turn.specs.Standing.{after_turn, before_turn, has_kept, is_still, still_of};
 
 use crate::tracked::Tracked;
 
@@ -32,10 +32,20 @@ fn drop_blank(cases: &mut Vec<Tracked>)
     cases.retain(|tracked| tracked.has_kept());
 }
 
+/// Whether the turn has changed none of these.
+fn are_still(cases: &[Tracked]) -> bool
+    ensures { result ≡ list_all is_still cases.now }
+{
+    cases.iter().all(|tracked| tracked.is_still())
+}
+
 /// The turn is over: the open cases are from now on those that it has left. It takes no memory.
 pub fn end_turn(cases: &mut Vec<Tracked>)
     ensures { cases.new.items ≡ map still_of (cases_of cases.old.items) }
 {
+    if are_still(cases.as_slice()) {
+        return;
+    }
     end_each(cases);
     drop_blank(cases);
 }

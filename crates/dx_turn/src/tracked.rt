@@ -5,7 +5,7 @@ ghost use Rattle.std.specs.List.{list_any};
 ghost use Rattle.ev_graph.specs.Lawful.{GraphValue};
 ghost use Rattle.dx_words.specs.Cases.{takes_report};
 ghost use Rattle.dx_turn.specs.Tracking.{now_of, opens_of, IsTrackedAt, HasOpen};
-ghost use Rattle.dx_turn.specs.Standing.{after_turn, before_turn, has_kept};
+ghost use Rattle.dx_turn.specs.Standing.{after_turn, before_turn, has_kept, is_still};
 
 use dx_case::Case;
 
@@ -111,13 +111,14 @@ impl Tracked {
     pub(crate) fn end_turn(&mut self)
         ensures { self.new ≡ after_turn self.old }
     {
+        // Nothing is written where nothing was changed, since most cases are.
         if self.decided {
             self.kept = None;
+            self.changed = None;
             self.decided = false;
-        } else if let Some(case) = self.changed.take() {
-            self.kept = Some(case);
+        } else if self.changed.is_some() {
+            self.kept = self.changed.take();
         }
-        self.changed = None;
     }
 
     /// The turn is undone: the case is as it was before it.
@@ -126,6 +127,13 @@ impl Tracked {
     {
         self.changed = None;
         self.decided = false;
+    }
+
+    /// Whether it is a case that the turn has not changed.
+    pub(crate) fn is_still(&self) -> bool
+        ensures { result ≡ is_still self.now }
+    {
+        self.kept.is_some() && self.changed.is_none() && !self.decided
     }
 
     /// Whether there was a case before the turn.

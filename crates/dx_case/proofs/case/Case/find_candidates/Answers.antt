@@ -1,6 +1,5 @@
 use Rattle.std.proofs.Common.{◌≡◌, ◌∷◌, [], ◌∙◌, ℕ, true, sym, ap, subst}
 use Rattle.std.specs.List.{filter}
-use Rattle.std.proofs.lemmas.List.{get_or_read}
 use Rattle.ev_graph.specs.Sets.{is_member}
 use Rattle.ev_graph.specs.Kinds.{is_report_node}
 use Rattle.ev_graph.proofs.Occurrences.{all_in, in_at}
@@ -15,8 +14,8 @@ pub fresh_from-requires : goal.fresh_from-requires
 fresh_from-requires c =
     let nodes = c.args.graph.now.nodes in
     let observed = c.args.self.now.observed.items in
-    let node = c.index.result.now in
-    let first = get_or_read observed 0 node c.requires.some c.index.ensures 0 in
+    let node = c.first-node.result in
+    let first = c.first-node.ensures in
     let P : ℕ → Type 0 = λ e. is_member observed e ≡ true in
     report_below nodes node (all_in (is_report_node nodes) observed node c.requires.observed_are
     (subst P (sym first) (in_at observed 0 c.requires.some)))
@@ -25,7 +24,7 @@ pub change_each-requires-clause-lives : goal.change_each-requires-clause-lives
 change_each-requires-clause-lives c =
     let fresh = c.in_ok-fresh.fresh in
     rw c.as_mut_slice.ensures.value (lives_of c.args.graph.now no_cut
-    (is_member (c.index.result.now ∷ [])) all_allowed fresh.candidates.items fresh.reports.items
+    (is_member (c.first-node.result ∷ [])) all_allowed fresh.candidates.items fresh.reports.items
     c.in_ok-fresh.ensures)
 
 pub returns-clause-case : goal.returns-clause-case
@@ -33,12 +32,12 @@ returns-clause-case c =
     let g = c.args.graph.now in
     let old = c.args.self.now in
     let observed = old.observed.items in
-    let node = c.index.result.now in
+    let node = c.first-node.result in
     let fresh = c.in_ok-fresh.fresh in
     let mid = c.change_each.new.candidates in
     let new = c.settle.new.self in
     let s = c.settle.ensures.same in
-    let first = get_or_read observed 0 node c.requires.some c.index.ensures 0 in
+    let first = c.first-node.ensures in
     let P : ℕ → Type 0 = λ e. is_member observed e ≡ true in
     let changed = rw (c.as_mut_slice.ensures.value, c.as_slice.ensures.value) at
     c.change_each.ensures in
@@ -53,10 +52,11 @@ returns-clause-case c =
       s.observed,
       s.broken,
       s.reports,
+      c.new.ensures.items,
       c.requires.time,
       c.requires.until,
     ) (opened_case g c.nodes.ensures.graph new.number old.opened node new.entries.items observed
     old.broken.items fresh.reports.items fresh.candidates.items mid new.candidates.items
     new.waiting (subst P (sym first) (in_at observed 0 c.requires.some)) c.in_ok-fresh.ensures
     c.requires.observed_ascend c.requires.observed_are c.requires.broken_ascend changed kept
-    c.settle.ensures.waiting)
+    (rw c.new.ensures.items at c.settle.ensures.waiting))

@@ -4,6 +4,5 @@ use Rattle.dx_case.proofs.case.Case.fits.Goals as goal
 
 pub returns : goal.returns
 returns c = λ g h.
-    (rw (c.as_slice.ensures.value, c.as_slice-2.ensures.value, c.as_slice-3.ensures.value) at
-    c.joins.ensures) h.observed_ascend h.candidates.reports_ascend
+    (rw c.as_slice.ensures.value at c.joins.ensures) h.observed_ascend h.candidates.reports_ascend
     ∙ takes_is g c.args.self.now h c.args.node

@@ -11,6 +11,11 @@ returns c =
     record {
       case = c.in_ok-find_candidates.ensures.case;
       «open» = c.find_candidates.ensures.open
-          ∙ rw (c.in_ok-entries.ensures.items, c.in_ok-observed.ensures.items, brk) refl;
+          ∙ rw (
+            c.in_ok-entries.ensures.items,
+            c.new-observed.ensures.items,
+            c.in_ok-reported.ensures.items,
+            brk,
+          ) refl;
       time = c.find_candidates.ensures.time;
     }

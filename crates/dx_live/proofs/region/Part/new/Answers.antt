@@ -4,7 +4,7 @@ use Rattle.ev_graph.specs.Reached.{MarkedValue}
 use Rattle.ev_graph.proofs.Building.{can_search_forwards}
 use Rattle.dx_live.proofs.Reaching.{region_is, start_below}
 use Rattle.dx_live.proofs.Wholes.{whole_region, whole_part, whole_table}
-use Rattle.dx_live.proofs.region.Region.new.Goals as goal
+use Rattle.dx_live.proofs.region.Part.new.Goals as goal
 
 pub search-requires : goal.search-requires
 search-requires c =
