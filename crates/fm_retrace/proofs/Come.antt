@@ -1,9 +1,9 @@
 -- Modules that have come to their floors, with one record more.
 use Rattle.std.proofs.Common.{◌≡◌, inl, inr, ℕ, zero, suc, ◌+◌, ◌<◌, ◌≤◌, max, List, [], ◌∷◌, ◌++◌}
-use Rattle.std.proofs.Common.{length, take, get_or, Some, refl, sym, ◌∙◌, ap, subst, arith}
+use Rattle.std.proofs.Common.{length, get_or, Some, refl, sym, ◌∙◌, ap, subst, arith}
 use Rattle.std.proofs.Common.{slice_get}
 use Rattle.std.proofs.Common.{set, map, Bool, true, false, Result, Ok, Err, IfOk}
-use Rattle.std.proofs.lemmas.List.{map-set, set-get_or, take_all}
+use Rattle.std.proofs.lemmas.List.{map-set, set-get_or}
 use Rattle.std.proofs.lemmas.Option.{slice_get_read}
 use Rattle.std.specs.List.{AllByRecursion, slice_set}
 use Rattle.std.proofs.lemmas.Bool.{cases_eq}
@@ -14,7 +14,7 @@ use Rattle.fm_core.specs.Folds.{state_along}
 use Rattle.fm_core.specs.Meaning.{Meaning, State}
 use Rattle.fm_core.specs.Records.{of_module, past_all}
 use Rattle.fm_core.specs.declared.module.Module.{Ghosts}
-use Rattle.fm_core.proofs.Lists.{get_set_same, get_set_other, map_get, take_push}
+use Rattle.fm_core.proofs.Lists.{get_set_same, get_set_other, map_get}
 use Rattle.fm_entry.specs.declared.entry.Entry.{Entry}
 use Rattle.fm_entry.specs.declared.spoken.Spoken.{Spoken}
 use Rattle.fm_retrace.specs.Retracing.{SayRecords, SaysNext, entries_between, HasRetraced}
@@ -256,40 +256,3 @@ pub take_none : {M : Type 0} (g : Ghosts M) (k : Book) (rs : List Spoken) (r : S
     → SayRecords k (rs ++ r ∷ []) → ⊥
 take_none g k rs r modules none come says =
     omega (arith, none, come.as_many, names_module k rs r says)
-
--- the first records and the next one
-next_taken : (records : List Spoken) (i : ℕ) (r x : Spoken) → slice_get records i ≡ Some r
-    → x ≡ r → take (i + 1) records ≡ take i records ++ x ∷ []
-next_taken records i r x there same =
-    take_push records i r there ∙ ap (λ (y : Spoken). take i records ++ y ∷ []) (sym same)
-
--- a turn along the records that stops
-pub stop_at : (k : Book) (records : List Spoken) (place i : ℕ) (r x : Spoken)
-    → slice_get records i ≡ Some r → place ≡ i → x ≡ r → SayRecords k (take i records)
-    → (SayRecords k (take i records ++ x ∷ []) → ⊥)
-    → (place < length records) × SayRecords k (take place records)
-    × (SayRecords k (take (place + 1) records) → ⊥)
-stop_at k records place i r x there place_is same so_far bad = (
-  omega (arith, place_is, slice_get_within records i r there),
-  subst (λ (n : ℕ). SayRecords k (take n records)) (sym place_is) so_far,
-  λ says. bad (subst (SayRecords k)
-      (ap (λ (n : ℕ). take (n + 1) records) place_is ∙ next_taken records i r x there same) says),
-)
-
--- one that goes on, and the last
-module _ {M : Type 0} (g : Ghosts M) (k : Book) (records : List Spoken) (i : ℕ)
-    (modules : List (Retraced M)) where
-  pub go_on : (r x : Spoken) → slice_get records i ≡ Some r → x ≡ r
-      → SayRecords k (take i records ++ x ∷ [])
-      × HaveRetraced g k (take i records ++ x ∷ []) modules
-      → SayRecords k (take (i + 1) records) × HaveRetraced g k (take (i + 1) records) modules
-  go_on r x there same both =
-      subst (λ (l : List Spoken). SayRecords k l × HaveRetraced g k l modules)
-      (sym (next_taken records i r x there same)) both
-
-  pub went_through : length records ≤ i
-      → SayRecords k (take i records) × HaveRetraced g k (take i records) modules
-      → SayRecords k records × HaveRetraced g k records modules
-  went_through all both =
-      subst (λ (l : List Spoken). SayRecords k l × HaveRetraced g k l modules)
-      (take_all i records all) both

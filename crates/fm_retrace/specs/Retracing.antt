@@ -1,9 +1,8 @@
 -- Modules that take the entries from the base on again, as far as the records of a log tell that
 -- they had come.
-use Rattle.std.specs.Prelude.{◌≡◌, ℕ, ◌+◌, ◌-◌, ◌<◌, ◌≤◌, max, List, [], ◌∷◌, length, map, take}
-use Rattle.std.specs.Prelude.{drop, slice_get, Some, None}
+use Rattle.std.specs.Prelude.{◌≡◌, ℕ, ◌+◌, ◌-◌, ◌≤◌, max, List, [], ◌∷◌, length, map, take}
+use Rattle.std.specs.Prelude.{drop, slice_get, Some}
 use Rattle.std.specs.List.{AllByRecursion}
-use Rattle.std.specs.declared.option.Option.{Option}
 use Rattle.fm_core.specs.Book.{Book, ModuleState, IsLawful, floored, state_at}
 use Rattle.fm_core.specs.Folds.{words_along}
 use Rattle.fm_core.specs.Hands.{HandOf}
@@ -62,15 +61,6 @@ meanings_of g modules = map (λ own. g.meaning own.object) modules
 -- each meaning is that of the module with the number of its place
 abbrev pub AreNumbered : List Meaning → Type 0
 AreNumbered meanings = (i : ℕ) (m : Meaning) → slice_get meanings i ≡ Some m → m.own ≡ i
-
--- The modules say all records, and have come to their floors; or the record at this place is the
--- first that they don't say.
-abbrev pub RetraceTo : {M : Type 0} → Ghosts M → Book → List Spoken → List (Retraced M) → Option ℕ
-    → Type 0
-RetraceTo g k records modules None = SayRecords k records × HaveRetraced g k records modules
-RetraceTo g k records modules (Some at) =
-    (at < length records) × SayRecords k (take at records)
-    × (SayRecords k (take (at + 1) records) → ⊥)
 
 -- no module has spoken past this number
 abbrev pub AreWithin : {M : Type 0} → ℕ → List (Retraced M) → Type 0

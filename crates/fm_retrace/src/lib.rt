@@ -9,19 +9,17 @@
 //! exactly where the modules say just these records (`SayRecords`). `Retraced` is an object that
 //! has come to its floor, with one past the last number that it spoke at.
 //!
-//! **Promises.** `retrace` answers the place of the first record with which the modules no longer
-//! say what the log has, or brings each object to its module's floor; nothing but want of memory
-//! keeps it from that. `hands_of` makes the modules' hands.
+//! **Promises.** `retrace_record` answers whether a record behind others is what its module says
+//! next, and then brings the object to its module's floor; nothing but want of memory keeps it from
+//! that. `hands_of` makes the modules' hands.
 #![tactic(auto)]
 
 mod hands;
-mod logged;
 mod records;
 mod retraced;
 mod words;
 
 pub use fm_bytes::NoMemory;
 pub use hands::hands_of;
-pub use logged::LoggedSpoken;
-pub use records::{retrace, retrace_record};
+pub use records::retrace_record;
 pub use retraced::Retraced;

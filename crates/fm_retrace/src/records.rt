@@ -1,4 +1,4 @@
-//! Modules that take entries again, along the records of a log.
+//! Modules that take entries again, as far as a record of a log tells.
 
 ghost use Rattle.std.specs.Prelude.{◌≡◌, ◌+◌, ◌<◌, ◌≤◌, ◌^◌, ℕ, List, [], ◌∷◌, ◌++◌, length, All};
 ghost use Rattle.std.specs.Prelude.{IfOk, OnOk, true, false};
@@ -6,10 +6,9 @@ ghost use Rattle.fm_core.specs.Book.{Book};
 ghost use Rattle.fm_entry.specs.Entries.{IsSpelled};
 ghost use Rattle.fm_entry.specs.Words.{IsSpelledSpoken};
 ghost use Rattle.fm_entry.specs.declared.spoken.Spoken.{Spoken};
-ghost use Rattle.fm_retrace.specs.Retracing.{SayRecords, IsBookOf, HaveRetraced, RetraceTo};
+ghost use Rattle.fm_retrace.specs.Retracing.{SayRecords, IsBookOf, HaveRetraced};
 ghost use Rattle.fm_retrace.specs.Retracing.{AreNumbered, AreWithin, meanings_of};
 
-use crate::logged::LoggedSpoken;
 use crate::retraced::Retraced;
 use fm_bytes::NoMemory;
 use fm_core::Module;
@@ -49,35 +48,4 @@ pub fn retrace_record<M: Module>(
     }
     let own = &mut modules[at];
     own.take(alloc, base, entries, record)
-}
-
-/// Lets the modules take the entries from the base on again, as far as the records tell that they
-/// had come. The place of the first record that they don't say; `None` where they say all, and then
-/// each has come to its floor.
-pub fn retrace<M: Module>(
-    alloc: Global,
-    base: u64,
-    entries: &[Entry],
-    modules: &mut Vec<Retraced<M>>,
-    records: &[LoggedSpoken],
-) -> Result<Option<usize>, NoMemory>
-    requires few { base + length entries.now ≤ 2 ^ 46 }
-    requires entries { All IsSpelled entries.now }
-    requires numbered { AreNumbered (meanings_of M.Module modules.old.items) }
-    ensures retraces { IfOk result (λ stop. (k : Book) → IsBookOf base entries.now k
-        → SayRecords k [] → HaveRetraced M.Module k [] modules.old.items
-        → RetraceTo M.Module k records.now modules.new.items stop) }
-    ensures kept { meanings_of M.Module modules.new.items
-        ≡ meanings_of M.Module modules.old.items }
-    ensures within { AreWithin (base + length entries.now) modules.old.items
-        → AreWithin (base + length entries.now) modules.new.items }
-{
-    let mut place = 0;
-    'records: for record in records {
-        if !retrace_record(alloc, base, entries, modules, record.get())? {
-            return Ok(Some(place));
-        }
-        place += 1;
-    }
-    Ok(None)
 }

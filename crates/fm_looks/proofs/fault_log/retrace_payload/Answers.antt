@@ -4,7 +4,7 @@ use Rattle.std.specs.Option.{is_some}
 use Rattle.std.specs.Prelude.{IfSome}
 use Rattle.fm_entry.specs.declared.spoken.Spoken.{Spoken}
 use Rattle.fm_logs.specs.ReadsAsBook.{SpellsSpoken}
-use Rattle.fm_looks.proofs.FaultLogs.{record_taken, record_refused, nothing_refused}
+use Rattle.fm_looks.proofs.FaultLogs.{nothing_refused}
 use Rattle.fm_looks.proofs.FaultLogs.{says_taken, says_refused}
 use Rattle.fm_looks.proofs.fault_log.retrace_payload.Goals as goal
 
