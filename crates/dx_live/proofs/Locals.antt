@@ -7,14 +7,12 @@ use Rattle.std.proofs.lemmas.List.{map_push, append-nil, length_push, get_or_pus
 use Rattle.std.proofs.lemmas.List.{get_or_append_left, get_or_past}
 use Rattle.std.proofs.lemmas.List.Elements.{filter_more}
 use Rattle.std.proofs.lemmas.Bool.{cases_eq, cases_lt, cond-true, cond-false, false≢true}
-use Rattle.std.proofs.Common.{◌-◌, ◌≤◌, ◌&&◌, eqb, ltb, set, get_or-set_same, get_or-set_other}
-use Rattle.std.proofs.lemmas.Bool.{both_ways, and_from, eq-eqb, lt-ltb, false_from_ne_true}
+use Rattle.std.proofs.Common.{◌-◌, ◌≤◌}
 use Rattle.ev_graph.specs.Sets.{is_member, ascends}
 use Rattle.ev_graph.proofs.Ascending.{rises}
-use Rattle.ev_graph.proofs.Occurrences.{place_in}
 use Rattle.ev_graph.specs.Table.{row_at, AreRowsBelow}
 use Rattle.ev_graph.proofs.Occurrences.{in_at, in_push}
-use Rattle.dx_live.specs.Region.{IsLocalRow, AreLocalRows, ArePlacesOf}
+use Rattle.dx_live.specs.Region.{IsLocalRow, AreLocalRows}
 
 pub row_none : (nodes : List ℕ) → IsLocalRow nodes [] []
 row_none nodes = record { named = refl; below = λ l i. absurd (false≢true i) }
@@ -87,36 +85,6 @@ rows_below n rows nodes places locals h j i l = elim (cases_lt j n) [
       let none : row_at locals j ≡ [] = get_or_past locals j [] (omega (arith, past, h.count)) in
       absurd (omega (arith, l, ap length none))
 ]
-
--- places that are noted, one node after the other
-pub noted_more : (nodes noted : List ℕ) (n : ℕ) → ascends nodes ≡ true → n < length nodes
-    → get_or nodes n 0 < length noted → ArePlacesOf n nodes noted
-    → ArePlacesOf (n + 1) nodes (set noted (get_or nodes n 0) n)
-noted_more nodes noted n up low inside h = record {
-  each = λ i l. elim (cases_eq i n) [
-    | inl same ↦
-        let P : ℕ → Type 0 = λ z. get_or (set noted (get_or nodes n 0) n) (get_or nodes z 0) 0 ≡ z in
-        subst P (sym same) (get_or-set_same noted (get_or nodes n 0) n 0 inside)
-    | inr ne ↦
-        let less : i < n = omega (arith, l, ne) in
-        get_or-set_other noted (get_or nodes n 0) (get_or nodes i 0) n 0
-        (λ e. absurd (omega (arith, rises nodes i n up less low, e))) ∙ h.each i less
-  ];
-}
-
-pub noted_none : (nodes noted : List ℕ) (node : ℕ) → ArePlacesOf (length nodes) nodes noted
-    → (ltb (get_or noted node 0) (length nodes)
-    && eqb (get_or nodes (get_or noted node 0) 0) node) ≡ false
-    → is_member nodes node ≡ false
-noted_none nodes noted node h away = false_from_ne_true (is_member nodes node) (λ i.
-    let q = place_in node nodes i in
-    let at = get_or noted node 0 in
-    let same : at ≡ q.0 =
-    let P : ℕ → Type 0 = λ z. get_or noted z 0 ≡ q.0 in subst P q.2 (h.each q.0 q.1) in
-    both_ways (ltb at (length nodes) && eqb (get_or nodes at 0) node) away
-    (and_from (ltb at (length nodes)) (eqb (get_or nodes at 0) node)
-    (lt-ltb at (length nodes) (omega (arith, same, q.1)))
-    (eq-eqb (get_or nodes at 0) node (ap (λ (z : ℕ). get_or nodes z 0) same ∙ q.2))))
 
 -- ascending numbers are no more than the last
 pub last_most : (nodes : List ℕ) (i : ℕ) → ascends nodes ≡ true → i < length nodes

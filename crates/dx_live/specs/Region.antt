@@ -50,10 +50,6 @@ pub record IsLocalRow (nodes members locals : List ℕ) : Type 0 where
   pub named : nodes_at nodes locals ≡ filter (is_member nodes) members
   pub below : (l : ℕ) → is_member locals l ≡ true → l < length nodes
 
--- at each of the first n of these nodes its place among them is noted
-pub record ArePlacesOf (n : ℕ) (nodes noted : List ℕ) : Type 0 where
-  pub each : (i : ℕ) → i < n → slice_index noted (slice_index nodes i) ≡ i
-
 -- the rows of the first n of these places, by local numbers
 pub record AreLocalRows (n : ℕ) (rows : List (List ℕ)) (nodes places : List ℕ)
     (locals : List (List ℕ)) : Type 0 where

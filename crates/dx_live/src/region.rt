@@ -5,7 +5,7 @@ ghost use Rattle.std.specs.Prelude.{◌==◌, ◌&&◌, IfSome, None, OnOk, fals
 ghost use Rattle.ev_graph.specs.Sets.{is_member, ascends};
 ghost use Rattle.ev_graph.specs.Table.{IsIncidence, wiring_of};
 ghost use Rattle.dx_live.specs.Region.{IsLocalRow, AreLocalRows, IsLocalTable, IsRegionOf};
-ghost use Rattle.dx_live.specs.Region.{IsPartOf, ArePlacesOf, AreNumbersBelow, IsWholeOf};
+ghost use Rattle.dx_live.specs.Region.{IsPartOf, AreNumbersBelow, IsWholeOf};
 ghost use Rattle.dx_live.specs.Region.{table_over, region_over};
 
 use ev_graph::{Incidence, Marked, NoMemory, Rows, search};
@@ -79,11 +79,9 @@ pub(crate) fn place_among(nodes: &[u32], node: u32) -> Option<u32>
 }
 
 fn note_places(nodes: &[u32], noted: &mut [u32])
-    requires up { ascends nodes.now ≡ true }
     requires few { length nodes.now < 2 ^ 32 }
     requires below { (i : ℕ) → i < length nodes.now
         → slice_index nodes.now i < length noted.old }
-    ensures { ArePlacesOf (length nodes.now) nodes.now noted.new }
 {
     for place in 0..nodes.len() {
         noted[nodes[place] as usize] = place as u32;
@@ -102,13 +100,16 @@ fn past_last(nodes: &[u32]) -> usize
 }
 
 /// For each of ascending numbers its place among them; what stands for a number between them says
-/// nothing.
+/// nothing. None is noted where they are few beside the greatest: to seek each takes less time then.
 fn places_of(alloc: Global, nodes: &[u32]) -> Result<Vec<u32>, NoMemory>
     requires up { ascends nodes.now ≡ true }
     requires few { length nodes.now < 2 ^ 32 }
-    ensures { IfOk result (λ noted. ArePlacesOf (length nodes.now) nodes.now noted.items) }
 {
-    let mut noted = vec![in alloc; 0; past_last(nodes)]?;
+    let size = past_last(nodes);
+    if nodes.len() < size / 16 {
+        return Ok(Vec::new(alloc));
+    }
+    let mut noted = vec![in alloc; 0; size]?;
     note_places(nodes, noted.as_mut_slice());
     Ok(noted)
 }
@@ -119,9 +120,10 @@ fn stands_at(nodes: &[u32], at: u32, node: u32) -> bool
     (at as usize) < nodes.len() && nodes[at as usize] == node
 }
 
-/// The place of a number, by the places that are noted.
+/// The place of a number: the one that is noted, or else by a search.
 fn place_noted(noted: &[u32], nodes: &[u32], node: u32) -> Option<u32>
-    requires { ArePlacesOf (length nodes.now) nodes.now noted.now }
+    requires up { ascends nodes.now ≡ true }
+    requires few { length nodes.now < 2 ^ 32 }
     ensures found { IfSome result (λ at. (at < length nodes.now)
         × (slice_index nodes.now at ≡ node)) }
     ensures none { result ≡ None → is_member nodes.now node ≡ false }
@@ -130,7 +132,7 @@ fn place_noted(noted: &[u32], nodes: &[u32], node: u32) -> Option<u32>
     if stands_at(nodes, at, node) {
         Some(at)
     } else {
-        None
+        place_among(nodes, node)
     }
 }
 
@@ -141,7 +143,8 @@ fn local_row(
     members: &[u32],
     row: &mut Vec<u32>,
 ) -> Result<(), NoMemory>
-    requires { ArePlacesOf (length nodes.now) nodes.now noted.now }
+    requires up { ascends nodes.now ≡ true }
+    requires few { length nodes.now < 2 ^ 32 }
     ensures { OnOk result (IsLocalRow nodes.now members.now row.new.items) }
 {
     row.clear();
@@ -161,7 +164,8 @@ fn local_causes(
     nodes: &[u32],
     places: &[u32],
 ) -> Result<Rows, NoMemory>
-    requires { ArePlacesOf (length nodes.now) nodes.now noted.now }
+    requires up { ascends nodes.now ≡ true }
+    requires few { length nodes.now < 2 ^ 32 }
     ensures { IfOk result (λ rows.
         AreLocalRows (length places.now) table.now.causes nodes.now places.now rows) }
 {
@@ -181,7 +185,8 @@ fn local_effects(
     nodes: &[u32],
     places: &[u32],
 ) -> Result<Rows, NoMemory>
-    requires { ArePlacesOf (length nodes.now) nodes.now noted.now }
+    requires up { ascends nodes.now ≡ true }
+    requires few { length nodes.now < 2 ^ 32 }
     ensures { IfOk result (λ rows.
         AreLocalRows (length places.now) table.now.effects nodes.now places.now rows) }
 {

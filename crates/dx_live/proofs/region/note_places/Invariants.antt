@@ -1,9 +1,5 @@
 use Rattle.std.proofs.Common.{◌≡◌, length}
-use Rattle.dx_live.specs.Region.{ArePlacesOf}
 use Rattle.dx_live.proofs.region.note_places.Given as goal
 
 abbrev pub invariant-loop-place : goal.invariant-loop-place
-invariant-loop-place l = record {
-  size : length l.noted ≡ length l.initial.noted;
-  places : ArePlacesOf l.place l.nodes l.noted;
-}
+invariant-loop-place l = length l.noted ≡ length l.initial.noted
