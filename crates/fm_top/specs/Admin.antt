@@ -75,7 +75,8 @@ ReadsAfter Rotate fresh k image = ReadsRotated fresh k image
 
 -- Why a command was refused, which an open store is by a disk that failed, at a limit, or for want
 -- of memory. A log that reads as none is damaged.
-abbrev pub AdminRefused : {D M : Type 0} → Ghosts D → StoreOf D M → StoreOf D M → StoreFault → Type 0
+abbrev pub AdminRefused : {D M : Type 0} → Ghosts D → StoreOf D M → StoreOf D M → StoreFault
+    → Type 0
 AdminRefused g old new Disk = SomeDiskFailed g old new
 AdminRefused g old new (Closed name failures) = old.logs.closed ≡ Some (name, failures)
 AdminRefused g old new (Full kind) = Unit {0}

@@ -77,9 +77,9 @@ pub record StoreGenerates {D M : Type 0} (number : ℕ) (old : StoreOf D M) (con
 
 -- The store took all that was generated; `between` is the store then, which is open. It was
 -- concluded, and this was the answer.
-pub record GenerateFinished {D : Type 0} (g : Ghosts D) (number : ℕ) (old new : StoreOf D DiagnoserOf)
-    (hands : List (HandOf DiagnoserOf)) (conf : Conf) (answer : Result Conclusion StoreFault)
-    : Type 0 where
+pub record GenerateFinished {D : Type 0} (g : Ghosts D) (number : ℕ)
+    (old new : StoreOf D DiagnoserOf) (hands : List (HandOf DiagnoserOf)) (conf : Conf)
+    (answer : Result Conclusion StoreFault) : Type 0 where
   pub between : StoreOf D DiagnoserOf
   pub is_open : between.logs.closed ≡ None
   pub entries : List Entry

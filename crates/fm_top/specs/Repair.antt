@@ -45,9 +45,9 @@ use Rattle.fm_top.specs.RepairEntry.{HasRepair, IsEntryAt, IsEntryOf, order_by}
 
 -- ---- an open store
 
--- What becomes of a book that the hands follow, by the answer: the entry was accepted and drained, of
--- which this is told; nothing would be marked, and nothing was accepted; or it was refused, before the
--- entry was being accepted or from there on.
+-- What becomes of a book that the hands follow, by the answer: the entry was accepted and drained,
+-- of which this is told; nothing would be marked, and nothing was accepted; or it was refused,
+-- before the entry was being accepted or from there on.
 abbrev pub RepairOnBook : {D M : Type 0} → Ghosts D → RepairAsked → List ModuleState → StoreOf D M
     → StoreOf D M → StoreBook → Conf → Result (Option Repaired) StoreFault → Type 0
 RepairOnBook g asked fresh old new k conf (Ok (Some one)) =
