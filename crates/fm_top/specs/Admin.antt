@@ -3,7 +3,7 @@
 use Rattle.std.specs.Prelude.{◌≡◌, ◌⊎◌, ℕ, List, [], ◌++◌, codes, decimal, Bool, slice_get, None}
 use Rattle.std.specs.Prelude.{Some, Result, Ok, Err, MatchResult, OnOk, IfOk, IfErr}
 use Rattle.std.specs.Global.{Vec}
-use Rattle.dx_engine.specs.Diagnosers.{DiagnoserOf}
+use Rattle.dx_engine.specs.Diagnosers.{DiagnoserOf, diagnosers}
 use Rattle.fm_admin.specs.Limits.{DrainOrRotation}
 use Rattle.fm_admin.specs.Telling.{IsFaultyOf}
 use Rattle.fm_answers.specs.StreamsAt.{SinkAt}
@@ -29,7 +29,6 @@ use Rattle.fm_settled.specs.ToBase.{IsBasedOf}
 use Rattle.fm_store.specs.StoreLeft.{EachLeft, ReadsLike}
 use Rattle.fm_store.specs.StoreOf.{StoreOf, StoreStandsFor}
 use Rattle.fm_store.specs.StoreReading.{IsNoDamage}
-use Rattle.fm_summary.specs.DrainedSummary.{diagnosers}
 use Rattle.fm_top.specs.Accepting.{DisksAccount, OpeningStops}
 use Rattle.fm_top.specs.DrainedBook.{ReadsDrained}
 use Rattle.fm_top.specs.Dump.{ErrorLog, IsDump, IsErrorLogOf, error_log}

@@ -4,7 +4,7 @@
 use Rattle.std.specs.Prelude.{◌≡◌, ◌⊎◌, List, [], Option, Some, None, Result, Ok, Err}
 use Rattle.std.specs.Prelude.{MatchResult}
 use Rattle.std.specs.Prelude.{OnOk, IfErr}
-use Rattle.dx_engine.specs.Diagnosers.{DiagnoserOf}
+use Rattle.dx_engine.specs.Diagnosers.{DiagnoserOf, diagnosers}
 use Rattle.fm_act.specs.Reconciled.{ActuatorState}
 use Rattle.fm_admin.specs.Limits.{RepairLimit}
 use Rattle.fm_admin.specs.Repairing.{IsRepaired}
@@ -32,7 +32,6 @@ use Rattle.fm_settled.specs.BaseLimits.{Figures}
 use Rattle.fm_store.specs.StoreLeft.{EachLeft, ReadsLike, ReadsLikeEither}
 use Rattle.fm_store.specs.StoreOf.{StoreOf, StoreStandsFor}
 use Rattle.fm_store.specs.StoreReading.{IsNoDamage}
-use Rattle.fm_summary.specs.DrainedSummary.{diagnosers}
 use Rattle.fm_top.specs.Accepting.{DisksAccount, ReachesLimit}
 use Rattle.fm_top.specs.Admin.{AdminRefused, StoreUnopened}
 use Rattle.fm_top.specs.DrainedBook.{ReadsDrained}
