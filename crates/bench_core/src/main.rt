@@ -3,8 +3,9 @@
 //!
 //! Its words are `nv COUNT`: a spelled name-value list of so many pairs is made, read and written
 //! again; `core COUNT`: a core of two counters takes so many reports, all in memory, and both
-//! are worked to the end; or `fill COUNT`: it takes them, and neither is worked. It ends with status 0 where what was written is what was read, or each
-//! report was taken, with 1 where not, and with 2 where the words are others.
+//! are worked to the end; or `fill COUNT`: it takes them, and neither is worked. It ends with
+//! status 0 where what was written is what was read, or each report was taken, with 1 where not,
+//! and with 2 where the words are others.
 #![tactic(auto)]
 
 mod cores;

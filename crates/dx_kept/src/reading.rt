@@ -38,7 +38,7 @@ pub fn take_state(alloc: Global, own: u32, bytes: &[u8]) -> Result<KeptState, Re
 }
 
 /// A state: its first byte, and what follows.
-#[tactic(auto, unfolding(dx_state::specs::StateReading::diagnosis_from, dx_state::specs::StateReading::marked_parts_from))]
+#[tactic(auto, unfolding(dx_state::specs::StateReading::diagnosis_from))]
 fn take_marked_state(input: &mut Input, alloc: Global, own: u32) -> Result<KeptState, ReadFault>
     ensures ok { IfOk result
         (λ s. diagnosis_from own input.old ≡ Some (diagnosis_of s, input.new)) }
@@ -119,7 +119,7 @@ impl Codec<Items<u64>> for MomentsCodec {
         put_moments(moments.as_slice(), out)
     }
 
-    #[tactic(auto, unfolding(dx_state::specs::StateReading::moments_from, fm_bytes::specs::Reading::counted_from))]
+    #[tactic(auto, unfolding(fm_bytes::specs::Reading::counted_from))]
     fn take(input: &mut Input, alloc: Global) -> Result<Items<u64>, ReadFault> {
         let count = input.take_u16()?;
         let moments = take_many::<u64, LongCodec>(input, alloc, u64::from(count))?;

@@ -90,7 +90,8 @@ impl Rulebook {
     /// The configuration of this number, if there is one.
     fn found(&self, conf: u32) -> Option<&Ruled>
         ensures { MatchOption result (found_at (rules_in self.now).configurations conf ≡ None)
-            (λ ruled. found_at (rules_in self.now).configurations conf ≡ Some (ruled_of ruled.now)) }
+            (λ ruled. found_at (rules_in self.now).configurations conf
+            ≡ Some (ruled_of ruled.now)) }
     {
         match &self.configs {
             Configs::Single { number, ruled } => {

@@ -36,7 +36,8 @@ sum_below (suc n) f = sum_below n f + f n
 
 -- the same of the nodes in the set, and those not yet looked at
 abbrev pub sum_held : SetsValue → (ℕ → ℕ) → ℕ
-sum_held s f = sum_below (length s.marks) (λ e. cond (has_mark s.marks e) (f e) 0) + sum_by f s.pending
+sum_held s f =
+    sum_below (length s.marks) (λ e. cond (has_mark s.marks e) (f e) 0) + sum_by f s.pending
 
 -- what leaving does: the set shrinks, and what leaves is to be looked at
 pub record Moves (s t : SetsValue) : Type 0 where

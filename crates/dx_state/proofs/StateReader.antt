@@ -92,7 +92,6 @@ open_case_reader marked =
 
 -- the moments of an engine
 pub moments_reader : IsReader (counted_fits 2 is_unsigned) moments_bytes moments_from
-unfolding moments_from
 moments_reader = counted_reader 2 is_unsigned u64_bytes (number_from 8) long_reader
 
 -- what follows the first byte
@@ -122,7 +121,6 @@ parts_reader own known marked =
 marked_parts_reader : (own : ℕ) → own < 8 → (marked : Bool)
     → IsReader (λ s. parts_fit own marked s && (not marked || is_marked s)) (parts_bytes marked)
     (marked_parts_from own marked)
-unfolding marked_parts_from
 marked_parts_reader own known marked =
     where_reader (parts_fit own marked) (λ s. not marked || is_marked s) (parts_bytes marked)
     (parts_from own marked) (parts_reader own known marked)

@@ -38,7 +38,7 @@ open_case_from marked bytes =
     (both_from (counted_from 4 (number_from 4)) (case_links_from marked)))) bytes)
 
 -- the moments of an engine
-unfoldable pub moments_from : List ℕ → Read (List ℕ)
+abbrev pub moments_from : List ℕ → Read (List ℕ)
 moments_from bytes = counted_from 2 (number_from 8) bytes
 
 -- what follows the first byte of a state
@@ -59,7 +59,7 @@ parts_from own marked bytes =
     (both_from (counted_from 8 (word_from own)) (counted_from 4 moments_from))))) bytes)
 
 -- the same, where the first byte says rightly that there are broken links
-unfoldable pub marked_parts_from : ℕ → Bool → List ℕ → Read Diagnosis
+abbrev pub marked_parts_from : ℕ → Bool → List ℕ → Read Diagnosis
 marked_parts_from own marked bytes =
     where_from (λ s. not marked || is_marked s) (parts_from own marked) bytes
 

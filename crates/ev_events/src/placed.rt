@@ -132,7 +132,7 @@ fn texts_of<'a>(alloc: Global, names: &'a [TreeText]) -> Result<Vec<&'a str>, No
 }
 
 /// The names, joined by slashes.
-#[tactic(auto, using(fm_topo::proofs::Grouping::joined_names))]
+#[tactic(auto, using(fm_topo::proofs::Grouping::joined))]
 fn names_joined(alloc: Global, names: &[TreeText]) -> Result<Text, NoMemory>
     ensures { IfOk result (λ text. text ≡ names_joined names.now) }
 {

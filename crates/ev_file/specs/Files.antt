@@ -88,7 +88,8 @@ engine_bytes engine =
 abbrev pub instance_bytes : Instance → List ℕ
 instance_bytes i =
     u32_bytes i.n
-    ++ (u32_bytes i.k ++ (counted_bytes 4 u32_bytes i.causes ++ counted_bytes 4 u32_bytes i.effects))
+    ++ (u32_bytes i.k
+    ++ (counted_bytes 4 u32_bytes i.causes ++ counted_bytes 4 u32_bytes i.effects))
 
 -- what stands behind the first eight bytes
 abbrev pub body_bytes : Made → List ℕ

@@ -14,9 +14,9 @@
 //! whether its row begins with what the binding gives, so that `ev_join` finds all candidates
 //! without looking at a name again.
 //!
-//! **Order of the search.** `ev_join` says in which order the search best takes the iterators. Where
-//! that is another than that of first appearance, tables are made over the names in that order, and
-//! what is found over them is turned back and put in order (`specs/Turned.antt`).
+//! **Order of the search.** `ev_join` says in which order the search best takes the iterators.
+//! Where that is another than that of first appearance, tables are made over the names in that
+//! order, and what is found over them is turned back and put in order (`specs/Turned.antt`).
 //!
 //! **Promises.** [`candidates_of`] answers all candidates of a propagation, each once, in order of
 //! their numbers, what their links leave of a limit, and the tables, in which the fitting paths of

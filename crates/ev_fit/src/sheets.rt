@@ -124,7 +124,7 @@ fn names_of<'a>(alloc: Global, parts: &'a [Part]) -> Result<Vec<&'a str>, NoMemo
 }
 
 /// The names of parts, joined by slashes.
-#[tactic(auto, using(fm_topo::proofs::Grouping::joined_names))]
+#[tactic(auto, using(fm_topo::proofs::Grouping::joined))]
 fn names_text(alloc: Global, parts: &[Part]) -> Result<Text, NoMemory>
     ensures { IfOk result (λ text. text
         ≡ join_by (λ name. name) (codes "/") (map name_of parts.now)) }

@@ -1,7 +1,8 @@
 -- Guards that are equal but for where their conditions lie in memory: the same links are guarded,
 -- and each payload breaks the same ones.
 use Rattle.std.proofs.Common.{◌≡◌, ◌+◌, ◌++◌, ◌^◌, ◌&&◌, ℕ, zero, suc, Bool, nat_lt, List, []}
-use Rattle.std.proofs.Common.{◌∷◌, length, map, filter, slice_get, Option, Some, None, refl, sym, ap}
+use Rattle.std.proofs.Common.{◌∷◌, length, map, filter, slice_get, Option, Some, None, refl, sym}
+use Rattle.std.proofs.Common.{ap}
 use Rattle.std.proofs.Common.{◌∙◌, ◌==◌, arith, length-append}
 use Rattle.std.specs.List.{list_all}
 use Rattle.std.proofs.lemmas.Bool.{ne_eqb}

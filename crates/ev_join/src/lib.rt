@@ -9,8 +9,8 @@
 //! **Search.** [`join`] goes from one candidate to the next: it keeps a beginning of a binding for
 //! which each table has a row, and a number from which to go on, and seeks the least number with
 //! which each table still has one (`specs/Search.antt`). So a later table cuts early what an
-//! earlier one leaves open, and nothing is kept but the beginning. Where a later iterator alone ties
-//! two earlier ones their product is tried: [`search_order`] says in which order to number the
+//! earlier one leaves open, and nothing is kept but the beginning. Where a later iterator alone
+//! ties two earlier ones their product is tried: [`search_order`] says in which order to number the
 //! iterators so that this happens only where nothing ties them.
 //!
 //! **Promises.** [`join`] answers all candidates, each once, in order, and the number of their

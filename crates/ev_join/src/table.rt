@@ -18,8 +18,8 @@ pub struct Row {
 }
 
 /// A table: columns, which are the ascending numbers of iterators, and rows in the order of their
-/// numbers. It keeps where a search last came to, since the next one mostly comes to the same row or
-/// the next; nothing but time rests on that place.
+/// numbers. It keeps where a search last came to, since the next one mostly comes to the same row
+/// or the next; nothing but time rests on that place.
 #[derive(Debug, Drop)]
 pub struct Table {
     columns: Vec<u32>,

@@ -19,7 +19,7 @@ abbrev pub bytes_of : List ℕ → Token → List ℕ
 bytes_of text t = take (t.to - t.from) (drop t.from text)
 
 -- a reserved word, a name or a class
-unfoldable pub word_meaning : List ℕ → Tok
+abbrev pub word_meaning : List ℕ → Tok
 word_meaning b =
     if is_reserved b then Sign b
     else (if list_all is_name_byte b then Name b
@@ -48,7 +48,7 @@ timed o None = Odd
 timed o (Some u) = if is_some o then Time (record { number = unwrap_or o 0; unit = u }) else Odd
 
 -- digits and a unit
-unfoldable pub time_meaning : List ℕ → Tok
+abbrev pub time_meaning : List ℕ → Tok
 time_meaning b = let n = count_while is_ascii_digit b in
     timed (int_value (take n b)) (unit_of (drop n b))
 
@@ -56,7 +56,7 @@ time_meaning b = let n = count_while is_ascii_digit b in
 abbrev pub inner : List ℕ → List ℕ
 inner b = take (length b - 2) (drop 1 b)
 
-unfoldable pub text_meaning : List ℕ → Tok
+abbrev pub text_meaning : List ℕ → Tok
 text_meaning b = if list_all is_text_byte (inner b) then Text (inner b) else Odd
 
 abbrev pub meaning : Kind → List ℕ → Tok

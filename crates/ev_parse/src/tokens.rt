@@ -62,7 +62,7 @@ fn is_all_name(word: &[u8]) -> bool
     word.iter().all(|b| is_name_byte(*b))
 }
 
-#[tactic(auto, unfolding(crate::specs::Toks::tok_of, crate::specs::Toks::word_meaning, crate::specs::Toks::time_meaning, crate::specs::Toks::text_meaning))]
+#[tactic(auto, unfolding(crate::specs::Toks::tok_of))]
 fn is_sign(text: &[u8], token: Token, sign: &[u8]) -> bool
     ensures { result ≡ is_sign_of sign.now (spec.tok_of text.now token) }
 {
@@ -104,7 +104,7 @@ pub(crate) fn sign<'a>(
     }
 }
 
-#[tactic(auto, unfolding(crate::specs::Toks::tok_of, crate::specs::Toks::word_meaning, crate::specs::Toks::time_meaning, crate::specs::Toks::text_meaning))]
+#[tactic(auto, unfolding(crate::specs::Toks::tok_of))]
 fn is_word(text: &[u8], token: Token, word: &[u8]) -> bool
     ensures { result ≡ is_word_of word.now (spec.tok_of text.now token) }
 {
@@ -156,7 +156,7 @@ fn str_of(bytes: &[u8]) -> &str
     }
 }
 
-#[tactic(auto, unfolding(crate::specs::Toks::tok_of, crate::specs::Toks::word_meaning, crate::specs::Toks::time_meaning, crate::specs::Toks::text_meaning), using(crate::proofs::Ascii::names_ascii))]
+#[tactic(auto, unfolding(crate::specs::Toks::tok_of), using(crate::proofs::Ascii::names_ascii))]
 fn name_of(text: &[u8], token: Token) -> Option<&str>
     ensures { option_copied result ≡ pick_name (spec.tok_of text.now token) }
 {
@@ -185,7 +185,7 @@ fn read_word(alloc: Global, bytes: &[u8]) -> Result<Option<Class>, NoMemory>
     }
 }
 
-#[tactic(auto, unfolding(crate::specs::Toks::tok_of, crate::specs::Toks::word_meaning, crate::specs::Toks::time_meaning, crate::specs::Toks::text_meaning), using(crate::proofs::Meanings::class_picked))]
+#[tactic(auto, unfolding(crate::specs::Toks::tok_of), using(crate::proofs::Meanings::class_picked))]
 fn class_of(alloc: Global, text: &[u8], token: Token) -> Result<Option<Class>, NoMemory>
     ensures { IfOk result (λ found. found ≡ pick_class (spec.tok_of text.now token)) }
 {
@@ -203,7 +203,7 @@ fn class_of(alloc: Global, text: &[u8], token: Token) -> Result<Option<Class>, N
 }
 
 /// The number that the token is.
-#[tactic(auto, unfolding(crate::specs::Toks::tok_of, crate::specs::Toks::word_meaning, crate::specs::Toks::time_meaning, crate::specs::Toks::text_meaning), using(crate::proofs::Meanings::int_picked))]
+#[tactic(auto, unfolding(crate::specs::Toks::tok_of), using(crate::proofs::Meanings::int_picked))]
 fn int_of(text: &[u8], token: Token) -> Option<u64>
     ensures { result ≡ pick_int (spec.tok_of text.now token) }
 {
@@ -256,7 +256,7 @@ fn time_word(bytes: &[u8]) -> Option<TimeWord>
     }
 }
 
-#[tactic(auto, unfolding(crate::specs::Toks::tok_of, crate::specs::Toks::word_meaning, crate::specs::Toks::text_meaning))]
+#[tactic(auto, unfolding(crate::specs::Toks::tok_of))]
 fn time_of(text: &[u8], token: Token) -> Option<TimeWord>
     ensures { result ≡ pick_time (spec.tok_of text.now token) }
 {
@@ -287,7 +287,7 @@ fn inner(bytes: &[u8]) -> &[u8]
     &rest[..rest.len().min(bytes.len().saturating_sub(2))]
 }
 
-#[tactic(auto, unfolding(crate::specs::Toks::tok_of, crate::specs::Toks::word_meaning, crate::specs::Toks::time_meaning, crate::specs::Toks::text_meaning), using(crate::proofs::Ascii::texts_ascii))]
+#[tactic(auto, unfolding(crate::specs::Toks::tok_of), using(crate::proofs::Ascii::texts_ascii))]
 fn text_of(text: &[u8], token: Token) -> Option<&str>
     ensures { option_copied result ≡ pick_text (spec.tok_of text.now token) }
 {
@@ -325,7 +325,7 @@ fn comparison(sign: &[u8]) -> Option<Compare>
     }
 }
 
-#[tactic(auto, unfolding(crate::specs::Toks::tok_of, crate::specs::Toks::word_meaning, crate::specs::Toks::time_meaning, crate::specs::Toks::text_meaning))]
+#[tactic(auto, unfolding(crate::specs::Toks::tok_of))]
 fn compare_of(text: &[u8], token: Token) -> Option<Compare>
     ensures { result ≡ pick_compare (spec.tok_of text.now token) }
 {

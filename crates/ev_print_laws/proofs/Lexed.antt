@@ -35,7 +35,7 @@ use Rattle.ev_tree.specs.Tok.{is_name_byte}
 use Rattle.ev_tree.specs.declared.tree.TimeWord.{TimeWord}
 use Rattle.ev_tree.specs.declared.tree.Unit as the_unit
 use Rattle.ev_tree.specs.declared.tree.Unit.TheVariants as units
-use Rattle.ev_parse.specs.Toks.{meaning, word_meaning, number_meaning, time_meaning, timed, unit_of}
+use Rattle.ev_parse.specs.Toks.{meaning, number_meaning, time_meaning, timed, unit_of}
 use Rattle.ev_parse.specs.Toks.{inner, text_meaning, tok_of, toks}
 use Rattle.ev_print_laws.proofs.Real.{Real, Given, GivenAll}
 
@@ -235,7 +235,6 @@ append_none (a ∷ more) = ap (λ k. a ∷ k) (append_none more)
 
 time_back : (w : TimeWord) → w.number < 2 ^ 64
     → time_meaning (decimal w.number ++ unit_bytes w.unit) ≡ Time w
-unfolding time_meaning
 time_back w small =
     let d = decimal_digits w.number small in
     let ds = decimal w.number in
@@ -286,7 +285,6 @@ text_again t rest e =
 
 text_back : (t : List ℕ) → list_all is_text_byte t ≡ true
     → text_meaning (34 ∷ (t ++ 34 ∷ [])) ≡ Text t
-unfolding text_meaning
 text_back t e =
     let size_is : length (34 ∷ (t ++ 34 ∷ [])) - 2 ≡ length t =
     omega (arith, length-append t (34 ∷ [])) in
@@ -320,7 +318,6 @@ word_given : (w : List ℕ) (again : WordAgain w) (reserved names classes : Bool
     → is_reserved w ≡ reserved → list_all is_name_byte w ≡ names → is_class w ≡ classes
     → Given (if reserved then Sign w
     else (if names then Name w else (if classes then Class w else Odd)))
-unfolding word_meaning
 word_given w again true names classes a b c = tt
 word_given w again false true classes a b c =
     record {
@@ -355,7 +352,6 @@ quoted_given t false e = tt
 
 -- what a lexeme means is given, where a word is read again
 kind_given : (k : Kind) (b : List ℕ) → (k ≡ kinds.Word → WordAgain b) → Given (meaning k b)
-unfolding word_meaning time_meaning text_meaning
 kind_given kinds.Word b word =
     word_given b (word refl) (is_reserved b) (list_all is_name_byte b) (is_class b) refl refl refl
 kind_given kinds.Int b word = number_given (int_value b) (written_small b)

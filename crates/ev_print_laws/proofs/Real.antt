@@ -7,7 +7,7 @@ use Rattle.ev_lex.specs.declared.token.Kind.{Kind}
 use Rattle.ev_lex.specs.declared.token.Kind.TheVariants as kinds
 use Rattle.ev_tree.specs.Text.{bytes_of, gap}
 use Rattle.ev_tree.specs.Tok.{Tok, Sign, Name, Class, Int, Time, Text, Odd}
-use Rattle.ev_parse.specs.Toks.{meaning, word_meaning}
+use Rattle.ev_parse.specs.Toks.{meaning}
 
 -- The printed token and what follows it begin with one lexeme, which is the token and means it.
 pub record Real (t : Tok) : Type 0 where
@@ -303,7 +303,7 @@ plus_real =
 -- ---- words of the grammar
 
 pub event_real : Real (Sign (codes "event"))
-unfolding piece word_piece word_meaning
+unfolding piece word_piece
 event_real =
     record {
       kind = kinds.Word;
@@ -315,7 +315,7 @@ event_real =
     }
 
 pub engine_real : Real (Sign (codes "engine"))
-unfolding piece word_piece word_meaning
+unfolding piece word_piece
 engine_real =
     record {
       kind = kinds.Word;
@@ -327,7 +327,7 @@ engine_real =
     }
 
 pub prop_real : Real (Sign (codes "prop"))
-unfolding piece word_piece word_meaning
+unfolding piece word_piece
 prop_real =
     record {
       kind = kinds.Word;
@@ -339,7 +339,7 @@ prop_real =
     }
 
 pub confprop_real : Real (Sign (codes "confprop"))
-unfolding piece word_piece word_meaning
+unfolding piece word_piece
 confprop_real =
     record {
       kind = kinds.Word;
@@ -351,7 +351,7 @@ confprop_real =
     }
 
 pub confprop_defined_real : Real (Sign (codes "confprop_defined"))
-unfolding piece word_piece word_meaning
+unfolding piece word_piece
 confprop_defined_real =
     record {
       kind = kinds.Word;
@@ -364,7 +364,7 @@ confprop_defined_real =
     }
 
 pub payloadprop_real : Real (Sign (codes "payloadprop"))
-unfolding piece word_piece word_meaning
+unfolding piece word_piece
 payloadprop_real =
     record {
       kind = kinds.Word;
@@ -376,7 +376,7 @@ payloadprop_real =
     }
 
 pub FITrate_word_real : Real (Name (codes "FITrate"))
-unfolding piece word_piece word_meaning
+unfolding piece word_piece
 FITrate_word_real =
     record {
       kind = kinds.Word;
@@ -388,7 +388,7 @@ FITrate_word_real =
     }
 
 pub retire_word_real : Real (Name (codes "retire"))
-unfolding piece word_piece word_meaning
+unfolding piece word_piece
 retire_word_real =
     record {
       kind = kinds.Word;
@@ -400,7 +400,7 @@ retire_word_real =
     }
 
 pub within_word_real : Real (Name (codes "within"))
-unfolding piece word_piece word_meaning
+unfolding piece word_piece
 within_word_real =
     record {
       kind = kinds.Word;
@@ -412,7 +412,7 @@ within_word_real =
     }
 
 pub N_word_real : Real (Name (codes "N"))
-unfolding piece word_piece word_meaning
+unfolding piece word_piece
 N_word_real =
     record {
       kind = kinds.Word;
@@ -423,7 +423,7 @@ N_word_real =
     }
 
 pub T_word_real : Real (Name (codes "T"))
-unfolding piece word_piece word_meaning
+unfolding piece word_piece
 T_word_real =
     record {
       kind = kinds.Word;
@@ -434,7 +434,7 @@ T_word_real =
     }
 
 pub trip_word_real : Real (Name (codes "trip"))
-unfolding piece word_piece word_meaning
+unfolding piece word_piece
 trip_word_real =
     record {
       kind = kinds.Word;
@@ -446,7 +446,7 @@ trip_word_real =
     }
 
 pub A_word_real : Real (Name (codes "A"))
-unfolding piece word_piece word_meaning
+unfolding piece word_piece
 A_word_real =
     record {
       kind = kinds.Word;

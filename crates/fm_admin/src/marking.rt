@@ -4,7 +4,7 @@ ghost use Rattle.std.specs.Prelude.{◌≡◌, ◌<◌, ◌^◌, map, IfOk, IfSo
 ghost use Rattle.fm_admin.specs.Marking.{case_with, entry_by, marks_hands, solved_of};
 ghost use Rattle.fm_admin.specs.Marking.{where_acquits};
 ghost use Rattle.fm_core.specs.Book.{IsAdmitted};
-ghost use Rattle.fm_summary.specs.DrainedSummary.{diagnosers};
+ghost use Rattle.dx_engine.specs.Diagnosers.{diagnosers};
 
 use crate::named_rows::find_row;
 use dx_engine::Diagnoser;

@@ -57,7 +57,8 @@ module _ {D M : Type 0} (g : Ghosts D) where
   logs_on : (a b c : StoreOf D M) (last : Option (Stop × Entry))
       → LogsLeft g a.logs b.logs None → LogsLeft g b.logs c.logs last
       → LogsLeft g a.logs c.logs last
-  logs_on a b c None first then = λ older records keep. then older records (first older records keep)
+  logs_on a b c None first then =
+      λ older records keep. then older records (first older records keep)
   logs_on a b c (Some (Disk, entry)) first then = tt
   logs_on a b c (Some (Full kind, entry)) first (then, full) =
       (λ older records keep. then older records (first older records keep), full)

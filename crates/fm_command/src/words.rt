@@ -224,7 +224,7 @@ fn lines_with(option: &ArgText, third: &ArgText) -> Option<Command>
 }
 
 /// The command of three words at a moment.
-#[tactic(auto, using(crate::proofs::Namespaces::repair_takes), unfolding(crate::specs::Words::command_about))]
+#[tactic(auto, using(crate::proofs::Repairs::takes), unfolding(crate::specs::Words::command_about))]
 fn command_about(
     alloc: Global,
     word: &ArgText,

@@ -12,7 +12,7 @@ ghost use Rattle.fm_store.specs.StoreCalls.{HandsAreDone, next_entry};
 ghost use Rattle.fm_store.specs.StoreLeft.{AreSameStore};
 ghost use Rattle.fm_store.specs.StoreOf.{StoreStandsFor};
 ghost use Rattle.fm_store.specs.StoreReading.{IsNoDamage};
-ghost use Rattle.fm_summary.specs.DrainedSummary.{diagnosers};
+ghost use Rattle.dx_engine.specs.Diagnosers.{diagnosers};
 ghost use Rattle.fm_conclude.specs.Concluding.{ConcludeRefused, ConcludesBook, FullAtLimit};
 ghost use Rattle.fm_conclude.specs.Concluding.{IsConcluded, NoDiskFailed, TellsOf};
 

@@ -5,9 +5,9 @@
 //! namespace, are its text (`specs/Sizes.antt`), and the events of category `ereport` in them are
 //! its reports (`specs/Reports.antt`).
 //!
-//! **Promises.** [`tell_conf`] reads the texts again, and answers the text; [`conf_reports`] does so
-//! too, and answers the reports. `Refused` only where a text is none, or comes to more than a limit,
-//! which a store that was opened doesn't keep.
+//! **Promises.** [`tell_conf`] reads the texts again, and answers the text; [`conf_reports`] does
+//! so too, and answers the reports. `Refused` only where a text is none, or comes to more than a
+//! limit, which a store that was opened doesn't keep.
 #![tactic(auto)]
 
 mod fault;

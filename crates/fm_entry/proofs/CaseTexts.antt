@@ -180,3 +180,6 @@ named_spelled text answer is = subst (λ o. IfSome o (IsTextOf text)) (sym is) (
 pub named_read : (text : List ℕ) (answer : Option CaseName) → answer ≡ case_named text
     → (name : CaseName) → text ≡ case_text name → IsCaseName name → answer ≡ Some name
 named_read text answer is name same fits = is ∙ ap case_named same ∙ case_back name fits
+
+-- the answer is the case name that has the text, where one has
+pub ruleset named = (named_spelled, named_read)

@@ -277,7 +277,6 @@ body_bytes_of f =
 
 body_reader : (own : ℕ) → own < 8 → (marked : Bool)
     → IsReader (body_fits own marked) body_bytes_of (word_body_from own marked)
-unfolding word_body_from
 body_reader own known marked =
     both_reader _ _ _ _ (own_from own) _ (own_reader own known)
     (both_reader _ _ _ _ case_from _ case_reader
@@ -346,7 +345,6 @@ word_reader_of own known =
 words_reader : (own : ℕ) → own < 8
     → IsReader (λ ws. counted_fits 4 (word_fits own) ws && nat_lt 0 (length ws))
     (counted_bytes 4 word_bytes) (words_from own)
-unfolding words_from
 words_reader own known =
     where_reader (counted_fits 4 (word_fits own)) (λ ws. nat_lt 0 (length ws))
     (counted_bytes 4 word_bytes) (counted_from 4 (word_from own))

@@ -101,7 +101,7 @@ unfoldable pub broken_from : Bool → List ℕ → Read (List Broken)
 broken_from marked bytes = if marked then links_from bytes else Some ([], bytes)
 
 -- what follows the first byte of a word of a module
-unfoldable pub word_body_from : ℕ → Bool → List ℕ
+abbrev pub word_body_from : ℕ → Bool → List ℕ
     → Read (ℕ × (ℕ × (ℕ × (ℕ × (List EventName × (List Suspect × List Broken))))))
 word_body_from own marked bytes =
     both_from (own_from own)
@@ -125,7 +125,7 @@ word_from own bytes =
     }) (then_from head_from (λ head. word_body_from own head.1) bytes)
 
 -- the words of a module, one or more
-unfoldable pub words_from : ℕ → List ℕ → Read (List ListEvent)
+abbrev pub words_from : ℕ → List ℕ → Read (List ListEvent)
 words_from own bytes =
     where_from (λ words. nat_lt 0 (length words)) (counted_from 4 (word_from own)) bytes
 

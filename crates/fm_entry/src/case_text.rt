@@ -47,7 +47,7 @@ fn case_named(text: &str) -> Option<CaseName>
 }
 
 /// The case name that a text is the text of. `None` exactly where it is that of none.
-#[tactic(auto, using(crate::proofs::CaseTexts::named_spelled, crate::proofs::CaseTexts::named_read))]
+#[tactic(auto, using(crate::proofs::CaseTexts::named))]
 pub fn read_case_name(text: &str) -> Option<CaseName>
     ensures value { result ≡ case_named text.now }
     ensures spelled { IfSome result (λ name. (text.now ≡ case_text name) × IsCaseName name) }

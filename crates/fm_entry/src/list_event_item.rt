@@ -95,7 +95,7 @@ pub(crate) fn put_words(_own: u32, words: &ListEvents, out: &mut Vec<u8>) -> Res
 }
 
 /// The word of a module that the bytes begin with.
-#[tactic(auto, unfolding(crate::specs::WordReading::word_from, crate::specs::WordReading::word_body_from))]
+#[tactic(auto, unfolding(crate::specs::WordReading::word_from))]
 pub fn take_list_event(input: &mut Input, alloc: Global, own: u32) -> Result<ListEvent, ReadFault>
     ensures ok { IfOk result (λ w. word_from own input.old ≡ Some (w, input.new)) }
     ensures err { IfErr result (λ f. IsMisspelled f → word_from own input.old ≡ None) }
@@ -172,7 +172,7 @@ fn same_module(input: &mut Input, own: u32) -> Result<u32, ReadFault>
 }
 
 /// The words of a module, one or more.
-#[tactic(auto, unfolding(crate::specs::WordReading::words_from, fm_bytes::specs::Reading::counted_from))]
+#[tactic(auto, unfolding(fm_bytes::specs::Reading::counted_from))]
 pub(crate) fn take_words(
     input: &mut Input,
     alloc: Global,

@@ -18,8 +18,8 @@ rules_by_file count rows =
 -- of its records that is numbered from the base on: the suspects of a word that solves a case are
 -- just the faults and defects that explain what the word observed, in the graph of its
 -- configuration less its broken links, those of an upset just the upsets where no fault or defect
--- does, and a case is undiagnosable only where no root explains it or the graph has no report of its
--- event. And each open case has a pending report.
+-- does, and a case is undiagnosable only where no root explains it or the graph has no report of
+-- its event. And each open case has a pending report.
 abbrev pub HasExactSuspects : {confs : List Conf} {fresh : List ModuleState}
     → AreModulesOf confs fresh → Book → Type 0
 HasExactSuspects {confs = confs} made k =

@@ -9,8 +9,9 @@
 //! Contracts see a `Gen` as the list of the entries that it still gives. What it gives at first is
 //! `generated`, a function of what it was made of (`specs/Generated`): `next` takes the first entry
 //! off that list, and answers none exactly where the list is empty. Each entry has a spelling, so
-//! that a log can hold it, and is no reload. `entries_are_generated` says of the whole list how long
-//! it is, and that its moments do not fall. `generated_lines` answers the lines of the whole list.
+//! that a log can hold it, and is no reload. `entries_are_generated` says of the whole list how
+//! long it is, and that its moments do not fall. `generated_lines` answers the lines of the whole
+//! list.
 #![tactic(auto)]
 
 mod draws;

@@ -38,3 +38,6 @@ pub insert_view : (es : List Entry) (k : String Global) (v : Value)
     → members_view (insert_entry string_cmp es k v)
     ≡ put (string_bytes k) (view v) (members_view es)
 insert_view = members_view-insert_entry
+
+-- a list becomes an object member by member, from its first place to its end
+pub ruleset members = (from_zero, from_end, insert_view)

@@ -66,7 +66,7 @@ fn value_json(alloc: Global, value: &Value) -> Result<Json, NoMemory>
 
 /// The list as an object, whose names are in byte order.
 #[cycle(print)]
-#[tactic(auto, using(crate::proofs::Listed::from_zero, crate::proofs::Listed::from_end, crate::proofs::Listed::insert_view, fm_nv::proofs::Places::from_step))]
+#[tactic(auto, using(crate::proofs::Listed::members, fm_nv::proofs::Places::from_step))]
 pub(crate) fn list_json(alloc: Global, list: &Nv) -> Result<Json, NoMemory>
     ensures { IfOk result (λ v. view v ≡ payload_data list.now) }
 {

@@ -16,7 +16,8 @@ fn keep_line(
     whole: Whole,
     lines: &mut Vec<Option<Items<u8>>>,
 ) -> Result<(), NoMemory>
-    ensures { OnOk result (lines.new.items ≡ lines.old.items ++ ended_line whole splitter.now.line ∷ []) }
+    ensures { OnOk result
+        (lines.new.items ≡ lines.old.items ++ ended_line whole splitter.now.line ∷ []) }
 {
     match whole {
         Whole::TooLong => lines.push(None)?,
@@ -75,7 +76,8 @@ fn take_end(
     splitter: &mut Splitter,
     lines: &mut Vec<Option<Items<u8>>>,
 ) -> Result<(), NoMemory>
-    ensures { OnOk result (lines.new.items ≡ lines.old.items ++ lines_from splitter.old.pending []) }
+    ensures { OnOk result
+        (lines.new.items ≡ lines.old.items ++ lines_from splitter.old.pending []) }
 {
     match splitter.finish() {
         None => Ok(()),
@@ -86,7 +88,8 @@ fn take_end(
 /// The lines of a stream that comes in these pieces, each by its bytes, or without them where it is
 /// too long. They are those of the whole stream, so they are the same however it is cut.
 pub fn lines_of_pieces(alloc: Global, pieces: &[&[u8]]) -> Result<Vec<Option<Items<u8>>>, NoMemory>
-    ensures { IfOk result (λ lines. lines.items ≡ lines_of (flat_map (λ piece. piece.now) pieces.now)) }
+    ensures { IfOk result
+        (λ lines. lines.items ≡ lines_of (flat_map (λ piece. piece.now) pieces.now)) }
 {
     let mut splitter = Splitter::new(alloc)?;
     let mut lines = Vec::new(alloc);

@@ -62,8 +62,8 @@ module _ {M : Type 0} (m : ModuleGhosts M) (base : ℕ) (entries : List Entry) w
     says_taken (Err fault) said = said
 
     pub says_refused : {E : Type 0} (r : Result Bool E)
-        → IfOk r (λ says. says ≡ false → (k : Book) (records : List Spoken) → IsBookOf base entries k
-        → SayRecords k records → HaveRetraced m k records old
+        → IfOk r (λ says. says ≡ false → (k : Book) (records : List Spoken)
+        → IsBookOf base entries k → SayRecords k records → HaveRetraced m k records old
         → SayRecords k (records ++ next ∷ []) → ⊥)
         → IfOk r (λ says. says ≡ false → RefusesRecord m base entries old payload)
     says_refused (Ok says) unsaid = λ is. record_refused (unsaid is)

@@ -18,7 +18,7 @@ use Rattle.fm_looks.specs.Looks.{AreKeptConfs}
 use Rattle.fm_saved.specs.declared.conf.Conf.{Conf}
 use Rattle.fm_store.specs.Adopting.{KnowAll}
 use Rattle.fm_store.specs.StoreOf.{made_modules}
-use Rattle.dx_engine.specs.Diagnosers.{DiagnoserOf}
+use Rattle.dx_engine.specs.Diagnosers.{DiagnoserOf, diagnosers}
 use Rattle.dx_meaning.specs.DiagnoserMeaning.{diagnoser_meaning}
 use Rattle.dx_meaning.specs.Fresh.{fresh_of}
 use Rattle.dx_rules.specs.Rulebooks.{ruled_of, rules_in}
@@ -28,7 +28,7 @@ use Rattle.dx_standing.specs.Standing.{state_of}
 use Rattle.dx_state.specs.Configured.{Configuration, or_none}
 use Rattle.dx_step.specs.Longer.{rules_of}
 use Rattle.fm_modules.specs.KeptTexts.{ConfMakes, EachHas, TextMakes, conf_row, conf_rows}
-use Rattle.fm_modules.specs.Modules.{AreModulesOf, configurations_at, diagnosers, file_count}
+use Rattle.fm_modules.specs.Modules.{AreModulesOf, configurations_at, file_count}
 use Rattle.fm_modules.specs.Modules.{first_module, first_modules}
 use Rattle.fm_modules.specs.declared.kept.MadeConf.{MadeConf}
 use Rattle.fm_modules.proofs.KeptRows.{each_count}

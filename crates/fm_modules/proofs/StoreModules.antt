@@ -26,7 +26,8 @@ use Rattle.fm_store.specs.Adopting.{AdoptRefused, Adopts}
 use Rattle.fm_store.specs.Opened.{NoneFailed, OpenRefused, OpenedOf, Opens, OpensBook}
 use Rattle.fm_store.specs.Opened.{disks_of}
 use Rattle.fm_modules.specs.KeptTexts.{IsFirstRefused}
-use Rattle.fm_modules.specs.Modules.{AreModulesOf, ModulesCause, diagnosers}
+use Rattle.fm_modules.specs.Modules.{AreModulesOf, ModulesCause}
+use Rattle.dx_engine.specs.Diagnosers.{diagnosers}
 use Rattle.fm_modules.specs.OpenStore.{ModulesRefused, OpenStoreRefused, OpensStore}
 use Rattle.fm_modules.specs.OpenStore.{fault_of_modules}
 use Rattle.fm_modules.specs.Opening.{FirstOpeningFinds, OpeningLook, at_disk, at_modules, conf_gate}

@@ -3,26 +3,14 @@ use Rattle.std.specs.Prelude.{◌≡◌, ℕ, List, [], ◌∷◌, length, map, 
 use Rattle.std.specs.List.{range_with_len}
 use Rattle.fm_core.specs.Book.{ModuleState}
 use Rattle.fm_core.specs.Meaning.{Diagnosing}
-use Rattle.fm_core.specs.declared.module.Module.{Ghosts as ModuleGhosts}
 use Rattle.fm_saved.specs.declared.conf.Conf.{Conf}
-use Rattle.dx_engine.specs.Diagnosers.{DiagnoserOf}
 use Rattle.dx_meaning.specs.DiagnoserMeaning.{diagnoser_meaning}
 use Rattle.dx_meaning.specs.Fresh.{fresh_of}
-use Rattle.dx_rules.specs.Rulebooks.{rules_in}
-use Rattle.dx_standing.specs.Standing.{state_of}
 use Rattle.dx_state.specs.Configured.{Configuration, or_none}
 use Rattle.dx_step.specs.Longer.{rules_of}
 use Rattle.fm_modules.specs.KeptTexts.{ConfMakes, EachHas, IsFirstRefused, IsRefusedConf}
 use Rattle.fm_modules.specs.declared.fault.ModulesFault.{ModulesFault}
 use Rattle.fm_modules.specs.declared.fault.ModulesFault.TheVariants.{Refused, NoMemory}
-
--- how contracts see a diagnosis module as a module
-abbrev pub diagnosers : ModuleGhosts DiagnoserOf
-diagnosers =
-    record {
-      meaning = λ d. diagnoser_meaning (rules_in d.rules);
-      state = λ d. Diagnosing (state_of d.standing);
-    }
 
 -- of each row the configuration that the rule file of a number makes
 abbrev pub configurations_at : ℕ → List (List Configuration) → List Configuration

@@ -13,8 +13,8 @@ use Rattle.fm_saved.specs.declared.conf.Conf.{Conf}
 use Rattle.fm_store.specs.Adopting.{Adopts, IsAdopted}
 use Rattle.fm_store.specs.Opened.{OpenedOf, Opens, RoseOnAny, disks_of}
 use Rattle.fm_store.specs.StoreOf.{made_modules}
-use Rattle.dx_engine.specs.Diagnosers.{DiagnoserOf}
-use Rattle.fm_modules.specs.Modules.{AreModulesOf, diagnosers}
+use Rattle.dx_engine.specs.Diagnosers.{DiagnoserOf, diagnosers}
+use Rattle.fm_modules.specs.Modules.{AreModulesOf}
 use Rattle.fm_modules.specs.Opening.{FirstOpeningFinds, conf_gate, opening_looks}
 use Rattle.fm_modules.specs.declared.fault.ModulesFault.{ModulesFault}
 use Rattle.fm_modules.specs.declared.fault.ModulesFault.TheVariants as modules

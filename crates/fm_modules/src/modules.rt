@@ -8,7 +8,8 @@ ghost use Rattle.fm_store.specs.Adopting.{KnowAll};
 ghost use Rattle.fm_store.specs.StoreOf.{made_modules};
 ghost use Rattle.fm_modules.specs.KeptTexts.{conf_rows, conf_row};
 ghost use Rattle.fm_modules.specs.Modules.{AreModulesOf, ModulesCause, configurations_at};
-ghost use Rattle.fm_modules.specs.Modules.{diagnosers, file_count, first_module, first_modules};
+ghost use Rattle.fm_modules.specs.Modules.{file_count, first_module, first_modules};
+ghost use Rattle.dx_engine.specs.Diagnosers.{diagnosers};
 
 use crate::fault::ModulesFault;
 use crate::kept::{MadeConf, read_confs};

@@ -13,10 +13,11 @@
 //! **Promises.** `read_payloads` gives a reader all payloads that the journal keeps, or those
 //! before the first that it refuses, and then the place of that one (`ReadsUpTo`). `read_values`
 //! gives the list of values instead of a reader, and `place_of` the place of a payload by its
-//! number. Whoever reads a journal in a loop of its own has one payload after another by `read_into`. Each only reads the disk, once and in pieces of 64 KiB, and takes memory for the longest
-//! payload besides what the reader takes. `Disk` comes only where the disk's count of failures
-//! rose; `Changed`, that the disk no longer gives what the journal keeps, never where the journal
-//! keeps any list.
+//! number. Whoever reads a journal in a loop of its own has one payload after another by
+//! `read_into`. Each only reads the disk, once and in pieces of 64 KiB, and takes memory for the
+//! longest payload besides what the reader takes. `Disk` comes only where the disk's count of
+//! failures rose; `Changed`, that the disk no longer gives what the journal keeps, never where the
+//! journal keeps any list.
 #![tactic(auto)]
 
 mod fault;

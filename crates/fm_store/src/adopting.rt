@@ -47,14 +47,6 @@ struct Beside<D: Disk> {
     in_force: u32,
 }
 
-/// The fault log, the entries from the base on, and how far each module has come.
-#[derive(Drop)]
-struct Retold<D: Disk> {
-    flt: Journal<D>,
-    entries: Vec<Entry>,
-    cursors: Vec<u64>,
-}
-
 impl<D: Disk> Beside<D> {
     /// All disks, and why no modules were adopted.
     fn refuse(self, flt: D, fault: StoreFault) -> StoreRefused<D>
@@ -87,30 +79,37 @@ impl<D: Disk> Beside<D> {
         StoreRefused { disks, fault }
     }
 
-    /// The store of these.
-    fn store<M>(self, kept: Vec<M>, saves: SavedStates, retold: Retold<D>) -> Store<D, M>
+    /// The store of these, the fault log, the entries from the base on, and how far each module
+    /// has come.
+    fn store<M>(
+        self,
+        kept: Vec<M>,
+        saves: SavedStates,
+        flt: Journal<D>,
+        entries: Vec<Entry>,
+        cursors: Vec<u64>,
+    ) -> Store<D, M>
         requires active_open { self.active.closed ≡ None }
-        requires flt_open { retold.flt.closed ≡ None }
+        requires flt_open { flt.closed ≡ None }
         requires numbered { self.active.first + self.active.count
-            ≡ self.base + length retold.entries.items }
-        requires few { self.base + length retold.entries.items ≤ 2 ^ 46 }
-        requires spelled { All IsSpelled retold.entries.items }
+            ≡ self.base + length entries.items }
+        requires few { self.base + length entries.items ≤ 2 ^ 46 }
+        requires spelled { All IsSpelled entries.items }
         requires moment_fits { self.moment < 2 ^ 62 }
-        requires few_modules { length retold.cursors.items < 2 ^ 32 }
+        requires few_modules { length cursors.items < 2 ^ 32 }
         ensures { result ≡ record {
-          logs = logs_of self.active retold.flt self.second self.base retold.entries.items
-              retold.cursors.items None;
+          logs = logs_of self.active flt self.second self.base entries.items cursors.items None;
           base = base_of self.conf self.spare self.slot_a self.slot_b self.newest self.moment
               self.in_force kept.items saves;
         } }
     {
         let logs = Logs::new(LogsParts {
             active: self.active,
-            flt: retold.flt,
+            flt,
             second: self.second,
             base: self.base,
-            entries: retold.entries,
-            cursors: retold.cursors,
+            entries,
+            cursors,
         });
         let base = StoreBase {
             conf: self.conf,
@@ -208,8 +207,7 @@ impl<D: Disk> Opened<D> {
             → D.failures (store_disk name store) ≡ D.failures (disk_named name (disks_of self))) }
         ensures refused { IfErr result (λ refused. AdoptRefused D.Disk
             (made_modules M.Module kept.items) self refused.disks refused.fault) }
-        ensures back { IfErr result
-            (λ refused. WereOnlyRead D.Disk (disks_of self) refused.disks) }
+        ensures back { IfErr result (λ refused. WereOnlyRead D.Disk (disks_of self) refused.disks) }
     {
         let Apart {
             beside,
@@ -241,14 +239,10 @@ impl<D: Disk> Opened<D> {
             }
         };
         match hands_of(alloc, beside.base, modules) {
-            Ok((hands, cursors)) => {
-                let retold = Retold {
-                    flt: journal,
-                    entries,
-                    cursors,
-                };
-                Ok((beside.store(kept, saves, retold), hands))
-            }
+            Ok((hands, cursors)) => Ok((
+                beside.store(kept, saves, journal, entries, cursors),
+                hands,
+            )),
             Err(NoMemory) => Err(beside.refuse(journal.into_disk(), StoreFault::NoMemory)),
         }
     }

@@ -1,26 +1,14 @@
 -- The summary of a drained book, and what it wants out of use.
 use Rattle.std.specs.Prelude.{ℕ, ◌+◌, List, [], ◌∷◌, ◌++◌, length, map}
-use Rattle.dx_engine.specs.Diagnosers.{DiagnoserOf}
-use Rattle.dx_meaning.specs.DiagnoserMeaning.{diagnoser_meaning}
-use Rattle.dx_rules.specs.Rulebooks.{rules_in}
-use Rattle.dx_standing.specs.Standing.{state_of}
 use Rattle.dx_standing.specs.declared.rows.OpenRow.{OpenRow}
 use Rattle.fm_adm.specs.Summary.{IsSummary}
 use Rattle.fm_adm.specs.declared.summary.OpenReports.{OpenReports}
 use Rattle.fm_core.specs.Drained.{Drained, Ended}
 use Rattle.fm_core.specs.Hands.{Shown}
 use Rattle.fm_core.specs.Meaning.{State, Diagnosing, OpenCase}
-use Rattle.fm_core.specs.declared.module.Module.{Ghosts}
 use Rattle.fm_entry.specs.declared.list_event.ListEvent.{ListEvent}
 use Rattle.fm_settled.specs.CaseStatus.{IsStatusOf}
 use Rattle.fm_status.specs.Wanted.{IsWantedOf}
-
--- what contracts see of a diagnosis module
-abbrev pub diagnosers : Ghosts DiagnoserOf
-diagnosers = record {
-  meaning = λ d. diagnoser_meaning (rules_in d.rules);
-  state = λ d. Diagnosing (state_of d.standing);
-}
 
 -- an open case of the module of a number, with how many reports joined it
 abbrev pub open_report : ℕ → OpenCase → OpenReports

@@ -2,7 +2,8 @@
 
 ghost use Rattle.std.specs.Prelude.{◌≡◌, ◌++◌, IfOk, OnOk, map, flat_map};
 ghost use Rattle.fm_core.specs.Hands.{shown};
-ghost use Rattle.fm_summary.specs.DrainedSummary.{diagnosers, open_by_state, open_of_shown};
+ghost use Rattle.fm_summary.specs.DrainedSummary.{open_by_state, open_of_shown};
+ghost use Rattle.dx_engine.specs.Diagnosers.{diagnosers};
 ghost use Rattle.fm_summary.specs.DrainedSummary.{reports_by};
 
 use dx_engine::{Diagnoser, OpenRow};

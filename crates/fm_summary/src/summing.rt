@@ -7,7 +7,8 @@ ghost use Rattle.fm_core.specs.Drained.{drained};
 ghost use Rattle.fm_core.specs.Hands.{shown};
 ghost use Rattle.fm_settled.specs.CaseStatus.{IsStatusOf};
 ghost use Rattle.fm_store.specs.StoreCalls.{HandsAreDone};
-ghost use Rattle.fm_summary.specs.DrainedSummary.{diagnosers, open_of_shown, IsSummaryOf};
+ghost use Rattle.fm_summary.specs.DrainedSummary.{open_of_shown, IsSummaryOf};
+ghost use Rattle.dx_engine.specs.Diagnosers.{diagnosers};
 
 use crate::open_cases::open_reports;
 use dx_engine::Diagnoser;

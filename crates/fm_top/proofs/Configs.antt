@@ -2,7 +2,7 @@
 use Rattle.std.proofs.Common.{◌≡◌, inl, inr, ℕ, List, None, Result, Ok, Err, IfOk, IfErr, sym}
 use Rattle.std.proofs.Common.{◌∙◌, ap, subst}
 use Rattle.std.specs.Global.{Vec}
-use Rattle.dx_engine.specs.Diagnosers.{DiagnoserOf}
+use Rattle.dx_engine.specs.Diagnosers.{DiagnoserOf, diagnosers}
 use Rattle.fm_admin.proofs.Tellings.{drain_undamaged, drain_why, drained_of, drained_open}
 use Rattle.fm_command.specs.declared.words.AdminCommand.TheVariants.{Config}
 use Rattle.fm_config.specs.Sizes.{IsConfText}
@@ -18,7 +18,6 @@ use Rattle.fm_saved.specs.declared.conf.Conf.{Conf}
 use Rattle.fm_store.specs.StoreOf.{StoreOf, StoreStandsFor}
 use Rattle.fm_store.specs.StoreReading.{IsNoDamage}
 use Rattle.fm_store.proofs.StoreMoves.{done_at_end}
-use Rattle.fm_summary.specs.DrainedSummary.{diagnosers}
 use Rattle.fm_settled.specs.BaseLimits.{figures_of}
 use Rattle.fm_top.specs.Admin.{AdminDone, AdminRefused}
 use Rattle.fm_top.specs.Limits.{DrainLimit}

@@ -3,7 +3,7 @@ use Rattle.std.proofs.Common.{◌≡◌, ℕ, ◌+◌, ◌-◌, List, ◌++◌, 
 use Rattle.std.proofs.Common.{Result, Ok, Err, OnOk, IfOk, IfErr, refl, sym, ◌∙◌, ap, subst, arith}
 use Rattle.std.proofs.Common.{length-append}
 use Rattle.std.specs.Global.{Vec}
-use Rattle.dx_engine.specs.Diagnosers.{DiagnoserOf}
+use Rattle.dx_engine.specs.Diagnosers.{DiagnoserOf, diagnosers}
 use Rattle.fm_admin.specs.Dumping.{DumpsErrors, IsErrorsOf, IsErrorsText, IsFaultsText}
 use Rattle.fm_admin.specs.Telling.{TellRefused, TellsBook, WasDrained}
 use Rattle.fm_command.specs.declared.words.AdminCommand.TheVariants.{Dump}
@@ -27,7 +27,6 @@ use Rattle.fm_outer.specs.declared.disk.Disk.{Ghosts}
 use Rattle.fm_saved.specs.declared.conf.Conf.{Conf}
 use Rattle.fm_store.specs.StoreCalls.{next_entry}
 use Rattle.fm_store.specs.StoreOf.{StoreBaseOf, StoreOf, StoreStandsFor, of_two}
-use Rattle.fm_summary.specs.DrainedSummary.{diagnosers}
 use Rattle.fm_top.specs.Admin.{AdminDone}
 use Rattle.fm_top.specs.Dump.{IsDump, error_log}
 use Rattle.fm_top.proofs.Texts.{left_drained, same_counts, told_limit, told_refused}

@@ -5,7 +5,7 @@ use Rattle.std.proofs.Common.{subst, arith, length-append}
 use Rattle.std.specs.List.{slice_get}
 use Rattle.std.specs.Prelude.{MatchResult}
 use Rattle.std.proofs.lemmas.List.{length-map}
-use Rattle.dx_engine.specs.Diagnosers.{DiagnoserOf}
+use Rattle.dx_engine.specs.Diagnosers.{DiagnoserOf, diagnosers}
 use Rattle.fm_answers.specs.Accounts.{Accounts}
 use Rattle.fm_answers.specs.Answers.{entries_of}
 use Rattle.fm_answers.specs.StreamsAt.{SourceAt, SinkAt}
@@ -56,7 +56,6 @@ use Rattle.fm_store.specs.StoreLeft.{store_disk, AreDisksOf, EachLeft, StoreIsLe
 use Rattle.fm_store.specs.StoreOf.{StoreOf, StoreStandsFor}
 use Rattle.fm_store.proofs.OpeningLaws.{reads_as_book}
 use Rattle.fm_store.proofs.StoreReads.{entries_left, left_active, records_left, says_left}
-use Rattle.fm_summary.specs.DrainedSummary.{diagnosers}
 use Rattle.fm_top.specs.Accepting.{AcceptedAll, DisksAccount}
 use Rattle.fm_top.specs.Fmd.{ConcludingStops, DrainedFrom, KeepSame, StoreConcluded}
 use Rattle.fm_top.specs.Fmd.{StoreDiffers, StoreRan, StoreStops}

@@ -1,7 +1,7 @@
 -- From an open store that takes what an operator says of repairs to what its disks hold.
 use Rattle.std.proofs.Common.{◌≡◌, ◌∙◌, inl, inr, ℕ, List, Option, None, Some, Result, Ok, Err, IfOk}
 use Rattle.std.proofs.Common.{IfErr, [], append-nil, refl, sym, ap, subst}
-use Rattle.dx_engine.specs.Diagnosers.{DiagnoserOf}
+use Rattle.dx_engine.specs.Diagnosers.{DiagnoserOf, diagnosers}
 use Rattle.fm_admin.specs.Limits.{RepairLimit}
 use Rattle.fm_admin.specs.Repairing.{IsRepairedBy, RepairDid, RepairFollows}
 use Rattle.fm_admin.specs.Repairing.{RepairRefused, RepairsBook, TakeRefused, TakesAndTells}
@@ -41,7 +41,6 @@ use Rattle.fm_store.specs.StoreLeft.{store_disk, AreDisksOf, EachLeft, ReadsLike
 use Rattle.fm_store.specs.StoreOf.{StoreOf, StoreStandsFor}
 use Rattle.fm_store.proofs.StoreAccepts.{active_disk}
 use Rattle.fm_store.proofs.StoreReads.{store_reads}
-use Rattle.fm_summary.specs.DrainedSummary.{diagnosers}
 use Rattle.fm_top.specs.Accepting.{DisksAccount}
 use Rattle.fm_top.specs.Admin.{AdminRefused}
 use Rattle.fm_top.specs.DrainedBook.{ReadsDrained}

@@ -2,7 +2,7 @@
 use Rattle.std.proofs.Common.{◌≡◌, ◌∙◌, ℕ, ◌+◌, ◌++◌, Bool, List, [], ◌∷◌, length, None, Result}
 use Rattle.std.proofs.Common.{Ok, Err, refl, sym, ap, subst, arith}
 use Rattle.std.specs.Global.{Vec}
-use Rattle.dx_engine.specs.Diagnosers.{DiagnoserOf}
+use Rattle.dx_engine.specs.Diagnosers.{DiagnoserOf, diagnosers}
 use Rattle.fm_admin.specs.Rotation.{IsRotated, RotatesDrained, RotationRefused, StandsRotated}
 use Rattle.fm_command.specs.declared.words.AdminCommand.TheVariants.{Rotate}
 use Rattle.fm_conclude.specs.Concluding.{NoDiskFailed}
@@ -23,7 +23,6 @@ use Rattle.fm_saved.specs.declared.conf.Conf.{Conf}
 use Rattle.fm_store.specs.StoreLeft.{EachLeft}
 use Rattle.fm_store.specs.StoreOf.{StoreOf, StoreStandsFor}
 use Rattle.fm_store.proofs.StoreReads.{entries_left, left_active, says_left}
-use Rattle.fm_summary.specs.DrainedSummary.{diagnosers}
 use Rattle.fm_top.specs.Admin.{AdminDone, AdminRefused, ReadsRotated, rotated_text}
 use Rattle.fm_top.proofs.Fmds.{floored_based, reads_floored}
 

@@ -3,7 +3,7 @@
 use Rattle.std.specs.Prelude.{◌≡◌, ◌⊎◌, ℕ, List, [], ◌++◌, codes, decimal, Bool, slice_get, None}
 use Rattle.std.specs.Prelude.{Some, Result, Ok, Err, MatchResult, OnOk, IfOk, IfErr}
 use Rattle.std.specs.Global.{Vec}
-use Rattle.dx_engine.specs.Diagnosers.{DiagnoserOf}
+use Rattle.dx_engine.specs.Diagnosers.{DiagnoserOf, diagnosers}
 use Rattle.fm_admin.specs.Limits.{DrainOrRotation}
 use Rattle.fm_admin.specs.Telling.{IsFaultyOf}
 use Rattle.fm_answers.specs.StreamsAt.{SinkAt}
@@ -29,7 +29,6 @@ use Rattle.fm_settled.specs.ToBase.{IsBasedOf}
 use Rattle.fm_store.specs.StoreLeft.{EachLeft, ReadsLike}
 use Rattle.fm_store.specs.StoreOf.{StoreOf, StoreStandsFor}
 use Rattle.fm_store.specs.StoreReading.{IsNoDamage}
-use Rattle.fm_summary.specs.DrainedSummary.{diagnosers}
 use Rattle.fm_top.specs.Accepting.{DisksAccount, OpeningStops}
 use Rattle.fm_top.specs.DrainedBook.{ReadsDrained}
 use Rattle.fm_top.specs.Dump.{ErrorLog, IsDump, IsErrorLogOf, error_log}
@@ -75,7 +74,8 @@ ReadsAfter Rotate fresh k image = ReadsRotated fresh k image
 
 -- Why a command was refused, which an open store is by a disk that failed, at a limit, or for want
 -- of memory. A log that reads as none is damaged.
-abbrev pub AdminRefused : {D M : Type 0} → Ghosts D → StoreOf D M → StoreOf D M → StoreFault → Type 0
+abbrev pub AdminRefused : {D M : Type 0} → Ghosts D → StoreOf D M → StoreOf D M → StoreFault
+    → Type 0
 AdminRefused g old new Disk = SomeDiskFailed g old new
 AdminRefused g old new (Closed name failures) = old.logs.closed ≡ Some (name, failures)
 AdminRefused g old new (Full kind) = Unit {0}

@@ -5,7 +5,7 @@ use Rattle.std.specs.Prelude.{◌≡◌, ◌⊎◌, List, Option, Some, None, Re
 use Rattle.std.specs.Prelude.{ℕ, OnOk, IfOk, IfErr}
 use Rattle.std.specs.Global.{Vec}
 use Rattle.std.specs.Option.{option_map}
-use Rattle.dx_engine.specs.Diagnosers.{DiagnoserOf}
+use Rattle.dx_engine.specs.Diagnosers.{DiagnoserOf, diagnosers}
 use Rattle.fm_admin.specs.Explaining.{IsExplanationOf}
 use Rattle.fm_answers.specs.StreamsAt.{SinkAt}
 use Rattle.fm_answers.specs.Stops.{of_store}
@@ -25,7 +25,6 @@ use Rattle.fm_settled.specs.BaseLimits.{Figures, figures_of}
 use Rattle.fm_store.specs.StoreLeft.{EachLeft, ReadsLike}
 use Rattle.fm_store.specs.StoreOf.{StoreOf, StoreStandsFor}
 use Rattle.fm_store.specs.StoreReading.{IsNoDamage}
-use Rattle.fm_summary.specs.DrainedSummary.{diagnosers}
 use Rattle.fm_top.specs.Accepting.{DisksAccount}
 use Rattle.fm_top.specs.Admin.{AdminRefused, StoreUnopened, StoreUntold}
 use Rattle.fm_top.specs.DrainedBook.{ReadsDrained}

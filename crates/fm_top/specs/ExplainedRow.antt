@@ -31,8 +31,8 @@ IsExplanationIn graph (Some row) (Some text) = IsExplained (graph row) row text
 IsExplanationIn graph _ _ = ⊥
 
 -- The text of the first row, in case order, of the drained book's status that has the UUID under
--- the namespace of the configuration in force, in the graph that its module has in the book; none where
--- no row has it.
+-- the namespace of the configuration in force, in the graph that its module has in the book; none
+-- where no row has it.
 pub record IsExplanationAt (uuid : List ℕ) {told : Contents} (stood : BookAt told)
     (text : Option (List ℕ)) : Type 0 where
   pub conf : Conf

@@ -1,7 +1,7 @@
 -- What becomes of an open store in a run of `fmd -1`.
 use Rattle.std.specs.Prelude.{◌≡◌, ◌⊎◌, List, true, None, Result, Ok, Err, OnOk, IfErr}
 use Rattle.std.specs.Io.KnownBytes.{Appends, Consumes, IsAtEnd}
-use Rattle.dx_engine.specs.Diagnosers.{DiagnoserOf}
+use Rattle.dx_engine.specs.Diagnosers.{DiagnoserOf, diagnosers}
 use Rattle.fm_answers.specs.StreamsAt.{SourceAt, SinkAt}
 use Rattle.fm_answers.specs.Running.{RanAll, RanUntil}
 use Rattle.fm_answers.specs.Stops.{of_store}
@@ -21,7 +21,6 @@ use Rattle.fm_saved.specs.declared.conf.Conf.{Conf}
 use Rattle.fm_sources.specs.declared.sources.Sources.{Sources}
 use Rattle.fm_store.specs.StoreCalls.{next_entry}
 use Rattle.fm_store.specs.StoreOf.{StoreOf, StoreStandsFor}
-use Rattle.fm_summary.specs.DrainedSummary.{diagnosers}
 use Rattle.fm_top.specs.Kept.{IsAsRead}
 
 -- The input was read to its end, and the store took the entry of each line; `between` is the store

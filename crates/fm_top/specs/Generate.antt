@@ -4,7 +4,7 @@
 use Rattle.std.specs.Prelude.{◌≡◌, ◌⊎◌, ℕ, ◌≤◌, ◌<◌, ◌^◌, List, ◌∷◌, ◌++◌, None, Some, Result, Ok}
 use Rattle.std.specs.Prelude.{Err, MatchResult, OnOk, IfErr}
 use Rattle.std.specs.Global.{Vec}
-use Rattle.dx_engine.specs.Diagnosers.{DiagnoserOf}
+use Rattle.dx_engine.specs.Diagnosers.{DiagnoserOf, diagnosers}
 use Rattle.fm_act.specs.Reconciled.{ActuatorState}
 use Rattle.fm_answers.specs.StreamsAt.{SinkAt}
 use Rattle.fm_answers.specs.Running.{Taken}
@@ -27,7 +27,6 @@ use Rattle.fm_logs.specs.declared.fault.StoreFault.{StoreFault}
 use Rattle.fm_outer.specs.declared.disk.Disk.{Ghosts}
 use Rattle.fm_saved.specs.declared.conf.Conf.{Conf}
 use Rattle.fm_store.specs.StoreOf.{StoreOf, StoreStandsFor, greatest_at}
-use Rattle.fm_summary.specs.DrainedSummary.{diagnosers}
 use Rattle.fm_top.specs.Accepting.{DisksAccount, Grew}
 use Rattle.fm_top.specs.Admin.{StoreUnopened}
 use Rattle.fm_top.specs.Esc.{TextEnds}
@@ -77,9 +76,9 @@ pub record StoreGenerates {D M : Type 0} (number : ℕ) (old : StoreOf D M) (con
 
 -- The store took all that was generated; `between` is the store then, which is open. It was
 -- concluded, and this was the answer.
-pub record GenerateFinished {D : Type 0} (g : Ghosts D) (number : ℕ) (old new : StoreOf D DiagnoserOf)
-    (hands : List (HandOf DiagnoserOf)) (conf : Conf) (answer : Result Conclusion StoreFault)
-    : Type 0 where
+pub record GenerateFinished {D : Type 0} (g : Ghosts D) (number : ℕ)
+    (old new : StoreOf D DiagnoserOf) (hands : List (HandOf DiagnoserOf)) (conf : Conf)
+    (answer : Result Conclusion StoreFault) : Type 0 where
   pub between : StoreOf D DiagnoserOf
   pub is_open : between.logs.closed ≡ None
   pub entries : List Entry

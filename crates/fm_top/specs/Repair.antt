@@ -4,7 +4,7 @@
 use Rattle.std.specs.Prelude.{◌≡◌, ◌⊎◌, List, [], Option, Some, None, Result, Ok, Err}
 use Rattle.std.specs.Prelude.{MatchResult}
 use Rattle.std.specs.Prelude.{OnOk, IfErr}
-use Rattle.dx_engine.specs.Diagnosers.{DiagnoserOf}
+use Rattle.dx_engine.specs.Diagnosers.{DiagnoserOf, diagnosers}
 use Rattle.fm_act.specs.Reconciled.{ActuatorState}
 use Rattle.fm_admin.specs.Limits.{RepairLimit}
 use Rattle.fm_admin.specs.Repairing.{IsRepaired}
@@ -32,7 +32,6 @@ use Rattle.fm_settled.specs.BaseLimits.{Figures}
 use Rattle.fm_store.specs.StoreLeft.{EachLeft, ReadsLike, ReadsLikeEither}
 use Rattle.fm_store.specs.StoreOf.{StoreOf, StoreStandsFor}
 use Rattle.fm_store.specs.StoreReading.{IsNoDamage}
-use Rattle.fm_summary.specs.DrainedSummary.{diagnosers}
 use Rattle.fm_top.specs.Accepting.{DisksAccount, ReachesLimit}
 use Rattle.fm_top.specs.Admin.{AdminRefused, StoreUnopened}
 use Rattle.fm_top.specs.DrainedBook.{ReadsDrained}
@@ -45,9 +44,9 @@ use Rattle.fm_top.specs.RepairEntry.{HasRepair, IsEntryAt, IsEntryOf, order_by}
 
 -- ---- an open store
 
--- What becomes of a book that the hands follow, by the answer: the entry was accepted and drained, of
--- which this is told; nothing would be marked, and nothing was accepted; or it was refused, before the
--- entry was being accepted or from there on.
+-- What becomes of a book that the hands follow, by the answer: the entry was accepted and drained,
+-- of which this is told; nothing would be marked, and nothing was accepted; or it was refused,
+-- before the entry was being accepted or from there on.
 abbrev pub RepairOnBook : {D M : Type 0} → Ghosts D → RepairAsked → List ModuleState → StoreOf D M
     → StoreOf D M → StoreBook → Conf → Result (Option Repaired) StoreFault → Type 0
 RepairOnBook g asked fresh old new k conf (Ok (Some one)) =

@@ -3,7 +3,7 @@ ghost use Rattle.std.specs.Prelude.{◌≡◌, ◌≤◌, Err, None, length};
 ghost use Rattle.fm_answers.specs.StreamsAt.{SinkAt, SourceAt, sink_at};
 ghost use Rattle.fm_drain.specs.DrainCalls.{AreAtCursors};
 ghost use Rattle.fm_store.specs.StoreLeft.{AreSameStore};
-ghost use Rattle.fm_summary.specs.DrainedSummary.{diagnosers};
+ghost use Rattle.dx_engine.specs.Diagnosers.{diagnosers};
 ghost use Rattle.fm_top.specs.Calls.{names_of};
 ghost use Rattle.fm_top.specs.Explain.{ExplainRan};
 ghost use Rattle.fm_top.specs.Outside.{disks_at};

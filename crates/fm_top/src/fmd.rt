@@ -8,7 +8,7 @@ ghost use Rattle.fm_drain.specs.DrainCalls.{AreAtCursors};
 ghost use Rattle.fm_esc.specs.Compiling.{AreGraphs, CompileCause};
 ghost use Rattle.fm_sources.specs.Sources.{ReadsSources, given};
 ghost use Rattle.fm_store.specs.StoreLeft.{AreSameStore};
-ghost use Rattle.fm_summary.specs.DrainedSummary.{diagnosers};
+ghost use Rattle.dx_engine.specs.Diagnosers.{diagnosers};
 ghost use Rattle.fm_top.specs.Calls.{names_of};
 ghost use Rattle.fm_top.specs.Fmd.{FmdRan};
 ghost use Rattle.fm_top.specs.Outside.{Outside, disks_at};

@@ -2,7 +2,7 @@
 ghost use Rattle.std.specs.Prelude.{◌≡◌, ◌≤◌, ◌<◌, ◌^◌, IsTrue, List, None, Err, length, map};
 ghost use Rattle.std.specs.Prelude.{OnOk, IfOk, IfErr};
 ghost use Rattle.std.specs.List.{list_all};
-ghost use Rattle.dx_engine.specs.Diagnosers.{DiagnoserOf};
+ghost use Rattle.dx_engine.specs.Diagnosers.{DiagnoserOf, diagnosers};
 ghost use Rattle.fm_act.specs.Reconciled.{actuator_state};
 ghost use Rattle.fm_answers.specs.StreamsAt.{SinkAt, SourceAt, sink_at};
 ghost use Rattle.fm_config.specs.Reports.{AreReportsOf};
@@ -11,7 +11,6 @@ ghost use Rattle.fm_drain.specs.DrainCalls.{AreAtCursors};
 ghost use Rattle.fm_name.specs.Category.{is_ereport};
 ghost use Rattle.fm_store.specs.StoreLeft.{AreSameStore};
 ghost use Rattle.fm_store.specs.StoreOf.{greatest_at};
-ghost use Rattle.fm_summary.specs.DrainedSummary.{diagnosers};
 ghost use Rattle.fm_top.specs.Calls.{names_of};
 ghost use Rattle.fm_top.specs.Generate.{GenerateRan, LinesRan, StartStops, StoreGenerates};
 ghost use Rattle.fm_top.specs.Generate.{TookUntil};

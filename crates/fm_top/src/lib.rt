@@ -38,8 +38,8 @@
 //! the return leaves of the six disks: contents from before, or contents that read as a book which
 //! drains to what the book from before comes to with the entries of the first lines, of all that
 //! were answered and of one more at most. It follows from what the store says of each entry
-//! (fm_answers' `specs/Recording`), which goes on over a run as lines are answered. It says so of each book
-//! that the contents from before read as; they read as one (`proofs/BookHeld`).
+//! (fm_answers' `specs/Recording`), which goes on over a run as lines are answered. It says so of
+//! each book that the contents from before read as; they read as one (`proofs/BookHeld`).
 //!
 //! Counts of faults: each step says by `Accounts` that an Ok leaves the count of the source, the
 //! sink or the disk, and that its fault is answered only where it rose. So `tool` is done only

@@ -5,7 +5,7 @@ ghost use Rattle.fm_answers.specs.StreamsAt.{source_at, sink_at};
 ghost use Rattle.fm_drain.specs.DrainCalls.{AreAtCursors};
 ghost use Rattle.fm_logs.specs.Contents.{AreSameDisks};
 ghost use Rattle.fm_store.specs.StoreLeft.{AreSameStore};
-ghost use Rattle.fm_summary.specs.DrainedSummary.{diagnosers};
+ghost use Rattle.dx_engine.specs.Diagnosers.{diagnosers};
 ghost use Rattle.fm_top.specs.Calls.{names_of, six};
 ghost use Rattle.fm_top.specs.Outside.{disks_at};
 ghost use Rattle.fm_top.specs.Tasks.{TaskDoes, TaskRan};

@@ -139,3 +139,6 @@ pub code_whole : (path code : List ℕ) (at : ℕ)
 code_whole path code at e h =
     sym (append-nil code)
     ∙ (ap (λ ps. code ++ parts_code ps) (sym (drop_all at (parts_of path) h)) ∙ e)
+
+-- a path is coded part by part
+pub ruleset coded = (part_coded, code_whole)

@@ -82,7 +82,7 @@ joined_behind f sep [] = refl
 joined_behind f sep (x ∷ xs) = ap (λ (ys : List ℕ). (sep ++ f x) ++ ys) (joined_behind f sep xs)
 
 -- texts that are joined, by their bytes
-pub joined_names : {A : Type 0} (f : A → List ℕ) (sep : List ℕ) (xs : List A)
+pub joined : {A : Type 0} (f : A → List ℕ) (sep : List ℕ) (xs : List A)
     → join_by f sep xs ≡ join_by (λ name. name) sep (map f xs)
-joined_names f sep [] = refl
-joined_names f sep (x ∷ xs) = ap (λ (ys : List ℕ). f x ++ ys) (joined_behind f sep xs)
+joined f sep [] = refl
+joined f sep (x ∷ xs) = ap (λ (ys : List ℕ). f x ++ ys) (joined_behind f sep xs)

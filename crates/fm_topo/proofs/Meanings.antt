@@ -68,6 +68,9 @@ unfolding value_read
 value_none bs e f = none_at (is_number bs) (is_quoted bs) (number_of bs) (value_of bs)
     (e ∙ number_read bs) f
 
+-- what the value behind `=` is read as
+pub ruleset values_read = (value_number, value_none, value_quoted)
+
 -- ---- pairs
 pub pair_unnamed : (name value : List ℕ) → is_name name ≡ false → None ≡ pair_read name value
 unfolding pair_read
@@ -98,6 +101,9 @@ unfolding pair_read value_read
 pair_none name value e f =
     rw e (pair_none_at (is_number value || is_quoted value) (value_of value) name f)
 
+-- what a name and a value are read as
+pub ruleset pairs_read = (pair_unnamed, pair_some, pair_none)
+
 -- ---- words
 pub property_some : (word name value : List ℕ) (found : Option (List ℕ × TopoValue))
     → name ≡ before_first (λ b. b == 61) word → value ≡ after_first (λ b. b == 61) word
@@ -118,6 +124,9 @@ property_none word h =
     rw h (drop_all (length word + 1) word (omega arith)) in
     rw d (no_value (is_name (before_first (λ b. b == 61) word))
     (before_first (λ b. b == 61) word, value_of []))
+
+-- what a word is read as
+pub ruleset properties_read = (property_some, property_none)
 
 -- ---- all words of a line
 property_at : (p : Bool) (x y : List ℕ × TopoValue) → Some x ≡ (if p then Some y else None)
@@ -154,6 +163,9 @@ pub word_bad : (word : List ℕ) → None ≡ property_read word → is_property
 unfolding property_read
 word_bad word e = not_property (is_property word) _ e
 
+-- one word is put into a map, or is no property
+pub ruleset one_word = (word_added, word_good, word_bad)
+
 -- the words of a text, the first of which is no property
 pub words_bad : (words rest : List (List ℕ)) (word : List ℕ) → words ≡ word ∷ rest
     → false ≡ is_property word → false ≡ list_all is_property words
@@ -174,3 +186,6 @@ words_folded words rest word found new last e f g = rw e (g ∙ ap (λ z. fold w
 pub words_counted : (words rest : List (List ℕ)) (word : List ℕ) (n : ℕ) → words ≡ word ∷ rest
     → n ≡ length rest → n + 1 ≡ length words
 words_counted words rest word n e f = omega (arith, ap length e)
+
+-- the words of a text are put into a map, one after the other
+pub ruleset all_words = (words_bad, words_good, words_folded, words_counted)

@@ -87,6 +87,9 @@ pub path_none : (content : List ℕ) → position_or_len (λ x. x == 32) content
 unfolding path_of
 path_none content h = sym (take-length content) ∙ ap (λ n. take n content) (sym h)
 
+-- a line is cut at its first space, where it has one
+pub ruleset cut_lines = (words_some, words_none, path_none)
+
 -- ---- the first word
 word_end_at : (q : Bool) (x : ℕ) (xs : List ℕ) (t : Bool)
     → word_end (if x == 34 then not q else q) xs ≤ length xs
@@ -136,6 +139,9 @@ pub word_all : (q : Bool) (xs : List ℕ) → word_end q xs ≡ length xs → wo
 word_all q [] h = refl
 word_all q (x ∷ xs) h =
     word_all_at q x xs (x == 32 && not q) (word_all (if x == 34 then not q else q) xs) h
+
+-- a text is cut behind its first word
+pub ruleset cut_words = (all_take, all_drop, word_cut, word_all)
 
 pub word_length : (xs : List ℕ) → word_end false xs ≤ length xs
 word_length xs = word_end_le false xs

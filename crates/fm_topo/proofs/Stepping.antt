@@ -209,6 +209,9 @@ at_fault text rest number at last found kind a p k l f =
     l2 in
     (number, refl, omega (arith, n.lines), n.fault ∙ f, a.clean)) (cases_lt at (length rest))
 
+-- a line is taken, and more follow or none; or it has a fault
+pub ruleset steps = (at_next, at_end, at_fault)
+
 -- before the first line
 pub at_start : (text : List ℕ) (found : Topology) → found ≡ [] → IsAt text 0 text found
 unfolding lines_topology

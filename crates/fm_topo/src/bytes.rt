@@ -95,7 +95,7 @@ pub fn text_of(bytes: &[u8]) -> &str
 }
 
 /// A line as its path and what stands behind the first space.
-#[tactic(auto, using(crate::proofs::Pieces::words_some, crate::proofs::Pieces::words_none, crate::proofs::Pieces::path_none), unfolding(crate::specs::Line::path_of))]
+#[tactic(auto, using(crate::proofs::Pieces::cut_lines), unfolding(crate::specs::Line::path_of))]
 pub fn cut_line(content: &[u8]) -> (&[u8], Option<&[u8]>)
     requires { IsTrue (list_all is_clean_byte content.now) }
     ensures path { result.0.now ≡ path_of content.now }
@@ -128,7 +128,7 @@ fn first_word_end(text: &[u8]) -> usize
 }
 
 /// The first word of a text, and what is left behind the space after it.
-#[tactic(auto, using(crate::proofs::Pieces::all_take, crate::proofs::Pieces::all_drop, crate::proofs::Pieces::word_cut, crate::proofs::Pieces::word_all))]
+#[tactic(auto, using(crate::proofs::Pieces::cut_words))]
 pub fn cut_word(text: &[u8]) -> (&[u8], Option<&[u8]>)
     requires { IsTrue (list_all is_clean_byte text.now) }
     ensures words { words_from false text.now

@@ -48,7 +48,7 @@ struct Pairs {
 }
 
 /// Puts a word into a map, and tells whether it is a property.
-#[tactic(auto, using(crate::proofs::Meanings::word_added, crate::proofs::Meanings::word_good, crate::proofs::Meanings::word_bad))]
+#[tactic(auto, using(crate::proofs::Meanings::one_word))]
 fn add_word(
     alloc: Global,
     map: &mut BTreeMap<TopoText, TopoValue>,
@@ -70,7 +70,7 @@ fn add_word(
 
 /// Puts the words of a text into a map, and counts them; None where one is no property. It calls
 /// itself for the words behind the first, of which a line has at most about a thousand.
-#[tactic(auto, using(crate::proofs::Meanings::words_bad, crate::proofs::Meanings::words_good, crate::proofs::Meanings::words_folded, crate::proofs::Meanings::words_counted))]
+#[tactic(auto, using(crate::proofs::Meanings::all_words))]
 fn add_words(
     alloc: Global,
     map: &mut BTreeMap<TopoText, TopoValue>,

@@ -57,7 +57,7 @@ fn add_place(
 }
 
 /// The names of a path, joined by slashes.
-#[tactic(auto, using(crate::proofs::Grouping::joined_names), unfolding(crate::specs::Groups::names_text))]
+#[tactic(auto, using(crate::proofs::Grouping::joined), unfolding(crate::specs::Groups::names_text))]
 pub fn names_text(alloc: Global, path: &Fmri) -> Result<Text, NoMemory>
     ensures { IfOk result (λ text. text ≡ names_text path.now) }
 {

@@ -42,7 +42,7 @@ fn add_name(name: &str, code: &mut Vec<u32>) -> Result<(), NoMemory>
 }
 
 /// The code of a path.
-#[tactic(auto, using(crate::proofs::Codes::part_coded, crate::proofs::Codes::code_whole), unfolding(crate::specs::Code::path_code))]
+#[tactic(auto, using(crate::proofs::Codes::coded), unfolding(crate::specs::Code::path_code))]
 fn code_of(alloc: Global, path: &Fmri) -> Result<Vec<u32>, NoMemory>
     ensures { IfOk result (λ code. code.items ≡ path_code path.now) }
 {

@@ -28,7 +28,7 @@ fn topology_from(alloc: Global, found: BTreeMap<Key, Properties>) -> Result<Topo
 
 /// Reads the line of a number, counted from 0, at the begin of the rest of a text; what is left
 /// behind it.
-#[tactic(auto, using(crate::proofs::Stepping::at_next, crate::proofs::Stepping::at_end, crate::proofs::Stepping::at_fault, crate::proofs::Ranges::rest_all))]
+#[tactic(auto, using(crate::proofs::Stepping::steps, crate::proofs::Ranges::rest_all))]
 fn step<'a>(
     alloc: Global,
     text: &[u8],

@@ -46,7 +46,7 @@ fn inner(bytes: &[u8]) -> &str
 }
 
 /// The value that the bytes behind `=` mean, where they are a value.
-#[tactic(auto, using(crate::proofs::Meanings::value_number, crate::proofs::Meanings::value_none, crate::proofs::Meanings::value_quoted))]
+#[tactic(auto, using(crate::proofs::Meanings::values_read))]
 fn read_value(alloc: Global, bytes: &[u8]) -> Result<Option<TopoValue>, NoMemory>
     requires { IsTrue (list_all is_clean_byte bytes.now) }
     ensures { IfOk result (λ found. found ≡ value_read bytes.now) }
@@ -62,7 +62,7 @@ fn read_value(alloc: Global, bytes: &[u8]) -> Result<Option<TopoValue>, NoMemory
 }
 
 /// The name and the value of a property, where they are such.
-#[tactic(auto, using(crate::proofs::Meanings::pair_unnamed, crate::proofs::Meanings::pair_some, crate::proofs::Meanings::pair_none))]
+#[tactic(auto, using(crate::proofs::Meanings::pairs_read))]
 fn read_pair(
     alloc: Global,
     name: &[u8],
@@ -83,7 +83,7 @@ fn read_pair(
 }
 
 /// The name and the value of a word, where it is a property.
-#[tactic(auto, using(crate::proofs::Meanings::property_some, crate::proofs::Meanings::property_none))]
+#[tactic(auto, using(crate::proofs::Meanings::properties_read))]
 pub fn read_property(alloc: Global, word: &[u8]) -> Result<Option<(TopoText, TopoValue)>, NoMemory>
     requires { IsTrue (list_all is_clean_byte word.now) }
     ensures { IfOk result (λ found. found ≡ property_read word.now) }

@@ -1,23 +1,11 @@
 -- Two modules that are made alike.
 use Rattle.std.specs.Prelude.{◌≡◌, ℕ}
 use Rattle.fm_core.specs.declared.module.Module.{Ghosts}
-use Rattle.fm_core.specs.Meaning.{Diagnosing}
-use Rattle.dx_engine.specs.Diagnosers.{DiagnoserOf}
-use Rattle.dx_meaning.specs.DiagnoserMeaning.{diagnoser_meaning}
-use Rattle.dx_rules.specs.Rulebooks.{rules_in}
-use Rattle.dx_standing.specs.Standing.{state_of}
 use Rattle.dx_state.specs.Configured.{Configurations, Rules}
 
 -- the rules of the module of a number with some configurations
 abbrev pub rules_with : ℕ → Configurations → Rules
 rules_with own list = record { own = own; configurations = list }
-
--- how contracts see a diagnosis module as a module
-abbrev pub diagnosers : Ghosts DiagnoserOf
-diagnosers = record {
-  meaning = λ d. diagnoser_meaning (rules_in d.rules);
-  state = λ d. Diagnosing (state_of d.standing);
-}
 
 -- two modules are made alike, with this number, and are in one state
 pub record AreTwins {M : Type 0} (g : Ghosts M) (number : ℕ) (own kept : M) : Type 0 where

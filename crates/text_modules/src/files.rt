@@ -5,7 +5,8 @@ ghost use Rattle.dx_rules.specs.Rulebooks.{configurations_of, ruled_of, rules_in
 ghost use Rattle.dx_standing.specs.Standing.{state_of};
 ghost use Rattle.dx_state.specs.Configured.{Single};
 ghost use Rattle.dx_step.specs.Lawful.{are_rules};
-ghost use Rattle.text_modules.specs.Alike.{AreTwins, diagnosers, rules_with};
+ghost use Rattle.text_modules.specs.Alike.{AreTwins, rules_with};
+ghost use Rattle.dx_engine.specs.Diagnosers.{diagnosers};
 
 use crate::setup::Setup;
 use dx_engine::{Diagnoser, NoMemory};

@@ -3,7 +3,7 @@ use denote.Param.Send.{sendable}
 use Rattle.std.proofs.Common.{◌≡◌, rules, subst}
 use Rattle.dx_engine.proofs.Crossing.{diagnoser_send}
 use Rattle.fm_logs.specs.declared.disks.DiskName.TheVariants.{Flt}
-use Rattle.fm_summary.specs.DrainedSummary.{diagnosers}
+use Rattle.dx_engine.specs.Diagnosers.{diagnosers}
 use Rattle.fm_admin.specs.Marking.{entry_by, marks_hands}
 use Rattle.fm_admin.specs.Repairing.{AreHandsAndEntry}
 use Rattle.fm_admin.specs.Telling.{AreHandsAndStatus}

@@ -1,7 +1,7 @@
 -- An entry was found and taken, or there was none, or the look for it was refused.
 use denote.Param.Send.{sendable}
 use Rattle.dx_engine.proofs.Crossing.{diagnoser_send}
-use Rattle.fm_summary.specs.DrainedSummary.{diagnosers}
+use Rattle.dx_engine.specs.Diagnosers.{diagnosers}
 use Rattle.fm_admin.specs.Repairing.{AreHandsAndEntry}
 use Rattle.fm_admin.proofs.RepairBooks.{entry_taken, look_refused, none_repaired, repair_did}
 use Rattle.fm_admin.proofs.RepairBooks.{repair_refused}

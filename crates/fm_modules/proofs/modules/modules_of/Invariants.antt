@@ -2,7 +2,8 @@
 use Rattle.std.proofs.Common.{◌≡◌}
 use Rattle.fm_store.specs.StoreOf.{made_modules}
 use Rattle.fm_modules.specs.KeptTexts.{conf_rows}
-use Rattle.fm_modules.specs.Modules.{diagnosers, first_modules}
+use Rattle.fm_modules.specs.Modules.{first_modules}
+use Rattle.dx_engine.specs.Diagnosers.{diagnosers}
 use Rattle.fm_modules.proofs.modules.modules_of.Given as goal
 
 abbrev pub invariant-files : goal.invariant-files

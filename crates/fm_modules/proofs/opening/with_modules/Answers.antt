@@ -4,7 +4,8 @@ use Rattle.std.proofs.Common.{List, sym, ◌∙◌, ap, subst, Some}
 use Rattle.fm_saved.specs.declared.conf.Conf.{Conf}
 use Rattle.fm_store.specs.StoreOf.{made_modules}
 use Rattle.dx_engine.proofs.Crossing.{diagnoser_send}
-use Rattle.fm_modules.specs.Modules.{AreModulesOf, ModulesCause, diagnosers}
+use Rattle.fm_modules.specs.Modules.{AreModulesOf, ModulesCause}
+use Rattle.dx_engine.specs.Diagnosers.{diagnosers}
 use Rattle.fm_modules.specs.OpenStore.{fault_of_modules}
 use Rattle.fm_modules.proofs.FirstModules.{few_modules}
 use Rattle.fm_modules.proofs.StoreModules.{adopting_refused, closed_for_texts, opens_store}

@@ -4,7 +4,8 @@ use Rattle.std.proofs.Common.{◌≡◌, ◌++◌, flat_map, map, ap, ◌∙◌}
 use Rattle.std.proofs.lemmas.List.{take_all}
 use Rattle.fm_core.specs.Hands.{shown}
 use Rattle.dx_engine.proofs.Crossing.{diagnoser_send}
-use Rattle.fm_summary.specs.DrainedSummary.{diagnosers, open_by_state, open_of_shown}
+use Rattle.fm_summary.specs.DrainedSummary.{open_by_state, open_of_shown}
+use Rattle.dx_engine.specs.Diagnosers.{diagnosers}
 use Rattle.fm_summary.proofs.OpenCases.{hands_none, hands_more}
 use Rattle.fm_summary.proofs.open_cases.open_reports.Goals as goal
 

@@ -1,7 +1,8 @@
 -- The open cases are those of the hands so far.
 use Rattle.std.proofs.Common.{◌≡◌, flat_map, map, take}
 use Rattle.fm_core.specs.Hands.{shown}
-use Rattle.fm_summary.specs.DrainedSummary.{diagnosers, open_of_shown}
+use Rattle.fm_summary.specs.DrainedSummary.{open_of_shown}
+use Rattle.dx_engine.specs.Diagnosers.{diagnosers}
 use Rattle.fm_summary.proofs.open_cases.open_reports.Given as goal
 
 abbrev pub invariant-hands : goal.invariant-hands

@@ -1,6 +1,6 @@
 -- The hands have the states of the drained book.
 use Rattle.std.proofs.Common.{◌∙◌}
-use Rattle.fm_summary.specs.DrainedSummary.{diagnosers}
+use Rattle.dx_engine.specs.Diagnosers.{diagnosers}
 use Rattle.fm_summary.proofs.OpenCases.{summary_is}
 use Rattle.fm_summary.proofs.summing.write_drained.Goals as goal
 

@@ -3,7 +3,7 @@ use denote.Param.Send.{sendable}
 use Rattle.std.proofs.Common.{subst}
 use Rattle.dx_engine.proofs.Crossing.{diagnoser_send}
 use Rattle.fm_drain.specs.DrainCalls.{DrainDoes, DrainsOnBook}
-use Rattle.fm_summary.specs.DrainedSummary.{diagnosers}
+use Rattle.dx_engine.specs.Diagnosers.{diagnosers}
 use Rattle.fm_top.proofs.Configs.{conf_done, conf_undone}
 use Rattle.fm_top.proofs.configuring.drained_conf.Goals as goal
 
