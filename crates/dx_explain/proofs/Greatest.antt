@@ -131,7 +131,8 @@ module _ (g : GraphValue) (v : IncidenceValue) (h : IsIncidenceOf (length g.node
     module _ (cut : CutsOf) (root : ℕ) (allowed : NodeSet) (full s t : SetsValue)
         (kind : is_root_node g.nodes root ≡ true)
         (exact : AreExact v cut full [] []) (filled : AreFilled v full)
-        (left : HaveLeftBelow (λ e. not (may_stay g.nodes root allowed e)) (length full.marks) full s)
+        (left : HaveLeftBelow (λ e. not (may_stay g.nodes root allowed e)) (length full.marks)
+          full s)
         (steady : IsSteady v cut root t) (over : t.pending ≡ [])
         (settles : SettlesTo v cut root s t) where
       low : IsSubset (has_mark s.marks) (may_stay g.nodes root allowed)
@@ -157,7 +158,8 @@ module _ (g : GraphValue) (v : IncidenceValue) (h : IsIncidenceOf (length g.node
           (not_from_false (ltb e (length full.marks) && not m)
           (and_right (ltb e (length full.marks)) (not m) (not_from_true m stays)))
 
-      pub solved : IsGreatestFit (without (wiring g.instances) cut) root (may_stay g.nodes root allowed)
+      pub solved : IsGreatestFit (without (wiring g.instances) cut) root
+        (may_stay g.nodes root allowed)
           (set_of t)
       solved =
           let same : wiring_cut v cut ≡ without (wiring g.instances) cut =

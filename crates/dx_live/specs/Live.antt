@@ -102,7 +102,8 @@ pub record IsBestStory (g : GraphValue) (cut : CutsOf) (root : ℕ) (allowed X :
 pub record IsBestOver (g : GraphValue) (cut : CutsOf) (allowed : NodeSet) (l : LiveOver) : Type 0
   where
     pub cuts : AreLocalCuts l.region cut (cuts_over l)
-    pub best : IsBestStory g cut (root_over l) allowed (lifted l.region.nodes (has_mark l.sets.marks))
+    pub best : IsBestStory g cut (root_over l) allowed
+      (lifted l.region.nodes (has_mark l.sets.marks))
 
 pub record IsLiveBest (g : GraphValue) (cut : CutsOf) (allowed : NodeSet) (l : LiveValue) : Type 0
   where

@@ -178,9 +178,9 @@ fn local_link(region: &Region, link: Link) -> Option<Link>
 
 impl Live {
     /// The greatest story of the root, with all reports allowed and no link cut. It takes the time
-    /// of what the root reaches and that of sorting it, or the time of the graph if the root reaches
-    /// the most of it; while it runs, it takes 5 bytes for each node and one for each instance of
-    /// the graph.
+    /// of what the root reaches and that of sorting it, or the time of the graph if the root
+    /// reaches the most of it; while it runs, it takes 5 bytes for each node and one for each
+    /// instance of the graph.
     pub fn new(alloc: Global, graph: &Graph, root: u32) -> Result<Live, NoMemory>
         requires { is_root_node graph.now.nodes root ≡ true }
         ensures live { IfOk result (λ live. IsLiveOf graph.now live) }

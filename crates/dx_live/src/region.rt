@@ -100,7 +100,8 @@ fn past_last(nodes: &[u32]) -> usize
 }
 
 /// For each of ascending numbers its place among them; what stands for a number between them says
-/// nothing. None is noted where they are few beside the greatest: to seek each takes less time then.
+/// nothing. None is noted where they are few beside the greatest: to seek each takes less time
+/// then.
 fn places_of(alloc: Global, nodes: &[u32]) -> Result<Vec<u32>, NoMemory>
     requires up { ascends nodes.now ≡ true }
     requires few { length nodes.now < 2 ^ 32 }

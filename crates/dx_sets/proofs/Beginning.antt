@@ -143,7 +143,8 @@ module _ (v : IncidenceValue) (cut : CutsOf) (root : ℕ) (s t : SetsValue) (inc
           marked_below s.marks e (h.moves.shrinks e here),
           x.sized.marks,
         ) in
-        let both = and_parts (has_mark s.marks e) (not (ltb e (length v.uses) && is_ungiven s e root))
+        let both = and_parts (has_mark s.marks e)
+          (not (ltb e (length v.uses) && is_ungiven s e root))
         (sym (h.each e) ∙ here) in
         let none : get_or s.support e 0 ≡ 0 → ⊥ = λ zero_left.
         both_ways (ltb e (length v.uses) && is_ungiven s e root)

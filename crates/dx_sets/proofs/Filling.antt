@@ -119,7 +119,8 @@ same_count p q (x ∷ xs) h =
       sum_by-cons (λ y. cond (p y) 1 0) x xs,
       sum_by-cons (λ y. cond (q y) 1 0) x xs,
       same_count p q xs (λ y i. h y (or_right (eqb x y) (is_member xs y) i)),
-      ap {B = ℕ} (λ (b : Bool). cond b 1 0) (h x (or_left (eqb x x) (is_member xs x) (eq-eqb x x refl))),
+      ap {B = ℕ} (λ (b : Bool). cond b 1 0) (h x (or_left (eqb x x) (is_member xs x)
+        (eq-eqb x x refl))),
     )
 
 and_true : (a b : Bool) → b ≡ true → a ≡ (a && b)
@@ -230,7 +231,8 @@ module _ (v : IncidenceValue) (cut : CutsOf) (inc : IsIncidence v) where
                       arith,
                       t.2,
                       cond-true {A = ℕ}
-                          (leb (get_or v.k j 0) (get_or s.causes_left j 0)) (occurs e (uncut v cut j)) 0
+                          (leb (get_or v.k j 0) (get_or s.causes_left j 0))
+                            (occurs e (uncut v cut j)) 0
                           enough,
                     )))
                     (le-leb (get_or v.k j 0) (count_by (has_mark s.marks) (row_at v.causes j))

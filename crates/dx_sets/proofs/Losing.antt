@@ -147,7 +147,8 @@ paid_one v cut root e rest s t inc above e_in h =
     → get_or (giver_lost t e root).support x 0 ≡ get_or t.support x 0 =
     λ x ne. ap (λ (xs : List ℕ). get_or xs x 0) new
     ∙ get_or-set_other t.support e x (get_or t.support e 0 - 1) 0 ne in
-    let hit : ◌≡◌ {A = ℕ} (cond (eqb e e) 1 0) 1 = cond-true {A = ℕ} (eqb e e) 1 0 (eq-eqb e e refl) in
+    let hit : ◌≡◌ {A = ℕ} (cond (eqb e e) 1 0) 1 = cond-true {A = ℕ} (eqb e e) 1 0
+      (eq-eqb e e refl) in
     let some = h.support e e_in in
     let m = moves_on {s = t} {t = u} {u = giver_lost t e root} (last_moves t e root)
     (moves_same u (giver_lost t e root) refl refl) in
@@ -515,7 +516,8 @@ module _ (v : IncidenceValue) (cut : CutsOf) (root j : ℕ) (rest : List ℕ) (s
         let now = ap (λ (xs : List ℕ). get_or (set xs j (get_or xs j 0 - 1)) i 0) d in
         elim (cases_eq i j) [
           | inl same ↦
-              let P : ℕ → Type 0 = λ z. get_or (set s.effects_left j (get_or s.effects_left j 0 - 1))
+              let P : ℕ → Type 0 = λ z. get_or (set s.effects_left j
+                (get_or s.effects_left j 0 - 1))
               z 0 ≡ weight t (uncut v cut z) + occurs z rest in
               now ∙ subst P (sym same)
               (omega (

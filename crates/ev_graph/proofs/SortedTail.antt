@@ -1,5 +1,6 @@
 -- Numbers of which those from a place on stand in another order.
-use Rattle.std.proofs.Common.{◌≡◌, ◌<◌, ◌++◌, ◌||◌, ◌+◌, ◌∙◌, ℕ, true, List, length, length-append, get_or}
+use Rattle.std.proofs.Common.{◌≡◌, ◌<◌, ◌++◌, ◌||◌, ◌+◌, ◌∙◌, ℕ, true, List, length}
+use Rattle.std.proofs.Common.{length-append, get_or}
 use Rattle.std.proofs.Common.{sym, ap, subst, arith}
 use Rattle.std.specs.List.{list_any}
 use Rattle.std.specs.List.Sorted.{IsPermutation}

@@ -54,7 +54,8 @@ fresh low [] i d h less = absurd (omega (arith, less))
 fresh low (x ∷ xs) zero d h less = refl
 fresh low (x ∷ xs) (suc i) d h less =
     let above = at_least (x + 1) xs i d h.1 (omega (arith, less)) in
-    let other : (x == get_or xs i d) ≡ false = ne_eqb x (get_or xs i d) (λ e. omega (arith, e, above))
+    let other : (x == get_or xs i d) ≡ false = ne_eqb x (get_or xs i d)
+      (λ e. omega (arith, e, above))
     in
     ap (λ (b : Bool). b || is_member (take i xs) (get_or xs i d)) other
     ∙ fresh (x + 1) xs i d h.1 (omega (arith, less))
@@ -193,7 +194,8 @@ module _ (r : RightSide) where
         ++ (if m then side_guards r other else [])) (sym is)
 
   pub guarded_effect : (e : ℕ) (node : Node) → slice_get r.nodes.now e ≡ Some node
-      → is_side_event node ≡ true → is_side_guarded node ≡ true → (g : Guard) → g.instance ≡ r.instance
+      → is_side_event node ≡ true → is_side_guarded node ≡ true → (g : Guard)
+        → g.instance ≡ r.instance
       → map view_question g.questions.items
       ≡ asked_of r.binding.now.topo.now side_names side_binding node (side_patterns r)
       → (old new : List GuardedNode) → AddsGuard e (view_guard g) old new

@@ -2,7 +2,8 @@
 
 ghost use Rattle.std.specs.Prelude.{◌≡◌, IfOk, IfErr};
 ghost use Rattle.fm_adm.specs.Config.{config_text};
-ghost use Rattle.fm_modules.specs.KeptTexts.{AreRefusedTexts, EachHas, IsRefusedConf, IsRefusedText};
+ghost use Rattle.fm_modules.specs.KeptTexts.{AreRefusedTexts, EachHas, IsRefusedConf};
+ghost use Rattle.fm_modules.specs.KeptTexts.{IsRefusedText};
 ghost use Rattle.fm_config.specs.Sizes.{ConfCause, HaveSizes, IsConfText, TextHasSizes};
 
 use crate::fault::ConfFault;

@@ -19,7 +19,8 @@ use Rattle.fm_modules.specs.Opening.{conf_gate}
 length-long_text : (text : List ℕ) → length (long_text text) ≡ 4 + length text
 unfolding u32_bytes
 length-long_text text =
-    length-append (u32_bytes (length text)) text ∙ ap (λ n. n + length text) (length-big_bytes 4 (length text))
+    length-append (u32_bytes (length text)) text ∙ ap (λ n. n + length text)
+      (length-big_bytes 4 (length text))
 
 length-texts_push : (texts : List (List ℕ)) (text : List ℕ)
     → length (flat_map long_text (texts ++ text ∷ []))
@@ -127,7 +128,8 @@ spelled_at confs n i conf spelled inside low is =
     subst IsSpelledConf (sym (is ∙ get_or-take n confs i conf below))
     (spelled i conf (omega (arith, below, inside)))
 
-map_take : (n : ℕ) (confs : List Conf) → map conf_bytes (take n confs) ≡ take n (map conf_bytes confs)
+map_take : (n : ℕ) (confs : List Conf) → map conf_bytes (take n confs)
+  ≡ take n (map conf_bytes confs)
 map_take zero confs = refl
 map_take (suc n) [] = refl
 map_take (suc n) (conf ∷ confs) = ap (λ l. conf_bytes conf ∷ l) (map_take n confs)

@@ -1,6 +1,7 @@
 -- Parts with which two texts begin alike are passed over when the texts are compared.
 use Rattle.std.proofs.Common.{◌≡◌, ◌<◌, ◌≤◌, ◌+◌, ℕ, Bool, true, false, ◌&&◌, List, [], ◌∷◌, ◌++◌}
-use Rattle.std.proofs.Common.{length, map, take, drop, get_or, refl, arith, ap, sym, ◌∙◌, subst, IsTrue}
+use Rattle.std.proofs.Common.{length, map, take, drop, get_or, refl, arith, ap, sym, ◌∙◌}
+use Rattle.std.proofs.Common.{subst, IsTrue}
 use Rattle.std.specs.Prelude.{◌==◌, if◌then◌else◌, codes}
 use Rattle.std.specs.List.{slice_split, onto_first, list_all}
 use Rattle.std.specs.Ordering.{ordering_then}

@@ -34,7 +34,8 @@ pub gave_all : {S : Type 0} (g : Ghosts S) (limit : ℕ) (start old new : S) (te
 gave_all g limit start old new text bytes so_far none end same =
     let more = gives_more g start old new text [] so_far none same in
     record {
-      consumed = subst (λ t. Consumes (g.left start) (g.left new) t) (append-nil text) more.consumed;
+      consumed = subst (λ t. Consumes (g.left start) (g.left new) t) (append-nil text)
+        more.consumed;
       whole = λ few. end;
       quiet = more.quiet;
     }

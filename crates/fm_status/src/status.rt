@@ -101,7 +101,6 @@ impl Status {
 
     /// Takes the words of a record, as they are: each is the row of its case from now on. Without
     /// memory some of them may have been taken.
-
     pub fn take(&mut self, spoken: Spoken) -> Result<(), NoMemory>
         ensures ok { OnOk result (self.new ≡ put_rows self.old spoken.events) }
         ensures last { OnOk result ((words : List ListEvent)

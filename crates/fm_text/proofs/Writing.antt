@@ -1,6 +1,7 @@
 -- What is written reads back.
 use Rattle.std.proofs.Common.{◌≡◌, ◌<◌, ◌≤◌, ◌+◌, ◌-◌, ◌*◌, ◌/◌, ◌%◌, ◌^◌, ℕ, true, List, []}
-use Rattle.std.proofs.Common.{◌∷◌, ◌++◌, length, replicate, zero, suc, take, drop, nat_lt, add-one, set}
+use Rattle.std.proofs.Common.{◌∷◌, ◌++◌, length, replicate, zero, suc, take, drop, nat_lt}
+use Rattle.std.proofs.Common.{add-one, set}
 use Rattle.std.proofs.Common.{lit<, length-append, append-nil, refl, arith, Some, ap, sym, ◌∙◌}
 use Rattle.std.specs.Prelude.{◌==◌, decimal}
 use Rattle.std.specs.List.{list_all, position_or_len}

@@ -1,5 +1,6 @@
 -- From a store that took entries to what its disks hold.
-use Rattle.std.proofs.Common.{◌≡◌, ◌⊎◌, inl, inr, ℕ, ◌+◌, ◌-◌, ◌^◌, ◌==◌, nat_lt, if◌then◌else◌, List}
+use Rattle.std.proofs.Common.{◌≡◌, ◌⊎◌, inl, inr, ℕ, ◌+◌, ◌-◌, ◌^◌, ◌==◌, nat_lt}
+use Rattle.std.proofs.Common.{if◌then◌else◌, List}
 use Rattle.std.proofs.Common.{[], ◌∷◌, ◌++◌, Bool, true, false, length, Option, Some, None, Result}
 use Rattle.std.proofs.Common.{Ok, Err, refl, sym, ◌∙◌, ap, subst, arith, append_assoc}
 use Rattle.std.specs.Prelude.{MatchResult}
@@ -117,7 +118,8 @@ module _ {D : Type 0} (g : Ghosts D) where
       → CannotTake j (entry_bytes entry) kind
       → FullCause j.first (length entries) (end_of (payloads_of entries)) entry kind
   full_of j payloads entries entry kind keeps spelled (inl (is, long)) =
-      subst (λ k. FullCause j.first (length entries) (end_of (payloads_of entries)) entry k) (sym is)
+      subst (λ k. FullCause j.first (length entries) (end_of (payloads_of entries)) entry k)
+        (sym is)
       long
   full_of j payloads entries entry kind keeps spelled (inr (short, is)) =
       let same : payloads ≡ payloads_of entries = all_spelled payloads entries spelled in
@@ -242,7 +244,8 @@ module _ {D M : Type 0} (g : Ghosts D) where
       → IfErr r (RanUntil (Recorded g store now) puts is_told next consumes at_end)
       → DisksAccount (disks_at g disks) (disks_at g disks_now) r
   disks_account disks disks_now store now puts is_told next consumes at_end (Ok done) quiet are all
-      until = none_counts g disks disks_now (none_since disks disks_now store now _ quiet are all.took)
+      until = none_counts g disks disks_now (none_since disks disks_now store now _ quiet are
+        all.took)
   disks_account disks disks_now store now puts is_told next consumes at_end (Err Disk) quiet are all
       (inl ran) = absurd ran.why
   disks_account disks disks_now store now puts is_told next consumes at_end (Err Disk) quiet are all

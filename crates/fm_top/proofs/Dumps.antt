@@ -201,7 +201,8 @@ module _ {D : Type 0} (g : Ghosts D) (options : DumpOptions) (old new : StoreOf 
           text_is = tt;
           after = tt;
           undamaged = told.undamaged;
-          limit = told_limit g old new hands conf open_before Flt fresh k fault stands follow refused;
+          limit = told_limit g old new hands conf open_before Flt fresh k fault stands follow
+            refused;
           left = told.left;
         };
       }

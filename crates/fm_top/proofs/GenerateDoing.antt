@@ -1,6 +1,7 @@
 -- What a command did that generates entries, in the words of the whole call.
 use Rattle.std.proofs.Common.{◌≡◌, ◌∙◌, ◌⊎◌, inl, inr, ℕ, ◌+◌, List, [], ◌∷◌, ◌++◌, length, map}
-use Rattle.std.proofs.Common.{append-nil, take, refl, sym, ap, subst, Some, OnOk, IfErr, Result, Ok, Err}
+use Rattle.std.proofs.Common.{append-nil, take, refl, sym, ap, subst, Some, OnOk, IfErr}
+use Rattle.std.proofs.Common.{Result, Ok, Err}
 use Rattle.std.proofs.Math.Seq.{take-append-add, take-append_seam, take-length}
 use Rattle.fm_act.specs.Reconciled.{ActuatorState}
 use Rattle.fm_answers.specs.Ending.{EndsAs}

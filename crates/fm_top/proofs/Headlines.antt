@@ -1,6 +1,7 @@
 -- The headline, from what each command did.
 use Rattle.std.proofs.Common.{inl, inr, ℕ, List, [], ◌∷◌, ◌++◌, true, length, take}
-use Rattle.std.proofs.Common.{◌+◌, ◌≤◌, Result, Ok, Err, refl, sym, ◌∙◌, ap, subst, arith, append-nil}
+use Rattle.std.proofs.Common.{◌+◌, ◌≤◌, Result, Ok, Err, refl, sym, ◌∙◌, ap, subst, arith}
+use Rattle.std.proofs.Common.{append-nil}
 use Rattle.std.proofs.Math.Seq.{take-append_seam, take-length}
 use Rattle.std.specs.Io.KnownBytes.{Appends, Consumes, IsAtEnd}
 use Rattle.fm_answers.specs.Answers.{answers, entries_of}
@@ -211,7 +212,8 @@ spelled_first : (bytes : List ℕ) (first : ℕ) (payloads : List (List ℕ)) (c
     → HasStore bytes
 spelled_first bytes first (payload ∷ payloads) confs journal spelled some =
     (first, payload, payloads, journal)
-spelled_first bytes first [] [] journal spelled some = absurd (let no : ⊥ = omega (arith, some) in no)
+spelled_first bytes first [] [] journal spelled some = absurd
+  (let no : ⊥ = omega (arith, some) in no)
 spelled_first bytes first [] (conf ∷ confs) journal spelled some = absurd spelled
 
 pub has_store : (c : Contents) → BookAt c → HasStore c.conf

@@ -1,5 +1,6 @@
 -- From an open store that takes what an operator says of repairs to what its disks hold.
-use Rattle.std.proofs.Common.{◌≡◌, ◌∙◌, inl, inr, ℕ, List, Option, None, Some, Result, Ok, Err, IfOk}
+use Rattle.std.proofs.Common.{◌≡◌, ◌∙◌, inl, inr, ℕ, List, Option, None, Some, Result, Ok}
+use Rattle.std.proofs.Common.{Err, IfOk}
 use Rattle.std.proofs.Common.{IfErr, [], append-nil, refl, sym, ap, subst}
 use Rattle.dx_engine.specs.Diagnosers.{DiagnoserOf, diagnosers}
 use Rattle.fm_admin.specs.Limits.{RepairLimit}
@@ -173,14 +174,16 @@ module _ {D : Type 0} (g : Ghosts D) (asked : RepairAsked) (old new : StoreOf D 
       taken_book fresh k mid e answer looks.done.told follows limit
   found_book fresh k mid (Ok None) answer looks (is, same) limit =
       subst (RepairOnBook g asked fresh old new k conf) (sym is)
-      (looks.done.told, subst (λ (s : StoreOf D DiagnoserOf). EachLeft g s (ReadsLike fresh k)) (sym same) looks.left)
+      (looks.done.told, subst (λ (s : StoreOf D DiagnoserOf). EachLeft g s (ReadsLike fresh k))
+        (sym same) looks.left)
   found_book fresh k mid (Err fault) answer looks (is, same) limit =
       subst (RepairOnBook g asked fresh old new k conf) (sym is) (
         (
           looks.undamaged,
           subst (λ r. IfErr r (RepairLimit old k (order_by conf asked))) is limit,
         ),
-        inl (subst (λ (s : StoreOf D DiagnoserOf). EachLeft g s (ReadsLike fresh k)) (sym same) looks.left),
+        inl (subst (λ (s : StoreOf D DiagnoserOf). EachLeft g s (ReadsLike fresh k)) (sym same)
+          looks.left),
       )
 
   abbrev pub OnBook : Result (Option Repaired) StoreFault → Type 0

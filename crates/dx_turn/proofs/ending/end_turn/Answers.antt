@@ -11,4 +11,5 @@ returns-then-are_still c =
 
 pub returns : goal.returns
 returns c =
-    c.drop_blank.ensures ∙ ap (filter has_kept) c.end_each.ensures ∙ left_cases c.args.cases.now.items
+    c.drop_blank.ensures ∙ ap (filter has_kept) c.end_each.ensures
+    ∙ left_cases c.args.cases.now.items

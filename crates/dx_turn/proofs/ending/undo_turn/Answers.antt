@@ -6,4 +6,5 @@ use Rattle.dx_turn.proofs.ending.undo_turn.Goals as goal
 
 pub returns : goal.returns
 returns c =
-    c.drop_blank.ensures ∙ ap (filter has_kept) c.undo_each.ensures ∙ back_cases c.args.cases.now.items
+    c.drop_blank.ensures ∙ ap (filter has_kept) c.undo_each.ensures
+    ∙ back_cases c.args.cases.now.items

@@ -8,7 +8,8 @@ put_counted-requires-3 c =
     let graph = c.args.made.now.graph in
     let same = sym c.instances.ensures.instances in
     record {
-      few = subst (λ (is : List _). length is < 2 ^ 32) same (short_instances graph c.instances.ensures.graph);
+      few = subst (λ (is : List _). length is < 2 ^ 32) same
+        (short_instances graph c.instances.ensures.graph);
       fit = subst (All (λ i. (length i.causes < 2 ^ 32) × (length i.effects < 2 ^ 32))) same
           (short_links graph c.instances.ensures.graph);
     }

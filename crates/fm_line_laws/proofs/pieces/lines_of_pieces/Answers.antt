@@ -9,4 +9,5 @@ pieces-init c =
     let all = flat_map (λ piece. piece.now) c.args.pieces.now in
     sym (lines_from_afresh all)
     ∙ ap (λ s. lines_from s.pending all) (sym c.in_ok-splitter.ensures)
-    ∙ ap (λ xs. xs ++ lines_from c.in_ok-splitter.splitter.pending all) (sym c.new-lines.ensures.items)
+    ∙ ap (λ xs. xs ++ lines_from c.in_ok-splitter.splitter.pending all)
+      (sym c.new-lines.ensures.items)

@@ -13,7 +13,8 @@ returns-in-Ok-Some-clause-does g c = λ input out. (
       c.args.hands.items c.args.conf.now (Ok o)) (search rules)
       (repair_done g.D.Disk c.args.request.now c.args.store.now c.repair.new.store
       c.args.hands.items c.args.conf.now c.requires.ready (Ok c.in-Ok-Some.field-0)
-      c.in-Ok-Some.ensures.did tt (as_asked g.D.Disk c.args.request.now c.args.store.now c.repair.new.store
+      c.in-Ok-Some.ensures.did tt (as_asked g.D.Disk c.args.request.now c.args.store.now
+        c.repair.new.store
       c.args.hands.items c.args.conf.now c.requires.ready c.in_ok-order.order
       (Ok c.in-Ok-Some.field-0) c.in_ok-order.ensures.order c.in-Ok-Some.ensures.book)),
 )
@@ -28,7 +29,8 @@ returns-in-Ok-None-clause-does g c = λ input out. (
         c.args.hands.items c.args.conf.now (Ok o)) (search rules)
         (repair_done g.D.Disk c.args.request.now c.args.store.now c.repair.new.store
         c.args.hands.items c.args.conf.now c.requires.ready (Ok c.in-Ok-None.field-0)
-        c.in-Ok-None.ensures.did tt (as_asked g.D.Disk c.args.request.now c.args.store.now c.repair.new.store
+        c.in-Ok-None.ensures.did tt (as_asked g.D.Disk c.args.request.now c.args.store.now
+          c.repair.new.store
         c.args.hands.items c.args.conf.now c.requires.ready c.in_ok-order.order
         (Ok c.in-Ok-None.field-0) c.in_ok-order.ensures.order c.in-Ok-None.ensures.book)),
   ),
@@ -43,7 +45,8 @@ returns-clause-does g c = λ input out. (
     c.from.ensures,
     repair_done g.D.Disk c.args.request.now c.args.store.now c.repair.new.store
         c.args.hands.items c.args.conf.now c.requires.ready (Err c.in-Err.fault) tt
-        c.in-Err.ensures.refused (as_asked g.D.Disk c.args.request.now c.args.store.now c.repair.new.store
+        c.in-Err.ensures.refused (as_asked g.D.Disk c.args.request.now c.args.store.now
+          c.repair.new.store
         c.args.hands.items c.args.conf.now c.requires.ready c.in_ok-order.order
         (Err c.in-Err.fault) c.in_ok-order.ensures.order c.in-Err.ensures.book),
   ),

@@ -10,8 +10,10 @@ find_candidates-requires c =
     let p = facts_parts c.args.graph.now c.args.moment (case_of c.args.facts.now) c.requires in
     record {
       some = rw (c.new-observed.ensures.items, c.in_ok-reported.ensures.items) p.some;
-      observed_ascend = rw (c.new-observed.ensures.items, c.in_ok-reported.ensures.items) p.observed_ascend;
-      observed_are = rw (c.new-observed.ensures.items, c.in_ok-reported.ensures.items) p.observed_are;
+      observed_ascend = rw (c.new-observed.ensures.items, c.in_ok-reported.ensures.items)
+        p.observed_ascend;
+      observed_are = rw (c.new-observed.ensures.items, c.in_ok-reported.ensures.items)
+        p.observed_are;
       broken_ascend = links_rise c.in_ok-broken.broken.items
           (ap (ascends_by is_link_before) c.in_ok-broken.ensures ∙ p.broken_ascend);
       time = refl;

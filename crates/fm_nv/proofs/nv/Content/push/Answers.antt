@@ -23,7 +23,8 @@ invariant_of-self-2 c =
     c.args.name.now _ c.self.inside.cells.items _ cell c.self.invariant c.requires.name room
     (omega (arith, c.len.ensures, c.self.inside.names.ok.0))
     (omega (arith, c.max-deep.ensures, c.depth.ensures.deep))
-    (subst (λ (ps : Pairs). OnTrue c.is_past-ascending.result (IsPast c.args.name.now ps)) (sym c.self.view_is)
+    (subst (λ (ps : Pairs). OnTrue c.is_past-ascending.result (IsPast c.args.name.now ps))
+      (sym c.self.view_is)
     c.is_past-ascending.ensures)
     (c.in_ok-extend_from_slice.ensures.items
     ∙ ap (λ (ns : List ℕ). c.self.inside.names.items ++ ns) c.as_bytes.ensures.value)
