@@ -68,7 +68,7 @@ impl<T: Copies> Items<T> {
     pub fn copy(&self, alloc: Global) -> Result<Items<T>, NoMemory>
         ensures { IfOk result (λ copied. copied ≡ self.now) }
     {
-        let mut copies = Vec::new(alloc);
+        let mut copies = Vec::with_capacity(alloc, self.items.len())?;
         'items: for item in &self.items {
             copies.push(item.copy(alloc)?)?;
         }

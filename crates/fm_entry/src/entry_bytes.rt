@@ -11,13 +11,16 @@ use fm_bytes::{NoMemory, put_short_text, put_u8, put_u32, put_u64};
 use fm_name::{Class, Fmri};
 use fm_nv::{Nv, write_nv};
 
+/// How many bytes are taken at first for those of an entry. Most take no more.
+const USUAL_SIZE: usize = 128;
+
 /// Appends the bytes that spell the entry.
 pub fn write_entry(entry: &Entry, out: &mut Vec<u8>) -> Result<(), NoMemory>
     requires { IsSpelled entry.now }
     ensures ok { OnOk result (out.new.items ≡ out.old.items ++ entry_bytes entry.now) }
     ensures err { OnErr result (out.new.items ≡ out.old.items) }
 {
-    let mut spelling = Vec::new(*out.allocator());
+    let mut spelling = Vec::with_capacity(*out.allocator(), USUAL_SIZE)?;
     put_entry(entry, &mut spelling)?;
     out.extend_from_slice(&spelling)?;
     Ok(())

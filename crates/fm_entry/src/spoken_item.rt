@@ -14,13 +14,16 @@ use crate::spoken::Spoken;
 use fm_bytes::{Input, NoMemory, ReadFault, put_u32, put_u64};
 use std::alloc::Global;
 
+/// How many bytes are taken at first for those of a record. Most take no more.
+const USUAL_SIZE: usize = 256;
+
 /// Appends the bytes that spell the record.
 pub fn write_spoken(spoken: &Spoken, out: &mut Vec<u8>) -> Result<(), NoMemory>
     requires { IsSpelledSpoken spoken.now }
     ensures ok { OnOk result (out.new.items ≡ out.old.items ++ spoken_bytes spoken.now) }
     ensures err { OnErr result (out.new.items ≡ out.old.items) }
 {
-    let mut spelling = Vec::new(*out.allocator());
+    let mut spelling = Vec::with_capacity(*out.allocator(), USUAL_SIZE)?;
     put_spoken(spoken, &mut spelling)?;
     out.extend_from_slice(&spelling)?;
     Ok(())

@@ -14,6 +14,9 @@ use crate::numbers::{NvNumbers, NvTexts};
 use crate::nv::{Nv, NvLists, Value};
 use fm_bytes::{NoMemory, put_long_text, put_u8, put_u16, put_u64};
 
+/// How many bytes are taken at first for those of a list. Most take no more.
+const USUAL_SIZE: usize = 64;
+
 /// Writes the spelling of a list behind what `out` holds. Each list has one.
 pub fn write_nv(nv: &Nv, out: &mut Vec<u8>) -> Result<(), NoMemory>
     ensures ok { OnOk result (out.new.items ≡ out.old.items ++ pairs_bytes nv.now) }
@@ -21,7 +24,7 @@ pub fn write_nv(nv: &Nv, out: &mut Vec<u8>) -> Result<(), NoMemory>
     ensures spelled { IsSpelledList nv.now }
 {
     let _deep = nv.depth();
-    let mut spelling = Vec::new(*out.allocator());
+    let mut spelling = Vec::with_capacity(*out.allocator(), USUAL_SIZE)?;
     put_list(nv, &mut spelling)?;
     out.extend_from_slice(&spelling)?;
     Ok(())
