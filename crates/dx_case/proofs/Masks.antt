@@ -18,7 +18,7 @@ max_one n h = grind arith
 -- a bit that is set stays
 set_stays : (m x i : ℕ) → bit_at m i ≡ 1 → bit_at (bit_or m x) i ≡ 1
 set_stays m x i h = bit_at_or m x i ∙ ap (λ n. max n (bit_at x i)) h ∙ max_one (bit_at x i)
-  (omega arith)
+    (omega arith)
 
 more : (m x : ℕ) (xs : List ℕ) → IsMask m xs
     → IsMask (bit_or m (1 * 2 ^ (x % 64) % 2 ^ 64)) (xs ++ x ∷ [])
@@ -36,4 +36,4 @@ pub mask_more : (m x d : ℕ) (xs : List ℕ) (i : ℕ) → i < length xs → ge
 mask_more m x d xs i l same h =
     let P : List ℕ → Type 0 = IsMask (bit_or m (1 * 2 ^ (x % 64) % 2 ^ 64)) in
     subst P (sym (take_more xs i d l ∙ ap (λ (y : ℕ). take i xs ++ y ∷ []) same))
-      (more m x (take i xs) h)
+    (more m x (take i xs) h)

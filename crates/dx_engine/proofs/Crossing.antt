@@ -23,8 +23,15 @@ use Rattle.dx_engine.specs.contracts.diagnoser.Diagnoser as diagnoser
 use Rattle.dx_engine.specs.contracts.diagnoser.Diagnoser.TheInside as inside
 
 cond_send : IsSend (cond.the_field).row
-cond_send = search (sendable, crosses, knot.crosses, knot.hole_send-Cond,
-  operand_send, text_send, items_send) depth 30
+cond_send = search (
+  sendable,
+  crosses,
+  knot.crosses,
+  knot.hole_send-Cond,
+  operand_send,
+  text_send,
+  items_send,
+) depth 30
 
 question_send : IsSend question.the_row
 question_send = search (sendable, crosses, cond_send, bound_send) depth 20

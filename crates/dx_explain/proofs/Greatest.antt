@@ -132,7 +132,7 @@ module _ (g : GraphValue) (v : IncidenceValue) (h : IsIncidenceOf (length g.node
         (kind : is_root_node g.nodes root ≡ true)
         (exact : AreExact v cut full [] []) (filled : AreFilled v full)
         (left : HaveLeftBelow (λ e. not (may_stay g.nodes root allowed e)) (length full.marks)
-          full s)
+        full s)
         (steady : IsSteady v cut root t) (over : t.pending ≡ [])
         (settles : SettlesTo v cut root s t) where
       low : IsSubset (has_mark s.marks) (may_stay g.nodes root allowed)
@@ -159,7 +159,7 @@ module _ (g : GraphValue) (v : IncidenceValue) (h : IsIncidenceOf (length g.node
           (and_right (ltb e (length full.marks)) (not m) (not_from_true m stays)))
 
       pub solved : IsGreatestFit (without (wiring g.instances) cut) root
-        (may_stay g.nodes root allowed)
+          (may_stay g.nodes root allowed)
           (set_of t)
       solved =
           let same : wiring_cut v cut ≡ without (wiring g.instances) cut =

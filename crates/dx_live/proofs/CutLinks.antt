@@ -40,7 +40,7 @@ module _ (g : GraphValue) (graph : IsGraph g) (l : LiveOver) (h : IsLiveOver g l
   fewer_cuts j e c = or_left (cut j e) (eqb j gone.instance && eqb e gone.effect) c
 
   pub cut_best : (here : Link) → IsLinkOf l.region.nodes l.region.places gone here
-    → (d : CutsValue) (t : SetsValue)
+      → (d : CutsValue) (t : SetsValue)
       → CutIsMade l.region.table l.here here l.cuts l.sets d t
       → IsBestOver g (cut_with cut gone) allowed (record {
         region = l.region;
@@ -76,7 +76,7 @@ module _ (g : GraphValue) (graph : IsGraph g) (l : LiveOver) (h : IsLiveOver g l
     }
 
   pub uncut_best : IsNoLinkOf l.region.nodes l.region.places gone
-    → IsBestOver g (cut_with cut gone) allowed l
+      → IsBestOver g (cut_with cut gone) allowed l
   uncut_best none = record {
     cuts = now;
     best = best_on g graph (root_over l) l.here l.region (cut_with cut gone) (cuts_over l) h.region

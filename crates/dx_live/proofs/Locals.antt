@@ -90,10 +90,16 @@ rows_below n rows nodes places locals h j i l = elim (cases_lt j n) [
 pub last_most : (nodes : List ℕ) (i : ℕ) → ascends nodes ≡ true → i < length nodes
     → get_or nodes i 0 ≤ get_or nodes (length nodes - 1) 0
 last_most nodes i up low = elim (cases_eq (i + 1) (length nodes)) [
-  | inl last ↦ omega (arith, ap (λ (n : ℕ). get_or nodes (n - 1) 0) last,
-    ap (λ (n : ℕ). get_or nodes n 0) (back i))
-  | inr ne ↦ omega (arith, rises nodes i (length nodes - 1) up (omega (arith, low, ne))
-    (omega (arith, low)))
+  | inl last ↦ omega (
+    arith,
+    ap (λ (n : ℕ). get_or nodes (n - 1) 0) last,
+    ap (λ (n : ℕ). get_or nodes n 0) (back i),
+  )
+  | inr ne ↦ omega (
+    arith,
+    rises nodes i (length nodes - 1) up (omega (arith, low, ne))
+        (omega (arith, low)),
+  )
 ] where
   back : (n : ℕ) → n + 1 - 1 ≡ n
   back n = omega arith

@@ -103,7 +103,7 @@ pub record IsBestOver (g : GraphValue) (cut : CutsOf) (allowed : NodeSet) (l : L
   where
     pub cuts : AreLocalCuts l.region cut (cuts_over l)
     pub best : IsBestStory g cut (root_over l) allowed
-      (lifted l.region.nodes (has_mark l.sets.marks))
+        (lifted l.region.nodes (has_mark l.sets.marks))
 
 pub record IsLiveBest (g : GraphValue) (cut : CutsOf) (allowed : NodeSet) (l : LiveValue) : Type 0
   where

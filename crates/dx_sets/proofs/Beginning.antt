@@ -144,7 +144,7 @@ module _ (v : IncidenceValue) (cut : CutsOf) (root : ℕ) (s t : SetsValue) (inc
           x.sized.marks,
         ) in
         let both = and_parts (has_mark s.marks e)
-          (not (ltb e (length v.uses) && is_ungiven s e root))
+        (not (ltb e (length v.uses) && is_ungiven s e root))
         (sym (h.each e) ∙ here) in
         let none : get_or s.support e 0 ≡ 0 → ⊥ = λ zero_left.
         both_ways (ltb e (length v.uses) && is_ungiven s e root)

@@ -76,7 +76,7 @@ module _ (w : Wiring) (cut fewer : CutsOf) (X : NodeSet) (within : CutsWithin fe
         let some = filter (λ x. not (cut j x)) (w.effects j) in
         let all = filter (λ x. not (fewer j x)) (w.effects j) in
         elim (or_cases (not (is_member (w.causes j) e)) (leb (w.n j) (count_by X some))
-          (s.each j)) [
+        (s.each j)) [
           | inl none ↦ or_left (not (is_member (w.causes j) e)) (leb (w.n j) (count_by X all)) none
           | inr enough ↦ or_right (not (is_member (w.causes j) e))
               (leb (w.n j) (count_by X all))

@@ -120,7 +120,7 @@ same_count p q (x ∷ xs) h =
       sum_by-cons (λ y. cond (q y) 1 0) x xs,
       same_count p q xs (λ y i. h y (or_right (eqb x y) (is_member xs y) i)),
       ap {B = ℕ} (λ (b : Bool). cond b 1 0) (h x (or_left (eqb x x) (is_member xs x)
-        (eq-eqb x x refl))),
+          (eq-eqb x x refl))),
     )
 
 and_true : (a b : Bool) → b ≡ true → a ≡ (a && b)
@@ -232,7 +232,7 @@ module _ (v : IncidenceValue) (cut : CutsOf) (inc : IsIncidence v) where
                       t.2,
                       cond-true {A = ℕ}
                           (leb (get_or v.k j 0) (get_or s.causes_left j 0))
-                            (occurs e (uncut v cut j)) 0
+                          (occurs e (uncut v cut j)) 0
                           enough,
                     )))
                     (le-leb (get_or v.k j 0) (count_by (has_mark s.marks) (row_at v.causes j))

@@ -358,13 +358,13 @@ module _ (v : IncidenceValue) (cut : CutsOf) (root : ℕ) (link : Link) (s : Set
         }
 
         steady_left : (u : SetsValue) → CausesLeave v j t u → IsSteady v more root
-          (one_effect_less u j)
+            (one_effect_less u j)
         steady_left u l = record {
           incidence = h.incidence;
           exact = exact_less v more root j [] t h.incidence j_in exact_in u l.moves l.causes_left
               l.effects_left l.support;
           given = given_less v more root j [] t h.incidence j_in exact_in u p.given l.moves
-            l.support;
+              l.support;
           met = met_left v more root j [] t h.incidence j_in exact_in u l still_met;
         }
 

@@ -148,7 +148,7 @@ paid_one v cut root e rest s t inc above e_in h =
     λ x ne. ap (λ (xs : List ℕ). get_or xs x 0) new
     ∙ get_or-set_other t.support e x (get_or t.support e 0 - 1) 0 ne in
     let hit : ◌≡◌ {A = ℕ} (cond (eqb e e) 1 0) 1 = cond-true {A = ℕ} (eqb e e) 1 0
-      (eq-eqb e e refl) in
+    (eq-eqb e e refl) in
     let some = h.support e e_in in
     let m = moves_on {s = t} {t = u} {u = giver_lost t e root} (last_moves t e root)
     (moves_same u (giver_lost t e root) refl refl) in
@@ -517,7 +517,7 @@ module _ (v : IncidenceValue) (cut : CutsOf) (root j : ℕ) (rest : List ℕ) (s
         elim (cases_eq i j) [
           | inl same ↦
               let P : ℕ → Type 0 = λ z. get_or (set s.effects_left j
-                (get_or s.effects_left j 0 - 1))
+              (get_or s.effects_left j 0 - 1))
               z 0 ≡ weight t (uncut v cut z) + occurs z rest in
               now ∙ subst P (sym same)
               (omega (

@@ -94,7 +94,7 @@ sum_unmark marks e f here l =
       arith,
       sum_below_change (length marks)
           (λ i. cond (has_mark (set marks e false) i) (f i) 0)
-            (λ i. cond (has_mark marks i) (f i) 0)
+          (λ i. cond (has_mark marks i) (f i) 0)
           e l
           (λ i m ne. ap (λ (b : Bool). cond b (f i) 0) (get_or-set_other marks e i false false ne)),
       cond-true {A = ℕ} (has_mark marks e) (f e) 0 here,

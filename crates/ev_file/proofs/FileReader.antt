@@ -73,7 +73,7 @@ any_node_reader =
     (made_where_reader (λ f. record { name = f.1.0; kind = f.1.1 }) uncoded coded_fits coded_bytes _
     code_same (λ node. refl)
     (then_reader (λ n. nat_le n 255) (λ n p.
-      event_fits p.0 && ((kind_code p.1 == n) && kind_fits p.1))
+    event_fits p.0 && ((kind_code p.1 == n) && kind_fits p.1))
     (λ n. n ∷ []) (λ n p. event_bytes p.0 ++ kind_bytes p.1) (number_from 1)
     (λ n. both_from event_from (kind_from n)) byte_reader
     (λ n h. both_reader event_fits (λ k. (kind_code k == n) && kind_fits k) event_bytes kind_bytes

@@ -141,7 +141,7 @@ module _ (g : GraphValue) (graph : IsGraph g) where
       × (list_all has_engine_limits g.engines ≡ true × (list_all has_counts g.instances ≡ true))
   counts =
       let one = and_parts (list_all (λ node. has_limits node.kind) g.nodes) _ graph.counted.counts
-        in
+      in
       let two = and_parts (list_all has_engine_limits g.engines) _ one.1 in
       (one.0, (two.0, two.1))
 

@@ -467,7 +467,7 @@ module _ (topology : Topology) (l : Linking) (ws : List (List ℕ)) (ns : List �
 
       pub answer_all : AreAllBindings topology l bs
       answer_all = turned_all topology l ws ts names_alike names_apart tables cs bs all_here
-        in_order
+          in_order
 
       pub answer_left : (left limit : ℕ) → left + sum_by (links_at ts) cs ≡ limit
           → left + sum_by (candidate_links topology l) bs ≡ limit

@@ -55,7 +55,7 @@ fresh low (x ∷ xs) zero d h less = refl
 fresh low (x ∷ xs) (suc i) d h less =
     let above = at_least (x + 1) xs i d h.1 (omega (arith, less)) in
     let other : (x == get_or xs i d) ≡ false = ne_eqb x (get_or xs i d)
-      (λ e. omega (arith, e, above))
+    (λ e. omega (arith, e, above))
     in
     ap (λ (b : Bool). b || is_member (take i xs) (get_or xs i d)) other
     ∙ fresh (x + 1) xs i d h.1 (omega (arith, less))
@@ -195,7 +195,7 @@ module _ (r : RightSide) where
 
   pub guarded_effect : (e : ℕ) (node : Node) → slice_get r.nodes.now e ≡ Some node
       → is_side_event node ≡ true → is_side_guarded node ≡ true → (g : Guard)
-        → g.instance ≡ r.instance
+      → g.instance ≡ r.instance
       → map view_question g.questions.items
       ≡ asked_of r.binding.now.topo.now side_names side_binding node (side_patterns r)
       → (old new : List GuardedNode) → AddsGuard e (view_guard g) old new

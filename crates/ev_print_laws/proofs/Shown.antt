@@ -239,8 +239,13 @@ in_signs n c ts w =
           refl;
       first = refl;
       second =
-          record { front = ts; back = Sign (codes ")") ∷ []; parts = refl; first = w;
-            second = refl };
+          record {
+            front = ts;
+            back = Sign (codes ")") ∷ [];
+            parts = refl;
+            first = w;
+            second = refl;
+          };
     }))
 
 negate : (n : ℕ) (c : Condition) (ts : List Tok) → unary n c ts
@@ -251,8 +256,13 @@ negate n c ts w = inl
       from = c;
       value = refl;
       spelled =
-          record { front = Sign (codes "!") ∷ []; back = ts; parts = refl; first = refl;
-            second = w };
+          record {
+            front = Sign (codes "!") ∷ [];
+            back = ts;
+            parts = refl;
+            first = refl;
+            second = w;
+          };
     })
 
 defined_atom : (t : List ℕ)

@@ -38,7 +38,7 @@ module _ {S : Type 0} (g : Ghosts S) (old new : Given S) (got : Sources)
 
   pub compiled_of : (form : GraphForm) (before text : List ℕ) → before ≡ []
       → (mades : List Made) × (AreGraphs got.topo files mades
-        × (text ≡ before ++ text_in form mades))
+      × (text ≡ before ++ text_in form mades))
       → IsCompiled g form old new text
   compiled_of form before text none (mades, (graphs, put)) = record {
     got = got;

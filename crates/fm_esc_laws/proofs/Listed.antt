@@ -33,7 +33,7 @@ read_there x tail spelled =
     ∙ ap (λ (zs : List ℕ). Some (x, zs)) (drop-append_seam (file_bytes x) tail)
 
 both_same : (x y : Made) (xs ys : List ℕ) → ◌≡◌ {A = Option (Made × List ℕ)} (Some (x, xs))
-  (Some (y, ys))
+    (Some (y, ys))
     → (x ≡ y) × (xs ≡ ys)
 both_same x y xs ys h =
     let pair : ◌≡◌ {A = Made × List ℕ} (x, xs) (y, ys) = cc in
@@ -44,13 +44,13 @@ no_front : (x : Made) (size : ℕ) → IsFileFront x size [] → ⊥
 no_front x size there =
     let none : size ≡ 0 = let less = there.inside in omega (arith, less) in
     absurd (let h : take {A = ℕ} 0 [] ≡ file_bytes x = subst (λ (k : ℕ). take k [] ≡ file_bytes x)
-      none there.spelled in cc)
+    none there.spelled in cc)
 
 -- what stands behind listed files begins with none
 rest_front : (bad : Option ℕ) (files rest : List ℕ) → IsRest bad files rest → IsNoFileFront rest
 rest_front None files rest ends = record {
   none = λ x size spelled there. no_front x size (subst (λ (zs : List ℕ). IsFileFront x size zs)
-    ends there);
+      ends there);
 }
 rest_front (Some place) files rest ends = ends.1.1
 
@@ -62,7 +62,7 @@ files_same [] (y ∷ ys) rest a b none h = absurd (cc)
 files_same (x ∷ xs) [] rest a b none h =
     absurd (none.none x (length (file_bytes x)) (All-head IsSpelledFile x xs a)
     (subst (λ (zs : List ℕ). IsFileFront x (length (file_bytes x)) zs) h
-      (front x (files_bytes xs))))
+    (front x (files_bytes xs))))
 files_same (x ∷ xs) (y ∷ ys) rest a b none h =
     let one = read_there x (files_bytes xs) (All-head IsSpelledFile x xs a) in
     let other = read_there y (files_bytes ys ++ rest) (All-head IsSpelledFile y ys b) in
@@ -71,7 +71,7 @@ files_same (x ∷ xs) (y ∷ ys) rest a b none h =
     let same = both_same x y (files_bytes xs) (files_bytes ys ++ rest)
     (sym one ∙ ap file_from whole ∙ other) in
     let more = files_same xs ys rest (All-tail IsSpelledFile x xs a)
-      (All-tail IsSpelledFile y ys b) none same.1 in
+    (All-tail IsSpelledFile y ys b) none same.1 in
     ((λ i. sym same.0 i ∷ more.0 i), more.1)
 
 -- the files in the bytes of some are these, to their end
@@ -98,7 +98,7 @@ module _ {S : Type 0} (g : Ghosts S) where
       let bytes : is.bytes ≡ text =
       text_given g (2 ^ 40) input rest text is.bytes e is.gave is.within in
       let only = files_only put.mades is.mades is.bytes bad spelled (bytes ∙ put.text_is) is.files
-        in
+      in
       let again : IsCompiled g AsLines old new (listing put.mades) = record {
         got = put.got;
         read = put.read;

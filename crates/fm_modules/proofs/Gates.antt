@@ -20,7 +20,7 @@ length-long_text : (text : List ℕ) → length (long_text text) ≡ 4 + length 
 unfolding u32_bytes
 length-long_text text =
     length-append (u32_bytes (length text)) text ∙ ap (λ n. n + length text)
-      (length-big_bytes 4 (length text))
+    (length-big_bytes 4 (length text))
 
 length-texts_push : (texts : List (List ℕ)) (text : List ℕ)
     → length (flat_map long_text (texts ++ text ∷ []))
@@ -129,7 +129,7 @@ spelled_at confs n i conf spelled inside low is =
     (spelled i conf (omega (arith, below, inside)))
 
 map_take : (n : ℕ) (confs : List Conf) → map conf_bytes (take n confs)
-  ≡ take n (map conf_bytes confs)
+    ≡ take n (map conf_bytes confs)
 map_take zero confs = refl
 map_take (suc n) [] = refl
 map_take (suc n) (conf ∷ confs) = ap (λ l. conf_bytes conf ∷ l) (map_take n confs)

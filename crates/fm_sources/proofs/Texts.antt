@@ -35,7 +35,7 @@ gave_all g limit start old new text bytes so_far none end same =
     let more = gives_more g start old new text [] so_far none same in
     record {
       consumed = subst (λ t. Consumes (g.left start) (g.left new) t) (append-nil text)
-        more.consumed;
+          more.consumed;
       whole = λ few. end;
       quiet = more.quiet;
     }

@@ -321,7 +321,7 @@ module _ {D M : Type 0} (o : OpenedOf D) (b : Beside D) (is : b ≡ beside_of o)
   store_adopts g m disk states modules later hands disk_is states_are first know loaded silent at
       passes cursors_are hands_are c opens told =
       let at_o : AreAtBase (made_modules m kept) o.newest o.checkpoint.conf o.checkpoint.states
-        saves
+      saves
       (states_of m modules) =
       subst (λ (x : Beside D). AreAtBase (made_modules m kept) x.newest x.in_force
       o.checkpoint.states saves (states_of m modules)) is

@@ -150,7 +150,7 @@ module _ {M : Type 0} (g : ModuleGhosts M) where
       subst (λ (l : List ModuleState). AreLoaded l (take (i + 1) saves)
       (states_of g (modules ++ own ∷ []))) (sym front_is)
       (subst (λ (l : List (List ℕ)). AreLoaded (made_modules g (take i fresh) ++ made_of object
-        ∷ [])
+      ∷ [])
       l (states_of g (modules ++ own ∷ []))) (sym (take_push saves i save saved))
       (subst (AreLoaded (made_modules g (take i fresh) ++ made_of object ∷ [])
       (take i saves ++ save ∷ [])) (sym end_is)

@@ -119,7 +119,7 @@ module _ {D : Type 0} (g : Ghosts D) where
       → FullCause j.first (length entries) (end_of (payloads_of entries)) entry kind
   full_of j payloads entries entry kind keeps spelled (inl (is, long)) =
       subst (λ k. FullCause j.first (length entries) (end_of (payloads_of entries)) entry k)
-        (sym is)
+      (sym is)
       long
   full_of j payloads entries entry kind keeps spelled (inr (short, is)) =
       let same : payloads ≡ payloads_of entries = all_spelled payloads entries spelled in
@@ -245,7 +245,7 @@ module _ {D M : Type 0} (g : Ghosts D) where
       → DisksAccount (disks_at g disks) (disks_at g disks_now) r
   disks_account disks disks_now store now puts is_told next consumes at_end (Ok done) quiet are all
       until = none_counts g disks disks_now (none_since disks disks_now store now _ quiet are
-        all.took)
+      all.took)
   disks_account disks disks_now store now puts is_told next consumes at_end (Err Disk) quiet are all
       (inl ran) = absurd ran.why
   disks_account disks disks_now store now puts is_told next consumes at_end (Err Disk) quiet are all

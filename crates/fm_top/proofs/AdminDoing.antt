@@ -62,8 +62,10 @@ module _ (asked : AdminCommand) (before after : Outside) where
           → Goes (world_of before after) (looks (Admin asked)) (Err stop)
       by_stop Disk why = inl tt
       by_stop Memory why = inl tt
-      by_stop (Full kind) why = inr (inr (((λ told tells. (untold.holds told tells).stood), tt),
-        tt))
+      by_stop (Full kind) why = inr (inr (
+        ((λ told tells. (untold.holds told tells).stood), tt),
+        tt,
+      ))
       by_stop (Damaged disk place) why =
           inr (inl (inl (disk, place, refl, λ told tells. absurd (why told tells))))
       by_stop _ why = absurd why

@@ -202,7 +202,7 @@ module _ {D : Type 0} (g : Ghosts D) (options : DumpOptions) (old new : StoreOf 
           after = tt;
           undamaged = told.undamaged;
           limit = told_limit g old new hands conf open_before Flt fresh k fault stands follow
-            refused;
+              refused;
           left = told.left;
         };
       }

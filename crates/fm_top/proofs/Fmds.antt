@@ -245,7 +245,7 @@ module _ {D : Type 0} (g : Ghosts D) (first between new : StoreOf D DiagnoserOf)
             let at : OpenAt g first hands conf told = record {
               stood = stood;
               stands = subst (λ (ms : List ModuleState). StoreStandsFor g ms first stood.book)
-                same.0
+                  same.0
                   (subst (λ (k : StoreBook). StoreStandsFor g one.stood.fresh first k) same.1
                   one.stands);
               follow = subst (λ (k : StoreBook). AllFollow diagnosers k.book hands) same.1

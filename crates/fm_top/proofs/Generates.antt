@@ -170,7 +170,7 @@ module _ {D : Type 0} (g : Ghosts D) (disks disks_now : Disks D)
       (seen_is_image : (disk : D) (c : List ℕ) → g.seen disk ≡ Some c → g.images disk c)
       (read : (name : DiskName) → OnlyRead g (disk_named name disks) (store_disk name first)) where
     until_grew : (entries : List Entry) (stop : Stop) → TookUntil (Recorded g first new) entries
-      stop
+        stop
         → TookUntil (Grew (disks_at g disks) (disks_at g disks_now) (next_entry first.logs)) entries
         stop
     until_grew entries stop until =

@@ -213,7 +213,7 @@ spelled_first : (bytes : List ℕ) (first : ℕ) (payloads : List (List ℕ)) (c
 spelled_first bytes first (payload ∷ payloads) confs journal spelled some =
     (first, payload, payloads, journal)
 spelled_first bytes first [] [] journal spelled some = absurd
-  (let no : ⊥ = omega (arith, some) in no)
+    (let no : ⊥ = omega (arith, some) in no)
 spelled_first bytes first [] (conf ∷ confs) journal spelled some = absurd spelled
 
 pub has_store : (c : Contents) → BookAt c → HasStore c.conf

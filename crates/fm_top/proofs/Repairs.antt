@@ -173,9 +173,11 @@ module _ {D : Type 0} (g : Ghosts D) (asked : RepairAsked) (old new : StoreOf D 
   found_book fresh k mid (Ok (Some e)) answer looks follows limit =
       taken_book fresh k mid e answer looks.done.told follows limit
   found_book fresh k mid (Ok None) answer looks (is, same) limit =
-      subst (RepairOnBook g asked fresh old new k conf) (sym is)
-      (looks.done.told, subst (λ (s : StoreOf D DiagnoserOf). EachLeft g s (ReadsLike fresh k))
-        (sym same) looks.left)
+      subst (RepairOnBook g asked fresh old new k conf) (sym is) (
+        looks.done.told,
+        subst (λ (s : StoreOf D DiagnoserOf). EachLeft g s (ReadsLike fresh k))
+            (sym same) looks.left,
+      )
   found_book fresh k mid (Err fault) answer looks (is, same) limit =
       subst (RepairOnBook g asked fresh old new k conf) (sym is) (
         (
@@ -183,7 +185,7 @@ module _ {D : Type 0} (g : Ghosts D) (asked : RepairAsked) (old new : StoreOf D 
           subst (λ r. IfErr r (RepairLimit old k (order_by conf asked))) is limit,
         ),
         inl (subst (λ (s : StoreOf D DiagnoserOf). EachLeft g s (ReadsLike fresh k)) (sym same)
-          looks.left),
+            looks.left),
       )
 
   abbrev pub OnBook : Result (Option Repaired) StoreFault → Type 0

@@ -65,7 +65,7 @@ module _ {D : Type 0} (g : Ghosts D) (old new : StoreOf D DiagnoserOf)
       let first : new.logs.active.first ≡ base =
       ap (λ (j : JournalOf D). j.first) is.journal_is in
       let older : st.older ≡ [] = none_of st.older
-        (omega (arith, st.keep.begins, first, is.base_is)) in
+      (omega (arith, st.keep.begins, first, is.base_is)) in
       let entries : based.book.entries ≡ [] = sym st.entries_are ∙ is.none_left in
       let log : IsLog SpellsEntry active new.logs.active.first (st.older ++ based.book.entries) =
       entries_left g fresh new based active st (left_active g new c (left ErrA) (left ErrB)) in

@@ -30,7 +30,7 @@ graph_at made file = option_map (λ x. x.graph) (slice_get made file)
 
 module _ (confs : List Conf) (rows : List (List Configuration))
     (make : EachHas ConfMakes confs rows) (n : ℕ) (conf : Conf)
-      (there : slice_get confs n ≡ Some conf) where
+    (there : slice_get confs n ≡ Some conf) where
   made_there : (made : List Configuration) × (slice_get rows n ≡ Some made) × ConfMakes conf made
   made_there = each_at ConfMakes confs rows n conf make there
 

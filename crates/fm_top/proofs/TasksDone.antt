@@ -135,12 +135,16 @@ module _ {D : Type 0} (g : Ghosts D)
     generate_halted g disks disks_now first new hands conf number kept opened are seen_is_image
         read stop does.2,
   )
-  task_ran (GeneratedLines number) (Ok (Text text)) does counts_input counts_out =
-      (does.1, lines_tried g disks disks_now first new hands conf number kept opened are text
-        does.2)
-  task_ran (GeneratedLines number) (Err stop) does counts_input counts_out =
-      (does.1, lines_halted g disks disks_now first new hands conf number kept opened are stop
-        does.2)
+  task_ran (GeneratedLines number) (Ok (Text text)) does counts_input counts_out = (
+    does.1,
+    lines_tried g disks disks_now first new hands conf number kept opened are text
+        does.2,
+  )
+  task_ran (GeneratedLines number) (Err stop) does counts_input counts_out = (
+    does.1,
+    lines_halted g disks disks_now first new hands conf number kept opened are stop
+        does.2,
+  )
   task_ran _ _ does counts_input counts_out = absurd does
 
 -- ---- what a command takes of it
@@ -161,7 +165,7 @@ pub fmd_did : (got : Sources) (done : TaskDone) (conclusion : Conclusion)
 fmd_did got Nothing conclusion input input_now out out_now disks disks_now is ran = absurd ran
 fmd_did got (Text text) conclusion input input_now out out_now disks disks_now is ran = absurd ran
 fmd_did got (Repaired one) conclusion input input_now out out_now disks disks_now is ran =
-  absurd ran
+    absurd ran
 fmd_did got (Concluded found) conclusion input input_now out out_now disks disks_now is ran =
     subst (λ done. TaskRan (Fmd got) input input_now out out_now disks disks_now (Ok done)) is ran
 
@@ -190,7 +194,7 @@ generate_did number (Text text) conclusion input input_now out out_now disks dis
 generate_did number (Repaired one) conclusion input input_now out out_now disks disks_now is ran =
     absurd ran
 generate_did number (Concluded found) conclusion input input_now out out_now disks disks_now
-  is ran =
+    is ran =
     subst (λ done. TaskRan (Generate number) input input_now out out_now disks disks_now (Ok done))
     is ran
 

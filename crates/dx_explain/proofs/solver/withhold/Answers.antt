@@ -8,7 +8,7 @@ use Rattle.dx_explain.proofs.solver.withhold.Goals.{then-not-may_stay, else-not-
 pub loop-node-preserved : goal.loop-node-preserved
 loop-node-preserved c =
     let p = λ (e : ℕ). not (may_stay c.args.nodes.now c.args.root (is_member c.args.allowed.now)
-      e) in
+    e) in
     elim c.if-not-may_stay.branch [
       | then-not-may_stay w ↦ rw (w.sets-is, w.remove.ensures) (left_here p c.loop-node.node
           c.args.sets.now c.loop-node.sets c.loop-node.invariant

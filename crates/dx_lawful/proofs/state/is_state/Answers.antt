@@ -15,7 +15,7 @@ pub returns : goal.returns
 returns g c =
     let s = diagnosis_of c.args.kept.now in
     tried c.args.own c.args.graph.now (g.C.CutTest.is_cut c.args.guarded.now) s
-      c.in_ok-numbered.numbered
+    c.in_ok-numbered.numbered
     c.requires
     (c.in_ok-numbered.ensures
     ∙ (λ i. are_numbered (c.as_slice.ensures i) (c.as_slice-2.ensures i))

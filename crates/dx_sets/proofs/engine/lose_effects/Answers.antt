@@ -51,8 +51,14 @@ loop-place-preserved g c =
                       (looked_unmet v cut c.args.root c.args.node c.loop-place.place-index
                       c.args.sets.now c.loop-place.sets c.requires.incidence l here h e
                       x.remove_causes_of.new.sets leave);
-                  cost = rw (w.sets-is, w.steps-is, w.lose_effect.ensures, x.sets-is, x.steps-is,
-                    is)
+                  cost = rw (
+                    w.sets-is,
+                    w.steps-is,
+                    w.lose_effect.ensures,
+                    x.sets-is,
+                    x.steps-is,
+                    is,
+                  )
                       (omega (
                         arith,
                         c.tick.ensures,
@@ -72,8 +78,14 @@ loop-place-preserved g c =
                   looking = rw (w.sets-is, w.lose_effect.ensures, x.sets-is, is)
                       (looked_effect v cut c.args.root c.args.node c.loop-place.place-index
                       c.args.sets.now c.loop-place.sets c.requires.incidence l here h ne);
-                  cost = rw (w.sets-is, w.steps-is, w.lose_effect.ensures, x.sets-is, x.steps-is,
-                    is)
+                  cost = rw (
+                    w.sets-is,
+                    w.steps-is,
+                    w.lose_effect.ensures,
+                    x.sets-is,
+                    x.steps-is,
+                    is,
+                  )
                       (omega (
                         arith,
                         c.tick.ensures,

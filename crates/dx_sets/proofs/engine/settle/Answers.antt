@@ -14,7 +14,7 @@ pub lose_effects-requires-clause-looking : goal.lose_effects-requires-clause-loo
 lose_effects-requires-clause-looking g c =
     let cut = g.C.CutTest.is_cut c.args.cuts.now in
     looking_again c.args.table.now cut c.args.root []
-      (uncut_gets c.args.table.now cut c.in-Some.node)
+    (uncut_gets c.args.table.now cut c.in-Some.node)
     c.pop_front.new.self c.lose_causes.new.sets c.lose_causes.ensures.looking
 
 pub loop-node-smaller : goal.loop-node-smaller

@@ -9,7 +9,7 @@ put_counted-requires-3 c =
     let same = sym c.instances.ensures.instances in
     record {
       few = subst (λ (is : List _). length is < 2 ^ 32) same
-        (short_instances graph c.instances.ensures.graph);
+          (short_instances graph c.instances.ensures.graph);
       fit = subst (All (λ i. (length i.causes < 2 ^ 32) × (length i.effects < 2 ^ 32))) same
           (short_links graph c.instances.ensures.graph);
     }

@@ -19,13 +19,16 @@ loop-at-preserved c =
     let P : List ℕ → Type 0 = λ us. TakesRows rows us a b d e in
     record {
       searching = search_more index rows c.args.starts.now at a b d e
-          (omega (arith, ap length c.as_slice.ensures.items,
-            c.sort_wave-sorted.ensures.sorted.count))
+          (omega (
+            arith,
+            ap length c.as_slice.ensures.items,
+            c.sort_wave-sorted.ensures.sorted.count,
+          ))
           (searching_sorted index rows c.args.starts.now at c.loop-at.nodes.items a b
           c.sort_wave-sorted.ensures.sorted c.loop-at.invariant.searching)
           (subst P own c.in_ok-take_rows.ensures.nodes);
       size = c.in_ok-take_rows.ensures.size ∙ (c.sort_wave-sorted.ensures.size
-        ∙ c.loop-at.invariant.size);
+          ∙ c.loop-at.invariant.size);
       places_size = c.in_ok-take_rows.ensures.places_size ∙ c.loop-at.invariant.places_size;
     }
 

@@ -13,14 +13,14 @@ add_numbers-requires-clause-there c =
     subst (AreOnPaths b.topo.now c.args.index.now.nodes.now q.class)
     (sym (c.deref.ensures.value ∙ c.in_ok-places.ensures))
     (on_paths b.topo.now c.args.index.now.nodes.now c.requires.nodes_are b.names.now
-      b.instances.now q 0 _
+    b.instances.now q 0 _
     refl c.requires.known)
 
 pub returns : goal.returns
 returns c =
     let b = c.args.binding.now in
     events_are b.topo.now c.args.index.now.nodes.now b.names.now b.instances.now
-      c.requires.nodes_are
+    c.requires.nodes_are
     (view_pattern c.args.pattern.now) c.new-numbers.result.items c.deref.result.now
     c.add_numbers.new.found.items c.set_of.result.items c.new-numbers.ensures.items
     (c.deref.ensures.value ∙ c.in_ok-places.ensures) c.in_ok-add_numbers.ensures.members

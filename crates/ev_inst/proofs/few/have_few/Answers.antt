@@ -8,7 +8,7 @@ pub returns-then-are_few : goal.returns-then-are_few
 returns-then-are_few c =
     let all = list_all (λ n. list_all has_number n.guards.items) c.args.nodes.now in
     c.have_numbers.ensures ∙ ap (λ (b : Bool). b && all)
-      (sym (sym c.are_few.ensures ∙ c.if-are_few.true))
+    (sym (sym c.are_few.ensures ∙ c.if-are_few.true))
     ∙ few_links c.args.nodes.now
 
 pub returns-else-are_few : goal.returns-else-are_few

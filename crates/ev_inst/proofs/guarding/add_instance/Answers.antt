@@ -27,7 +27,7 @@ pub returns-then-not-any_asks : goal.returns-then-not-any_asks
 returns-then-not-any_asks c =
     let b = c.args.binding.now in
     instance_counted b.topo.now c.args.index.now.nodes.now (view_prop c.args.prop.now)
-      b.instances.now
+    b.instances.now
     (map view_pattern c.as_slice-right.result.now)
     (ap (map view_pattern) c.as_slice-right.ensures)
     (sym c.any_asks.ensures ∙ c.if-not-any_asks.true) c.args.all.now c.count_instance.new.all
@@ -44,7 +44,7 @@ returns c =
     omega (arith, kept, was, whole) in
     instance_added _ (view_prop c.args.prop.now) c.args.effects.now c.requires.names right
     (c.requires.effects ∙ (λ i. events_of b.topo.now c.args.index.now.nodes.now
-      (sym c.requires.names i)
+    (sym c.requires.names i)
     b.instances.now (sym right i)))
     c.args.all.now c.count_instance-2.new.all refl c.deref_mut.result.now
     c.add_effects.new.guarded c.deref_mut.ensures.value

@@ -6,5 +6,5 @@ use Rattle.ev_inst.proofs.guarding.add_prop.Given as goal
 
 abbrev pub invariant-bindings : goal.invariant-bindings
 invariant-bindings l = AddsDerivations l.topo l.index.nodes.now
-  (made_of l.topo l.index.nodes.now (view_prop l.prop)
+    (made_of l.topo l.index.nodes.now (view_prop l.prop)
     (take l.at l.candidates.bindings)) l.initial.all l.all

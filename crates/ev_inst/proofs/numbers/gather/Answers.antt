@@ -51,13 +51,13 @@ patterns-preserved c =
     let b = c.args.binding.now in
     let p = c.index-patterns-at.result in (
       bare_more b.topo.now c.args.index.now.nodes.now b.names.now b.instances.now
-        c.args.patterns.now
+          c.args.patterns.now
           c.patterns.at p p c.patterns-test.true c.index-patterns-at.is c.patterns.invariant.0
           (ap (λ (xs : List ℕ). not (has_across (view_pattern p)) && (length xs == 0))
           (sym (c.deref.ensures.value ∙ c.in_ok-places.ensures))
           ∙ sym c.is_bare.ensures ∙ c.if-is_bare.false),
       gathered_step b.topo.now c.args.index.now.nodes.now b.names.now b.instances.now
-        c.args.patterns.now
+          c.args.patterns.now
           c.patterns.at p p c.patterns-test.true c.index-patterns-at.is c.requires.nodes_are
           c.patterns.found.items c.add_numbers.new.found.items c.deref-in-patterns.result.now
           (c.deref-in-patterns.ensures.value ∙ c.in_ok-places.ensures) c.patterns.invariant.1

@@ -11,5 +11,5 @@ invariant-patterns l =
     (list_any (is_bare l.binding.topo.now l.binding.names.now l.binding.instances.now)
     (map view_pattern (take l.at l.patterns)) ≡ false)
     × AreEventNumbers l.binding.topo.now l.index.nodes.now l.binding.names.now
-      l.binding.instances.now
+    l.binding.instances.now
     (map view_pattern (take l.at l.patterns)) l.found.items

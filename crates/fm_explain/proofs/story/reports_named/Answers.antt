@@ -20,7 +20,7 @@ names-preserved c =
     slice_get_read names (length names) i name refl c.names-test.true c.name-item.is in
     elim c.match-find.branch [
       | in-Some+in_ok-push-in-Some w ↦ rw (w.list-is, w.in_ok-push-in-Some.ensures.items)
-        (found_push
+          (found_push
           nodes names i w.in-Some.node name c.names.list.items here w.in-Some.ensures.found
           c.names.invariant)
       | in-None w ↦ rw w.list-is (found_past nodes names i name c.names.list.items here

@@ -78,7 +78,7 @@ records-preserved g c =
           (c.records.invariant.reached bytes told) c.in-Record.next
           (shown_as c.args.size bytes c.records.at _ _ (c.requires.told bytes told)
           (c.in_ok-look_at.ensures.shows bytes (c.records.invariant.still.same ∙ told))
-            c.in-Record.is)
+          c.in-Record.is)
           (omega (arith, c.records.invariant.bounded)) (omega (arith, c.records.invariant.bounded));
       inside = within.1;
       bounded = record {

@@ -10,4 +10,4 @@ pieces-init c =
     sym (lines_from_afresh all)
     ∙ ap (λ s. lines_from s.pending all) (sym c.in_ok-splitter.ensures)
     ∙ ap (λ xs. xs ++ lines_from c.in_ok-splitter.splitter.pending all)
-      (sym c.new-lines.ensures.items)
+    (sym c.new-lines.ensures.items)

@@ -44,7 +44,7 @@ returns-in-Ok-open_errors-clause-does g c =
           c.in-Ok-open_errors.read.active c.in-Ok-open_errors.read.spare c.args.others.flt
           c.in-Ok-open_errors.read.entries.items) c.in-Ok.ensures.passes
           c.in-Ok-open_errors.ensures.passes c.in-Ok.ensures.read.settled_a
-            c.in-Ok.ensures.read.settled_b
+          c.in-Ok.ensures.read.settled_b
           contents told),
     )
 

@@ -31,4 +31,4 @@ pub returns-in-Rotate-clause-did : goal.returns-in-Rotate-clause-did
 returns-in-Rotate-clause-did g c =
     done_as g.D.Disk c.args.asked.now Rotate c.args.store.now c.rotate.new.store
     c.args.hands.items c.args.conf.now c.rotate.result c.in-Rotate.is
-      (c.rotate.ensures.did c.args.conf.now)
+    (c.rotate.ensures.did c.args.conf.now)

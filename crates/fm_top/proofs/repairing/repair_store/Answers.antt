@@ -14,7 +14,7 @@ returns-in-Ok-Some-clause-does g c = λ input out. (
       (repair_done g.D.Disk c.args.request.now c.args.store.now c.repair.new.store
       c.args.hands.items c.args.conf.now c.requires.ready (Ok c.in-Ok-Some.field-0)
       c.in-Ok-Some.ensures.did tt (as_asked g.D.Disk c.args.request.now c.args.store.now
-        c.repair.new.store
+      c.repair.new.store
       c.args.hands.items c.args.conf.now c.requires.ready c.in_ok-order.order
       (Ok c.in-Ok-Some.field-0) c.in_ok-order.ensures.order c.in-Ok-Some.ensures.book)),
 )
@@ -30,7 +30,7 @@ returns-in-Ok-None-clause-does g c = λ input out. (
         (repair_done g.D.Disk c.args.request.now c.args.store.now c.repair.new.store
         c.args.hands.items c.args.conf.now c.requires.ready (Ok c.in-Ok-None.field-0)
         c.in-Ok-None.ensures.did tt (as_asked g.D.Disk c.args.request.now c.args.store.now
-          c.repair.new.store
+        c.repair.new.store
         c.args.hands.items c.args.conf.now c.requires.ready c.in_ok-order.order
         (Ok c.in-Ok-None.field-0) c.in_ok-order.ensures.order c.in-Ok-None.ensures.book)),
   ),
@@ -46,7 +46,7 @@ returns-clause-does g c = λ input out. (
     repair_done g.D.Disk c.args.request.now c.args.store.now c.repair.new.store
         c.args.hands.items c.args.conf.now c.requires.ready (Err c.in-Err.fault) tt
         c.in-Err.ensures.refused (as_asked g.D.Disk c.args.request.now c.args.store.now
-          c.repair.new.store
+        c.repair.new.store
         c.args.hands.items c.args.conf.now c.requires.ready c.in_ok-order.order
         (Err c.in-Err.fault) c.in_ok-order.ensures.order c.in-Err.ensures.book),
   ),

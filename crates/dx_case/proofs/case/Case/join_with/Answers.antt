@@ -30,7 +30,7 @@ returns c =
     (c.in_ok-links.ensures.items ∙ c.as_slice-2.ensures.value) in
     record {
       case = rw (s.opened, s.time, s.until, s.observed, c.new.ensures.items, s.broken, s.reports)
-        (joined_case g p
+          (joined_case g p
           c.requires.case c.args.node c.args.broken.now c.put_number.new.list.items
           c.put_links.new.list.items obs brk
           (taken_allowed g c.args.self.now c.requires.case c.args.node c.requires.fits)

@@ -11,9 +11,9 @@ find_candidates-requires c =
     record {
       some = rw (c.new-observed.ensures.items, c.in_ok-reported.ensures.items) p.some;
       observed_ascend = rw (c.new-observed.ensures.items, c.in_ok-reported.ensures.items)
-        p.observed_ascend;
+          p.observed_ascend;
       observed_are = rw (c.new-observed.ensures.items, c.in_ok-reported.ensures.items)
-        p.observed_are;
+          p.observed_are;
       broken_ascend = links_rise c.in_ok-broken.broken.items
           (ap (ascends_by is_link_before) c.in_ok-broken.ensures ∙ p.broken_ascend);
       time = refl;

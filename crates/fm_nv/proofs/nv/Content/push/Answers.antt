@@ -24,7 +24,7 @@ invariant_of-self-2 c =
     (omega (arith, c.len.ensures, c.self.inside.names.ok.0))
     (omega (arith, c.max-deep.ensures, c.depth.ensures.deep))
     (subst (λ (ps : Pairs). OnTrue c.is_past-ascending.result (IsPast c.args.name.now ps))
-      (sym c.self.view_is)
+    (sym c.self.view_is)
     c.is_past-ascending.ensures)
     (c.in_ok-extend_from_slice.ensures.items
     ∙ ap (λ (ns : List ℕ). c.self.inside.names.items ++ ns) c.as_bytes.ensures.value)

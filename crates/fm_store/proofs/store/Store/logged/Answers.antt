@@ -20,14 +20,14 @@ pub returns-clause-book : goal.returns-clause-book
 returns-clause-book g c fresh k =
     rw (← c.self.view_is)
     (λ stands. stands_logged g.D.Disk fresh _ k stands
-      (store_of c.logged.new.self c.self.inside.base)
+    (store_of c.logged.new.self c.self.inside.base)
     (search rules) c.logged.ensures.reads)
 
 pub returns-clause-entries : goal.returns-clause-entries
 returns-clause-entries g c fresh k =
     rw (← c.self.view_is)
     (λ stands. entries_told g.D.Disk fresh _ k stands c.logged.new.self c.logged.result
-      c.logged.ensures.found)
+    c.logged.ensures.found)
 
 pub returns-clause-undamaged : goal.returns-clause-undamaged
 returns-clause-undamaged g c fresh k =

@@ -20,14 +20,14 @@ pub returns-clause-book : goal.returns-clause-book
 returns-clause-book g c fresh k =
     rw (← c.self.view_is)
     (λ stands. stands_spoken g.D.Disk fresh _ k stands
-      (store_of c.spoken.new.self c.self.inside.base)
+    (store_of c.spoken.new.self c.self.inside.base)
     (search rules) c.spoken.ensures.reads)
 
 pub returns-clause-records : goal.returns-clause-records
 returns-clause-records g c fresh k =
     rw (← c.self.view_is)
     (λ stands. records_told g.D.Disk fresh _ k stands c.spoken.new.self c.spoken.result
-      c.spoken.ensures.found)
+    c.spoken.ensures.found)
 
 pub returns-clause-undamaged : goal.returns-clause-undamaged
 returns-clause-undamaged g c fresh k =
