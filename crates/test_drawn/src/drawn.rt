@@ -1,10 +1,9 @@
 // Modules of drawn rules, which say what the second opinion says.
-use crate::draws::Draws;
 use crate::happenings::Happening;
 use crate::plain::{Counts, Plain};
 use crate::rules::{DrawnRules, PARTS, drawn_rules, text_of};
 use std::alloc::Global;
-use test_words::{Script, ScriptFault, first_word, number_in, small_in};
+use test_words::{Draws, Script, ScriptFault, first_word, number_in, small_in};
 use text_modules::{Setup, put_cases, run};
 
 /// What each place of the counts is of.

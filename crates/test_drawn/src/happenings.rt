@@ -1,10 +1,9 @@
 // What happens to a module of drawn rules: as a plain value, and as a line of the input.
-use crate::draws::Draws;
 use crate::rules::{DrawnRules, path_of};
 use crate::spoken_of::Said;
 use fm_entry::Mark;
 use std::alloc::{AllocError, Global};
-use test_words::ScriptFault;
+use test_words::{Draws, ScriptFault};
 
 /// Where a repair is made: at the chassis, at its part, or elsewhere.
 #[derive(Clone, Copy, PartialEq, Eq, Drop)]

@@ -6,7 +6,6 @@
 #![tactic(auto)]
 
 mod drawn;
-mod draws;
 mod happenings;
 mod plain;
 mod rules;

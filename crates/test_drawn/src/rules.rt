@@ -3,9 +3,8 @@
 // Their events are numbered: the reports a, b, c and t, the errors d, e and f, the roots g, h and
 // i. The report t and the roots h and i stand at a part of the chassis, all others at the chassis.
 // One engine stands there too, and reports t.
-use crate::draws::Draws;
 use std::alloc::{AllocError, Global};
-use test_words::ScriptFault;
+use test_words::{Draws, ScriptFault};
 
 /// The bit of each event.
 const BITS: [u32; 10] = [1, 2, 4, 8, 16, 32, 64, 128, 256, 512];

@@ -4,42 +4,10 @@ use crate::lines::InstanceLine;
 use crate::stories::is_story_less;
 use ev_graph::{Graph, Link, NodeKind};
 use std::alloc::Global;
-use test_words::ScriptFault;
+use test_words::{Draws, ScriptFault};
 
 /// The bits of the reports. The nodes 0 to 2 are reports, 3 to 5 are inner, 6 and 7 roots.
 pub const REPORTS: u32 = 7;
-
-/// Numbers that follow from the first one.
-#[derive(Drop)]
-pub struct Draws {
-    state: u64,
-}
-
-impl Draws {
-    /// The numbers that follow from this one.
-    pub fn new(seed: u64) -> Draws {
-        Draws { state: seed }
-    }
-
-    /// The next number, below 2^16.
-    fn draw(&mut self) -> u32 {
-        self.state = self
-            .state
-            .wrapping_mul(6_364_136_223_846_793_005)
-            .wrapping_add(1_442_695_040_888_963_407);
-        ((self.state >> 40) & 65_535) as u32
-    }
-
-    /// Some of these bits.
-    pub fn some_of(&mut self, bits: u32) -> u32 {
-        self.draw() & bits
-    }
-
-    /// A number from 0 to the greatest.
-    pub fn up_to(&mut self, greatest: u32) -> u32 {
-        self.draw() % greatest.saturating_add(1).max(1)
-    }
-}
 
 /// The bit of a node.
 pub fn bit_of(number: u32) -> u32 {

@@ -4,12 +4,12 @@ ghost use Rattle.dx_case.specs.Cases.{IsCaseOf};
 use crate::case_steps::{CaseStep, Opening};
 use crate::case_texts::case_text;
 use crate::cases::{opened, told, told_again, told_of_copy, turn};
-use crate::drawn::{Draws, bit_of, drawn_graph};
+use crate::drawn::{bit_of, drawn_graph};
 use crate::plain::{Plain, Searched};
 use dx_case::Case;
 use ev_graph::{Graph, Link};
 use std::alloc::Global;
-use test_words::ScriptFault;
+use test_words::{Draws, ScriptFault};
 
 /// How often a case waited, what cases came to, and how often one was other than the search says.
 #[derive(Clone, Copy, Drop)]

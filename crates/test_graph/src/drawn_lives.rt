@@ -1,11 +1,11 @@
 // Live sets of drawn graphs, against what is found afresh and a search over all sets of nodes.
-use crate::drawn::{Draws, REPORTS, bit_of, drawn_graph, numbers_of, stories_of, union_of};
+use crate::drawn::{REPORTS, bit_of, drawn_graph, numbers_of, stories_of, union_of};
 use crate::explained::found_less;
 use crate::live_sets::{Change, live_sets};
 use crate::stories::is_own_story;
 use ev_graph::{Graph, Link};
 use std::alloc::Global;
-use test_words::ScriptFault;
+use test_words::{Draws, ScriptFault};
 
 /// A root, and all its stories in the graph less some links, as the search finds them.
 #[derive(Drop)]

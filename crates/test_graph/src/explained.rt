@@ -1,14 +1,12 @@
 // Which roots are possible, and by what story.
-use crate::drawn::{
-    Draws, REPORTS, bit_of, bits_of, drawn_graph, numbers_of, stories_of, union_of,
-};
+use crate::drawn::{REPORTS, bit_of, bits_of, drawn_graph, numbers_of, stories_of, union_of};
 use crate::stories::is_own_story;
 use crate::words::{first_part, links_in, numbers_in, numbers_text};
 use dx_explain::{Scratch, explain, explain_in};
 use dx_story::are_links;
 use ev_graph::{Graph, Link, ascends};
 use std::alloc::Global;
-use test_words::{ScriptFault, small_in};
+use test_words::{Draws, ScriptFault, small_in};
 
 /// What `explain` answers, where what is allowed ascends.
 fn explained(

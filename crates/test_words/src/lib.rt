@@ -4,9 +4,10 @@
 //! A program of tests goes through a script line by line, by `run_script`: it says what its lines
 //! do by an `impl` of `Script`. `ScriptFault` is why a line has no answer. `text_in` reads texts,
 //! `Named` reads bytes, and keeps those that have names; the functions that begin with `show_`
-//! append to what is written.
+//! append to what is written. `Draws` are numbers for tests of what is drawn.
 #![tactic(auto)]
 
+mod draws;
 mod fault;
 mod named;
 mod names;
@@ -14,6 +15,7 @@ mod script;
 mod shown;
 mod words;
 
+pub use draws::Draws;
 pub use fault::ScriptFault;
 pub use named::Named;
 pub use names::{class_in, event_in, path_in};

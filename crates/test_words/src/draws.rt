@@ -1,5 +1,5 @@
-// Numbers that follow from a first one.
-/// Numbers that follow from the first one.
+// Numbers that follow from a first one, for tests of what is drawn.
+/// A state that gives numbers, each from the one before it.
 #[derive(Drop)]
 pub struct Draws {
     state: u64,
