@@ -13,7 +13,6 @@ use crate::loading::load_standing;
 use crate::saving::save_standing;
 use dx_rules::{Configs, Guards, Rulebook, Ruled};
 use dx_standing::{OpenRow, StandingState};
-use dx_turn::declares;
 use ev_graph::{Graph, NoMemory};
 use fm_core::{LoadFault, Module};
 use fm_entry::{Entry, ListEvent};
@@ -66,10 +65,7 @@ impl Diagnoser {
         ensures state { IfOk result
             (λ d. state_of d.standing ≡ fresh_of (single_rules own conf graph)) }
     {
-        let ruled = Ruled {
-            graph,
-            guards: None,
-        };
+        let ruled = Ruled::new(alloc, graph, None)?;
         let configs = Configs::Single {
             number: conf,
             ruled,
@@ -90,10 +86,7 @@ impl Diagnoser {
         ensures state { IfOk result
             (λ d. state_of d.standing ≡ fresh_of (guarded_rules own conf graph guards)) }
     {
-        let ruled = Ruled {
-            graph,
-            guards: Some(guards),
-        };
+        let ruled = Ruled::new(alloc, graph, Some(guards))?;
         let configs = Configs::Single {
             number: conf,
             ruled,
@@ -136,7 +129,7 @@ impl Module for Diagnoser {
     ghost state = { λ d. Diagnosing (state_of d.standing) };
 
     fn subscribes(&self, class: &Class) -> bool {
-        declares(self.rules.graph(self.standing.conf()), class)
+        self.rules.declares(self.standing.conf(), class)
     }
 
     fn conf(&self) -> Option<u32> {

@@ -70,11 +70,12 @@ fn open_unknown(ground: &Ground<'_>, work: &mut Work, name: EventName) -> Result
 
 /// The same, where the graph declares its class.
 fn join_unknown(ground: &Ground<'_>, work: &mut Work, name: EventName) -> Result<(), NoMemory>
+    requires ground { IsGround ground.now }
     requires work { IsWork ground.now work.old }
     ensures kept { kept_of work.new.cases.items ≡ kept_of work.old.cases.items }
     ensures ok { OnOk result (HasGone ground.now (unknown_by ground.now name) work.old work.new) }
 {
-    if declares(ground.graph, &name.class) {
+    if declares(ground, &name.class) {
         open_unknown(ground, work, name)
     } else {
         Ok(())
@@ -96,7 +97,7 @@ fn report(
         (HasGone ground.now (reported_by ground.now entry name payload.now) work.old work.new) }
 {
     // Most reports of other modules' classes end here, before a search among all names.
-    if !declares(ground.graph, &name.class) {
+    if !declares(ground, &name.class) {
         return Ok(());
     }
     match report_named(ground.graph, &name) {
