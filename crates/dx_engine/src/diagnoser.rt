@@ -32,11 +32,12 @@ impl Model for Diagnoser {
     ghost use Rattle.dx_standing.specs.Standing.{IsStanding};
     ghost use Rattle.dx_engine.specs.Diagnosers.{DiagnoserOf};
     ghost use Rattle.dx_rules.specs.contracts.rulebook.Rulebook as rulebook;
+    ghost use Rattle.dx_standing.specs.contracts.standing.StandingState as standing_row;
     ghost use Rattle.std.specs.Coded.{codes};
 
     ghost Value = { DiagnoserOf };
 
-    ghost coded = { Prim.hlevel (codes, rulebook.the_row.coded) };
+    ghost coded = { Prim.hlevel (codes, rulebook.the_row.coded, standing_row.the_row.coded) };
 
     ghost view = { λ d. record { rules = d.rules; standing = d.standing } };
 
