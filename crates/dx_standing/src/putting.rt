@@ -1,9 +1,11 @@
 //! What a turn has come to, put in place or undone.
 
-ghost use Rattle.std.specs.Prelude.{◌≡◌, IfOk, OnOk, OnErr, IsTrue};
+ghost use Rattle.std.specs.Prelude.{◌≡◌, map, IfOk, OnOk, OnErr, IsTrue};
 ghost use Rattle.ev_graph.specs.Sets.{ascends};
 ghost use Rattle.dx_said.specs.Making.{with_words};
 ghost use Rattle.dx_state.specs.LawfulState.{solved_numbers};
+ghost use Rattle.dx_turn.specs.Standing.{still_of};
+ghost use Rattle.dx_turn.specs.Tracking.{cases_of};
 ghost use Rattle.dx_turn.specs.Turning.{made_or};
 ghost use Rattle.dx_standing.specs.Standing.{kept_parts, put_parts, undone_parts, with_engines};
 
@@ -52,6 +54,18 @@ impl StandingState {
         self.starts = starts;
     }
 
+    /// Takes over what a turn has made of the open cases, and what it has found for nodes.
+    fn put_cases(&mut self, cases: Vec<Tracked>, starts: Starts)
+        ensures parts { kept_parts self.new
+            ≡ record (kept_parts self.old) { cases = map still_of (cases_of cases.items) } }
+        ensures starts { self.new.starts ≡ starts }
+    {
+        let mut cases = cases;
+        end_turn(&mut cases);
+        self.cases = cases;
+        self.starts = starts;
+    }
+
     /// Puts the engines in place that noted something, or those of another configuration.
     fn put_engines(&mut self, engines: Option<Items<Engine>>, reloaded: Option<Reloaded>)
         ensures parts { kept_parts self.new ≡ with_engines (kept_parts self.old) engines reloaded }
@@ -88,32 +102,23 @@ impl StandingState {
             (kept_parts self.new ≡ undone_parts (kept_parts self.old) work.cases.items) }
         ensures starts { self.new.starts ≡ work.starts }
     {
-        let Work {
-            cases,
-            starts,
-            next,
-            told,
-        } = work;
         let Told {
             marked,
             solved,
             engines,
             words,
             fired: _,
-        } = told;
+        } = work.told;
         match put_solved(&mut self.solved, marked, solved) {
             Ok(()) => {
-                let mut cases = cases;
-                end_turn(&mut cases);
-                self.cases = cases;
-                self.starts = starts;
-                self.next = next;
+                self.put_cases(work.cases, work.starts);
+                self.next = work.next;
                 self.time = time;
                 self.put_engines(engines, reloaded);
                 Ok(words.into_vec())
             }
             Err(fault) => {
-                self.put_back(cases, starts);
+                self.put_back(work.cases, work.starts);
                 Err(fault)
             }
         }
