@@ -10,8 +10,8 @@ use ev_graph::{Graph, Link, is_report_node};
 use std::alloc::Global;
 use test_words::ScriptFault;
 
-/// A case that a report opens, by the entry 7: the second such, so that it is made of what was found
-/// for the first.
+/// A case that a report opens, by the entry 7: the second such, so that it is made of what was
+/// found for the first.
 pub fn opened(alloc: Global, graph: &Graph, opening: &Opening) -> Result<Case, ScriptFault>
     ensures { IfOk result (λ case. IsCaseOf graph.now case) }
 {
