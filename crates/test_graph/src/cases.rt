@@ -5,20 +5,29 @@ ghost use Rattle.dx_case.specs.Cases.{IsCaseOf};
 use crate::case_steps::{CaseStep, Kept, Opening, kept_in, kept_links, opening_in, steps_in};
 use crate::case_texts::{CaseEnd, CaseView, case_text};
 use crate::words::first_part;
-use dx_case::{Case, CaseFacts, Outcome};
+use dx_case::{Case, CaseFacts, FirstReport, Outcome, Starts};
 use ev_graph::{Graph, Link, is_report_node};
 use std::alloc::Global;
 use test_words::ScriptFault;
 
-/// A case that a report opens, by the entry 7.
+/// A case that a report opens, by the entry 7: the second such, so that it is made of what was
+/// found for the first.
 pub fn opened(alloc: Global, graph: &Graph, opening: &Opening) -> Result<Case, ScriptFault>
     ensures { IfOk result (λ case. IsCaseOf graph.now case) }
 {
     if !is_report_node(graph.nodes(), opening.node) {
         return Err(ScriptFault::Words);
     }
-    let (node, moment) = (opening.node, opening.moment);
-    let case = Case::start_with(alloc, graph, 0, node, moment, 7, &opening.broken)?;
+    let report = FirstReport {
+        number: 0,
+        node: opening.node,
+        moment: opening.moment,
+        entry: 7,
+        broken: &opening.broken,
+    };
+    let mut starts = Starts::new(alloc);
+    let _first = Case::start_with(alloc, graph, &mut starts, &report)?;
+    let case = Case::start_with(alloc, graph, &mut starts, &report)?;
     Ok(case)
 }
 
@@ -108,7 +117,7 @@ fn restored(alloc: Global, graph: &Graph, kept: &Kept) -> Result<Case, ScriptFau
     if !facts.fit(graph, kept.moment) {
         return Err(ScriptFault::Words);
     }
-    let case = Case::restore(alloc, graph, &facts, kept.moment)?;
+    let case = Case::restore(alloc, graph, &mut Starts::new(alloc), &facts, kept.moment)?;
     Ok(case)
 }
 
