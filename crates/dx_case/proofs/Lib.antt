@@ -10,3 +10,4 @@ pub mod Fresh
 pub mod Verdicts
 pub mod Fitting
 pub mod Masks
+pub mod Starting

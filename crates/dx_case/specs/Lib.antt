@@ -6,3 +6,4 @@ pub mod Places
 pub mod Facts
 pub mod Kinds
 pub mod Numbers
+pub mod Starts

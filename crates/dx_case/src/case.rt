@@ -13,17 +13,29 @@ ghost use Rattle.dx_case.specs.Cases.{open_of, time_of, IsCaseOf, IsBefore};
 ghost use Rattle.dx_case.specs.Cases.{waits_at, takes_at, told};
 ghost use Rattle.dx_case.specs.Cases.{IsOpened, IsSettled, IsSameBut, StaysSame};
 ghost use Rattle.dx_case.specs.Facts.{case_of, facts_fit};
+ghost use Rattle.dx_case.specs.Starts.{AreStartsOf};
 
 use crate::candidate::{Candidate, copies_of, drop_lost, is_any_left, is_held};
 use crate::changes::{Change, awaited_until, change_each};
 use crate::facts::{CaseFacts, as_links};
-use crate::finding::fresh_from;
 use crate::kinds::Asked;
 use crate::lists::{put_links, put_number};
 use crate::numbers::Numbers;
 use crate::outcome::{Outcome, roots_among};
+use crate::starts::Starts;
 use ev_graph::{Graph, Link, NoMemory};
 use std::alloc::Global;
+
+/// The report that opens a case: the number that the case gets, its node, its moment, the number
+/// of its entry, and the links that it breaks.
+#[derive(Drop)]
+pub struct FirstReport<'a> {
+    pub number: u64,
+    pub node: u32,
+    pub moment: u64,
+    pub entry: u64,
+    pub broken: &'a [Link],
+}
 
 /// An open case.
 #[derive(Drop)]
@@ -61,58 +73,68 @@ impl Case {
         ensures open { IfOk result (λ c. open_of c ≡ case_opened number node moment entry []) }
         ensures time { IfOk result (λ c. time_of c ≡ Some moment) }
     {
-        Case::start_with(alloc, graph, number, node, moment, entry, &[])
+        let report = FirstReport {
+            number,
+            node,
+            moment,
+            entry,
+            broken: &[],
+        };
+        Case::start_with(alloc, graph, &mut Starts::new(alloc), &report)
     }
 
-    /// The same where what the report carries breaks these links.
+    /// The case that a report opens with the links that it breaks. Where something was found for
+    /// its node before, it takes the memory alone, and no search.
     pub fn start_with(
         alloc: Global,
         graph: &Graph,
-        number: u64,
-        node: u32,
-        moment: u64,
-        entry: u64,
-        broken: &[Link],
+        starts: &mut Starts,
+        report: &FirstReport<'_>,
     ) -> Result<Case, NoMemory>
-        requires { is_report_node graph.now.nodes node ≡ true }
+        requires node { is_report_node graph.now.nodes report.now.node ≡ true }
+        requires starts { AreStartsOf graph.now starts.old }
         ensures case { IfOk result (λ c. IsCaseOf graph.now c) }
-        ensures open { IfOk result
-            (λ c. open_of c ≡ case_opened number node moment entry broken.now) }
-        ensures time { IfOk result (λ c. time_of c ≡ Some moment) }
+        ensures open { IfOk result (λ c. open_of c ≡ case_opened report.now.number report.now.node
+            report.now.moment report.now.entry report.now.broken.now) }
+        ensures time { IfOk result (λ c. time_of c ≡ Some report.now.moment) }
+        ensures starts { AreStartsOf graph.now starts.new }
     {
-        let reported = Vec::from_array(alloc, [node])?;
+        let reported = Vec::from_array(alloc, [report.node])?;
         let observed = Numbers::new(reported);
-        let entries = Vec::from_array(alloc, [entry])?;
-        let mut links = Vec::new(alloc);
-        put_links(&mut links, broken)?;
+        let entries = Vec::from_array(alloc, [report.entry])?;
+        let mut broken = Vec::new(alloc);
+        put_links(&mut broken, report.broken)?;
         let mut case = Case {
-            number,
-            opened: moment,
-            time: Some(moment),
+            number: report.number,
+            opened: report.moment,
+            time: Some(report.moment),
             until: 0,
             entries,
             observed,
-            broken: links,
+            broken,
             candidates: Vec::new(alloc),
             reports: Numbers::new(Vec::new(alloc)),
             waiting: false,
         };
-        case.find_candidates(alloc, graph)?;
+        case.find_candidates(alloc, graph, starts)?;
         Ok(case)
     }
 
     /// The case of these facts at a moment, in whatever order its reports came. It takes the time
-    /// and memory of `start`, and the time of one move to the moment.
+    /// and memory of `start_with`, and the time of one move to the moment.
     pub fn restore(
         alloc: Global,
         graph: &Graph,
+        starts: &mut Starts,
         facts: &CaseFacts<'_>,
         moment: u64,
     ) -> Result<Case, NoMemory>
-        requires { facts_fit graph.now moment (case_of facts.now) ≡ true }
+        requires fit { facts_fit graph.now moment (case_of facts.now) ≡ true }
+        requires starts { AreStartsOf graph.now starts.old }
         ensures case { IfOk result (λ c. IsCaseOf graph.now c) }
         ensures open { IfOk result (λ c. open_of c ≡ case_of facts.now) }
         ensures time { IfOk result (λ c. time_of c ≡ Some moment) }
+        ensures starts { AreStartsOf graph.now starts.new }
     {
         let entries = Vec::from_slice(alloc, facts.entries)?;
         let reported = Vec::from_slice(alloc, facts.observed)?;
@@ -130,7 +152,7 @@ impl Case {
             reports: Numbers::new(Vec::new(alloc)),
             waiting: false,
         };
-        case.find_candidates(alloc, graph)?;
+        case.find_candidates(alloc, graph, starts)?;
         case.expire(graph, moment);
         Ok(case)
     }
@@ -331,16 +353,23 @@ impl Case {
     }
 
     /// Finds the candidates of a case as it is opened, and what they wait for.
-    fn find_candidates(&mut self, alloc: Global, graph: &Graph) -> Result<(), NoMemory>
-        requires { IsOpened graph.now self.old }
+    fn find_candidates(
+        &mut self,
+        alloc: Global,
+        graph: &Graph,
+        starts: &mut Starts,
+    ) -> Result<(), NoMemory>
+        requires opened { IsOpened graph.now self.old }
+        requires starts { AreStartsOf graph.now starts.old }
         ensures case { OnOk result (IsCaseOf graph.now self.new) }
         ensures open { open_of self.new ≡ open_of self.old }
         ensures time { time_of self.new ≡ time_of self.old }
+        ensures starts { AreStartsOf graph.now starts.new }
     {
         // This says that the graph is a lawful one.
         let _ = graph.nodes();
         let node = self.observed.first();
-        let fresh = fresh_from(alloc, graph, node)?;
+        let fresh = starts.fresh(alloc, graph, node)?;
         self.candidates = fresh.candidates;
         self.reports = Numbers::new(fresh.reports);
         let change = Change {

@@ -1,15 +1,15 @@
 //! The roots that reach a report, and the reports that roots reach.
 
-ghost use Rattle.std.specs.Prelude.{◌≡◌, ◌<◌, ◌∷◌, [], true, length, IfOk};
+ghost use Rattle.std.specs.Prelude.{◌≡◌, ◌<◌, true, length, IfOk};
 ghost use Rattle.std.specs.List.{list_all};
 ghost use Rattle.ev_graph.specs.Kinds.{is_root_node, is_report_node};
-ghost use Rattle.ev_graph.specs.Sets.{ascends, is_member};
-ghost use Rattle.dx_live.specs.Live.{no_cut, all_allowed};
-ghost use Rattle.dx_case.specs.Candidates.{AreCovered, AreCandidates, is_of_kind};
+ghost use Rattle.ev_graph.specs.Sets.{ascends};
+ghost use Rattle.dx_case.specs.Candidates.{AreCovered, is_of_kind};
 ghost use Rattle.dx_case.specs.Kinds.{is_asked};
 ghost use Rattle.dx_case.specs.Finding.{AreSorted, AreRootsOf, AreFresh};
+ghost use Rattle.dx_case.specs.Starts.{IsFreshOf};
 
-use crate::candidate::Candidate;
+use crate::candidate::{Candidate, copies_of};
 use crate::kinds::Asked;
 use dx_live::Live;
 use ev_graph::{Graph, Marked, NoMemory, Node, search};
@@ -89,12 +89,37 @@ pub(crate) struct Fresh {
     pub(crate) reports: Vec<u32>,
 }
 
+impl Fresh {
+    /// Equal ones.
+    pub(crate) fn copy(&self, alloc: Global) -> Result<Fresh, NoMemory>
+        ensures candidates { IfOk result
+            (λ made. made.candidates.items ≡ self.now.candidates.items) }
+        ensures reports { IfOk result (λ made. made.reports.items ≡ self.now.reports.items) }
+    {
+        let candidates = copies_of(alloc, self.candidates.as_slice())?;
+        let reports = Vec::from_slice(alloc, self.reports.as_slice())?;
+        Ok(Fresh {
+            candidates,
+            reports,
+        })
+    }
+
+    /// How much room they take: one, and one for each report, and for each node and instance that
+    /// a candidate has.
+    pub(crate) fn size(&self) -> usize {
+        let mut size = self.reports.len().saturating_add(1);
+        for candidate in self.candidates.as_slice() {
+            size = size.saturating_add(candidate.live.size());
+        }
+        size
+    }
+}
+
 /// Candidates of all roots whose stories have the node, with all reports allowed and no link cut,
 /// and the reports that these roots reach.
 pub(crate) fn fresh_from(alloc: Global, graph: &Graph, node: u32) -> Result<Fresh, NoMemory>
     requires { node < length graph.now.nodes }
-    ensures { IfOk result (λ fresh. AreCandidates graph.now no_cut (is_member (node ∷ []))
-        all_allowed fresh.candidates.items fresh.reports.items) }
+    ensures { IfOk result (IsFreshOf graph.now node) }
 {
     let roots = roots_of(alloc, graph, node)?;
     let reports = reports_of(alloc, graph, roots.as_slice())?;

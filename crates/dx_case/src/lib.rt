@@ -24,6 +24,11 @@
 //! takes memory for what its candidates' roots reach. Moving in time takes none, and one comparison
 //! until a window ends. [`Case::restore`] makes a case again from what is kept of it
 //! ([`CaseFacts`]), whatever the order in which its reports had come.
+//!
+//! **Starts.** The candidates of a report and the reports that their roots reach depend on its node
+//! and the graph alone. [`Starts`] keeps them for nodes that opened cases, within a bound, so that
+//! the next case of such a node is opened with copies and no search. It doesn't know its graph: a
+//! call that is handed some says that what was found is right in the graph (`AreStartsOf`).
 #![tactic(auto)]
 
 mod candidate;
@@ -35,8 +40,10 @@ mod kinds;
 mod lists;
 mod numbers;
 mod outcome;
+mod starts;
 
-pub use case::Case;
+pub use case::{Case, FirstReport};
 pub use ev_graph::NoMemory;
 pub use facts::CaseFacts;
 pub use outcome::Outcome;
+pub use starts::Starts;

@@ -13,7 +13,6 @@ use crate::loading::load_standing;
 use crate::saving::save_standing;
 use dx_rules::{Configs, Guards, Rulebook, Ruled};
 use dx_standing::{OpenRow, StandingState};
-use dx_turn::declares;
 use ev_graph::{Graph, NoMemory};
 use fm_core::{LoadFault, Module};
 use fm_entry::{Entry, ListEvent};
@@ -33,11 +32,12 @@ impl Model for Diagnoser {
     ghost use Rattle.dx_standing.specs.Standing.{IsStanding};
     ghost use Rattle.dx_engine.specs.Diagnosers.{DiagnoserOf};
     ghost use Rattle.dx_rules.specs.contracts.rulebook.Rulebook as rulebook;
+    ghost use Rattle.dx_standing.specs.contracts.standing.StandingState as standing_row;
     ghost use Rattle.std.specs.Coded.{codes};
 
     ghost Value = { DiagnoserOf };
 
-    ghost coded = { Prim.hlevel (codes, rulebook.the_row.coded) };
+    ghost coded = { Prim.hlevel (codes, rulebook.the_row.coded, standing_row.the_row.coded) };
 
     ghost view = { λ d. record { rules = d.rules; standing = d.standing } };
 
@@ -66,10 +66,7 @@ impl Diagnoser {
         ensures state { IfOk result
             (λ d. state_of d.standing ≡ fresh_of (single_rules own conf graph)) }
     {
-        let ruled = Ruled {
-            graph,
-            guards: None,
-        };
+        let ruled = Ruled::new(alloc, graph, None)?;
         let configs = Configs::Single {
             number: conf,
             ruled,
@@ -90,10 +87,7 @@ impl Diagnoser {
         ensures state { IfOk result
             (λ d. state_of d.standing ≡ fresh_of (guarded_rules own conf graph guards)) }
     {
-        let ruled = Ruled {
-            graph,
-            guards: Some(guards),
-        };
+        let ruled = Ruled::new(alloc, graph, Some(guards))?;
         let configs = Configs::Single {
             number: conf,
             ruled,
@@ -136,7 +130,7 @@ impl Module for Diagnoser {
     ghost state = { λ d. Diagnosing (state_of d.standing) };
 
     fn subscribes(&self, class: &Class) -> bool {
-        declares(self.rules.graph(self.standing.conf()), class)
+        self.rules.declares(self.standing.conf(), class)
     }
 
     fn conf(&self) -> Option<u32> {

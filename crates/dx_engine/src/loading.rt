@@ -4,10 +4,11 @@ ghost use Rattle.std.specs.Prelude.{◌≡◌, map, IfOk, IsTrue};
 ghost use Rattle.dx_restore.specs.Loading.{SpellsNone};
 ghost use Rattle.dx_restore.specs.Parts.{loaded_state};
 ghost use Rattle.dx_rules.specs.Rulebooks.{rules_in};
+ghost use Rattle.dx_state.specs.Configured.{Rules};
 ghost use Rattle.dx_state.specs.StateBytes.{diagnosis_bytes};
 ghost use Rattle.dx_step.specs.Lawful.{are_rules};
 ghost use Rattle.dx_turn.specs.Standing.{still_of};
-ghost use Rattle.dx_standing.specs.Standing.{kept_parts, state_of, IsStanding};
+ghost use Rattle.dx_standing.specs.Standing.{kept_parts, state_of, AreStanding, IsStanding};
 ghost use Rattle.dx_engine.specs.Diagnosers.{standing_parts};
 
 use dx_case::Case;
@@ -32,7 +33,9 @@ fn tracked(alloc: Global, cases: Vec<Case>) -> Result<Vec<Tracked>, NoMemory>
 
 /// The parts of a state, as they stand.
 fn standing_of(alloc: Global, loaded: Loaded) -> Result<StandingState, NoMemory>
-    ensures { IfOk result (λ s. kept_parts s ≡ standing_parts loaded) }
+    ensures parts { IfOk result (λ s. kept_parts s ≡ standing_parts loaded) }
+    ensures stands { IfOk result
+        (λ s. (r : Rules) → AreStanding r (kept_parts s) → IsStanding r s) }
 {
     let Loaded {
         conf,

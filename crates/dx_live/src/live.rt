@@ -291,6 +291,13 @@ impl Live {
             None => false,
         }
     }
+
+    /// How many nodes and instances its root reaches, or the graph has if those are the most.
+    pub fn size(&self) -> usize
+        ensures { result ≡ length self.now.region.nodes + length self.now.region.places }
+    {
+        self.region.nodes().len() + self.region.places().len()
+    }
 }
 
 /// Where the set is the best one, it has the root exactly where there is a story, and then it is

@@ -19,7 +19,7 @@ use Rattle.dx_state.proofs.Spelled.{state_fits}
 use Rattle.dx_state.proofs.StateReader.{diagnosis_spelled, diagnosis_whole}
 use Rattle.dx_step.specs.Lawful.{are_rules, is_there, is_lawful}
 use Rattle.dx_step.proofs.Stepping.{IsLawfulState, lawful_is}
-use Rattle.dx_rules.specs.declared.rulebook.Ruled.{Ruled}
+use Rattle.dx_rules.specs.declared.ruled.Ruled.{Ruled}
 use Rattle.dx_rules.specs.Rulebooks.{ruled_of}
 use Rattle.dx_restore.specs.declared.parts.Loaded.{Loaded}
 use Rattle.dx_restore.specs.Restoring.{IsRestorable}

@@ -8,7 +8,7 @@ use Rattle.dx_rules.specs.declared.rulebook.Configs.{Configs}
 use Rattle.dx_rules.specs.declared.rulebook.Configs.TheVariants.{Single as SingleOf}
 use Rattle.dx_rules.specs.declared.rulebook.Configs.TheVariants.{Listed as ListedOf}
 use Rattle.dx_rules.specs.declared.rulebook.Rulebook.{Rulebook}
-use Rattle.dx_rules.specs.declared.rulebook.Ruled.{Ruled}
+use Rattle.dx_rules.specs.declared.ruled.Ruled.{Ruled}
 
 -- what guards say of payloads; where there are none, no link is guarded
 abbrev pub guarding_if_any : Option GuardsValue → Guarding

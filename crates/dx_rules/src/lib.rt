@@ -5,15 +5,19 @@
 //! which configurations are numbered from 0. A [`Ruled`] is one configuration (`ruled_of`).
 //!
 //! A configuration has guards of the links that payloads can break, or none where they can break
-//! no link.
+//! no link; and it keeps the [`Classes`] of its graph's reports, which its meaning leaves out.
 //!
 //! **Promises.** A rulebook gives a configuration and its graph by its number, how many
-//! configurations it knows of a list, and the links that a report breaks there. A [`Ruled`] tells
-//! which of its links payloads can break.
+//! configurations it knows of a list, whether a report there has a class, and the links that a
+//! report breaks there. A [`Ruled`] tells which of its links payloads can break.
 #![tactic(auto)]
 
+mod classes;
 mod rulebook;
+mod ruled;
 
+pub use classes::Classes;
 pub use ev_graph::NoMemory;
 pub use ev_inst::Guards;
-pub use rulebook::{Configs, Rulebook, Ruled};
+pub use rulebook::{Configs, Rulebook};
+pub use ruled::Ruled;

@@ -4,37 +4,14 @@ ghost use Rattle.std.specs.Prelude.{◌≡◌, None, Some, IsTrue, IfOk, MatchOp
 ghost use Rattle.fm_nv.specs.Data.{no_pairs};
 ghost use Rattle.dx_state.specs.Configured.{found_at, known_of, configuration_at};
 ghost use Rattle.dx_step.specs.Lawful.{is_there};
-ghost use Rattle.dx_step.specs.Reports.{links_broken};
-ghost use Rattle.dx_rules.specs.Rulebooks.{guarding_if_any, ruled_of, rules_in};
+ghost use Rattle.dx_step.specs.Reports.{declares, links_broken};
+ghost use Rattle.dx_rules.specs.Rulebooks.{ruled_of, rules_in};
 
-use dx_guards::broken_links;
-use ev_graph::{CutTest, Graph, Link, NoMemory};
-use ev_inst::Guards;
+use crate::ruled::Ruled;
+use ev_graph::{Graph, Link, NoMemory};
+use fm_name::Class;
 use fm_nv::Nv;
 use std::alloc::Global;
-
-/// One configuration: its graph, and the guards of the links that payloads can break; none where
-/// they can break no link.
-#[derive(Drop)]
-pub struct Ruled {
-    pub graph: Graph,
-    pub guards: Option<Guards>,
-}
-
-/// Which links of the configuration payloads can break.
-impl CutTest for Ruled {
-    ghost use Rattle.ev_graph.specs.Cutting.{is_cut};
-    ghost use Rattle.dx_rules.specs.Rulebooks.{ruled_of};
-
-    ghost is_cut = { λ x. is_cut (ruled_of x).guarding.guarded };
-
-    fn has(&self, instance: u32, effect: u32) -> bool {
-        match &self.guards {
-            Some(guards) => guards.is_guarded(instance, effect),
-            None => false,
-        }
-    }
-}
 
 /// The configurations of a module: a single one of some number, which is of no list, or a list, in
 /// which they are numbered from 0.
@@ -49,41 +26,6 @@ pub enum Configs {
 pub struct Rulebook {
     pub own: u32,
     pub configs: Configs,
-}
-
-/// Equal guards, if any.
-fn copy_guards(alloc: Global, guards: &Option<Guards>) -> Result<Option<Guards>, NoMemory>
-    ensures { IfOk result (λ copy. guarding_if_any copy ≡ guarding_if_any guards.now) }
-{
-    match guards {
-        Some(guards) => {
-            let copy = guards.copy(alloc)?;
-            Ok(Some(copy))
-        }
-        None => Ok(None),
-    }
-}
-
-impl Ruled {
-    /// An equal configuration.
-    pub fn copy(&self, alloc: Global) -> Result<Ruled, NoMemory>
-        ensures { IfOk result (λ copy. ruled_of copy ≡ ruled_of self.now) }
-    {
-        let graph = self.graph.copy(alloc)?;
-        let guards = copy_guards(alloc, &self.guards)?;
-        Ok(Ruled { graph, guards })
-    }
-
-    /// The links of a report that its payload breaks.
-    fn broken_by(&self, alloc: Global, node: u32, payload: &Nv) -> Result<Vec<Link>, NoMemory>
-        ensures { IfOk result
-            (λ links. links.items ≡ links_broken (ruled_of self.now) node payload.now) }
-    {
-        match &self.guards {
-            Some(guards) => broken_links(alloc, guards, node, payload),
-            None => Ok(Vec::new(alloc)),
-        }
-    }
 }
 
 impl Rulebook {
@@ -126,6 +68,18 @@ impl Rulebook {
         match &self.configs {
             Configs::Single { ruled, .. } => &ruled.graph,
             Configs::Listed(list) => &list[conf as usize].graph,
+        }
+    }
+
+    /// Whether some report of the graph has the class, in the configuration of this number. It is
+    /// a search among the classes that reports have.
+    #[tactic(auto, unfolding(dx_step::specs::Reports::declares))]
+    pub fn declares(&self, conf: u32, class: &Class) -> bool
+        ensures { result ≡ declares (configuration_at (rules_in self.now) conf).graph class.now }
+    {
+        match self.found(conf) {
+            Some(ruled) => ruled.declares(class),
+            None => false,
         }
     }
 

@@ -12,7 +12,7 @@ use Rattle.ev_graph.specs.Lawful.{GraphValue, IsGraph, is_before_node}
 use Rattle.ev_graph.specs.Lawful.{has_engine_limits}
 use Rattle.ev_graph.specs.Kinds.{has_limits}
 use Rattle.ev_graph.specs.declared.nodes.EngineSpec.{EngineSpec}
-use Rattle.dx_rules.specs.declared.rulebook.Ruled.{Ruled}
+use Rattle.dx_rules.specs.declared.ruled.Ruled.{Ruled}
 use Rattle.dx_rules.specs.Rulebooks.{ruled_of}
 use Rattle.dx_state.specs.Configured.{Listed}
 use Rattle.dx_state.specs.LawfulState.{is_formed, is_formed_engine, is_formed_configuration}

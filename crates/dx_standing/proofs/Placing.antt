@@ -14,6 +14,8 @@ use Rattle.ev_graph.specs.declared.nodes.EngineSpec.{EngineSpec}
 use Rattle.dx_serd.specs.Rates.{RateOf}
 use Rattle.dx_case.specs.declared.case.Case.{Case}
 use Rattle.dx_case.specs.Cases.{open_of}
+use Rattle.dx_case.specs.Starts.{AreStartsOf}
+use Rattle.dx_case.specs.declared.starts.Starts.{Starts}
 use Rattle.dx_said.specs.Making.{with_words}
 use Rattle.dx_state.specs.Configured.{Rules, configuration_at}
 use Rattle.dx_state.specs.LawfulState.{solved_numbers}
@@ -35,6 +37,7 @@ use Rattle.dx_turn.specs.Reloading.{with_reload, fresh_rates, turned_by, IsLeft,
 use Rattle.dx_turn.specs.Standing.{still_of}
 use Rattle.dx_turn.proofs.Tracking.{now_cases}
 use Rattle.dx_turn.proofs.Reloads.{opens_cases}
+use Rattle.dx_standing.specs.declared.standing.StandingState.{StandingState}
 use Rattle.dx_standing.specs.Standing.{StandingParts, stands_for, AreStanding, put_parts}
 use Rattle.dx_rules.specs.declared.rulebook.Rulebook.{Rulebook}
 use Rattle.dx_rules.specs.Rulebooks.{rules_in}
@@ -214,7 +217,7 @@ put_current d p None w ground conf left =
     (current_cases d.graph.now d.time w.cases.items left.current)
 put_current d p (Some x) w ground conf left =
     subst (AllByRecursion (IsCurrent (configuration_at (rules_on d) x.conf).graph d.time))
-    (sym left.0) tt
+    (sym left.none) tt
 
 put_rates : (d : Ground) (p : StandingParts) (x : Option Reloaded) (w : Work) → IsGround d
     → p.conf ≡ d.conf → p.engines ≡ d.engines.now → IsLeft d x w
@@ -227,7 +230,7 @@ put_rates d p None w ground conf engines left =
     (made_or w.told.engines rs)) (sym engines) left.told.rates)
 put_rates d p (Some x) w ground conf engines left =
     let es = (configuration_at (rules_on d) x.conf).graph.engines in
-    subst (AreRates d.time es) (sym left.1) (rates_fresh d.time es)
+    subst (AreRates d.time es) (sym left.engines) (rates_fresh d.time es)
 
 -- a turn that was put in place
 pub record IsPut (r : Rules) (s : Diagnosis) (n : ℕ) (e : Entry) (q : StandingParts)
@@ -300,3 +303,41 @@ turned b d p cs n e x old new at few h g k =
     g.time
     (subst (λ (y : Rulebook). IsPut (rules_in y) (stands_for p) n e (put_parts p d.time new x)
     new.told.words) g.rules (turn_put d p n e x old new few h k))
+
+-- what was found for nodes that open cases
+graph_there : (b : Rulebook) (d : Ground) (p : StandingParts) (cs : List Tracked) (at : ℕ)
+    → IsGroundOf b (record p { cases = cs }) at d
+    → (configuration_at (rules_in b) p.conf).graph ≡ d.graph.now
+graph_there b d p cs at g =
+    ap (λ (x : Rulebook). (configuration_at (rules_in x) p.conf).graph) (sym g.rules)
+    ∙ ap (λ (n : ℕ). (configuration_at (rules_on d) n).graph) (sym g.conf) ∙ g.ground.graph
+
+pub starts_there : (b : Rulebook) (d : Ground) (p : StandingParts) (cs : List Tracked)
+    (starts : Starts) (at : ℕ) → IsGroundOf b (record p { cases = cs }) at d
+    → AreStartsOf (configuration_at (rules_in b) p.conf).graph starts
+    → AreStartsOf d.graph.now starts
+starts_there b d p cs starts at g h =
+    subst (λ (v : GraphValue). AreStartsOf v starts) (graph_there b d p cs at g) h
+
+pub starts_back : (b : Rulebook) (d : Ground) (p : StandingParts) (cs : List Tracked)
+    (starts : Starts) (at : ℕ) → IsGroundOf b (record p { cases = cs }) at d
+    → AreStartsOf d.graph.now starts
+    → AreStartsOf (configuration_at (rules_in b) p.conf).graph starts
+starts_back b d p cs starts at g h =
+    subst (λ (v : GraphValue). AreStartsOf v starts) (sym (graph_there b d p cs at g)) h
+
+pub put_starts : (b : Rulebook) (d : Ground) (p : StandingParts) (cs : List Tracked)
+    (x : Option Reloaded) (w : Work) (at : ℕ) → IsGroundOf b (record p { cases = cs }) at d
+    → IsLeft d x w
+    → AreStartsOf (configuration_at (rules_in b) (conf_by p.conf x)).graph w.starts
+put_starts b d p cs None w at g left = starts_back b d p cs w.starts at g left.starts
+put_starts b d p cs (Some x) w at g left =
+    subst (λ (y : Rulebook). AreStartsOf (configuration_at (rules_in y) x.conf).graph w.starts)
+    g.rules left.starts
+
+pub same_starts : (r : Rules) (s : StandingState) (conf : ℕ) (starts : Starts) → s.conf ≡ conf
+    → s.starts ≡ starts → AreStartsOf (configuration_at r conf).graph starts
+    → AreStartsOf (configuration_at r s.conf).graph s.starts
+same_starts r s conf starts number is h =
+    subst (λ (n : ℕ). AreStartsOf (configuration_at r n).graph s.starts) (sym number)
+    (subst (AreStartsOf (configuration_at r conf).graph) (sym is) h)

@@ -5,6 +5,7 @@ use Rattle.fm_entry.specs.declared.list_event.ListEvent.{ListEvent}
 use Rattle.fm_core.specs.Meaning.{Diagnosis}
 use Rattle.dx_serd.specs.Rates.{RateOf}
 use Rattle.dx_case.specs.Cases.{open_of}
+use Rattle.dx_case.specs.Starts.{AreStartsOf}
 use Rattle.dx_said.specs.Making.{with_words}
 use Rattle.dx_state.specs.Configured.{Rules, configuration_at}
 use Rattle.dx_step.specs.Lawful.{is_lawful}
@@ -63,8 +64,10 @@ pub record AreStanding (r : Rules) (p : StandingParts) : Type 0 where
       AllByRecursion (IsCurrent (configuration_at r p.conf).graph p.time) (kept_of p.cases)
   pub rates : AreRates p.time (configuration_at r p.conf).graph.engines p.engines
 
-abbrev pub IsStanding : Rules → StandingState → Type 0
-IsStanding r s = AreStanding r (kept_parts s)
+-- so do its parts, and what was found for nodes that open cases is right in the graph in force
+pub record IsStanding (r : Rules) (s : StandingState) : Type 0 where
+  pub parts : AreStanding r (kept_parts s)
+  pub starts : AreStartsOf (configuration_at r s.conf).graph s.starts
 
 -- the configuration and the engines after a turn
 abbrev pub conf_by : ℕ → Option Reloaded → ℕ

@@ -11,7 +11,7 @@ ghost use Rattle.dx_turn.specs.Standing.{still_of};
 ghost use Rattle.dx_standing.specs.Standing.{kept_parts, state_of, IsStanding};
 
 use crate::standing::StandingState;
-use dx_case::Case;
+use dx_case::{Case, Starts};
 use dx_rules::{Configs, Rulebook};
 use dx_turn::{Tracked, fresh_engines};
 use ev_graph::NoMemory;
@@ -43,6 +43,7 @@ impl StandingState {
             time: 0,
             next: 0,
             cases: Vec::new(alloc),
+            starts: Starts::new(alloc),
             solved: Vec::new(alloc),
             engines,
         })

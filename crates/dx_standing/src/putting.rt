@@ -8,6 +8,7 @@ ghost use Rattle.dx_turn.specs.Turning.{made_or};
 ghost use Rattle.dx_standing.specs.Standing.{kept_parts, put_parts, undone_parts, with_engines};
 
 use crate::standing::StandingState;
+use dx_case::Starts;
 use dx_said::put_words;
 use dx_serd::Engine;
 use dx_turn::{Reloaded, Told, Tracked, Work, end_turn, undo_turn};
@@ -39,18 +40,22 @@ fn put_solved(
 }
 
 impl StandingState {
-    /// Undoes a turn: the open cases are again those from before it.
-    pub(crate) fn put_back(&mut self, cases: Vec<Tracked>)
-        ensures { kept_parts self.new ≡ undone_parts (kept_parts self.old) cases.items }
+    /// Undoes a turn: the open cases are again those from before it. What was found for nodes stays
+    /// found.
+    pub(crate) fn put_back(&mut self, cases: Vec<Tracked>, starts: Starts)
+        ensures parts { kept_parts self.new ≡ undone_parts (kept_parts self.old) cases.items }
+        ensures starts { self.new.starts ≡ starts }
     {
         let mut cases = cases;
         undo_turn(&mut cases);
         self.cases = cases;
+        self.starts = starts;
     }
 
     /// Puts the engines in place that noted something, or those of another configuration.
     fn put_engines(&mut self, engines: Option<Items<Engine>>, reloaded: Option<Reloaded>)
-        ensures { kept_parts self.new ≡ with_engines (kept_parts self.old) engines reloaded }
+        ensures parts { kept_parts self.new ≡ with_engines (kept_parts self.old) engines reloaded }
+        ensures starts { self.new.starts ≡ self.old.starts }
     {
         match reloaded {
             Some(reloaded) => {
@@ -81,8 +86,14 @@ impl StandingState {
         ensures words { IfOk result (λ words. words.items ≡ work.told.words) }
         ensures err { OnErr result
             (kept_parts self.new ≡ undone_parts (kept_parts self.old) work.cases.items) }
+        ensures starts { self.new.starts ≡ work.starts }
     {
-        let Work { cases, next, told } = work;
+        let Work {
+            cases,
+            starts,
+            next,
+            told,
+        } = work;
         let Told {
             marked,
             solved,
@@ -95,13 +106,14 @@ impl StandingState {
                 let mut cases = cases;
                 end_turn(&mut cases);
                 self.cases = cases;
+                self.starts = starts;
                 self.next = next;
                 self.time = time;
                 self.put_engines(engines, reloaded);
                 Ok(words.into_vec())
             }
             Err(fault) => {
-                self.put_back(cases);
+                self.put_back(cases, starts);
                 Err(fault)
             }
         }

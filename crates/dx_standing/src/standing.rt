@@ -3,11 +3,13 @@
 ghost use Rattle.std.specs.Prelude.{◌≡◌, ◌<◌, ◌^◌, IfOk, OnOk, OnErr, IsTrue};
 ghost use Rattle.fm_entry.specs.Entries.{IsSpelled};
 ghost use Rattle.dx_rules.specs.Rulebooks.{rules_in};
-ghost use Rattle.dx_state.specs.Configured.{found_at};
+ghost use Rattle.dx_state.specs.Configured.{Rules, found_at};
 ghost use Rattle.dx_step.specs.Lawful.{is_there};
 ghost use Rattle.dx_step.specs.Step.{state_after, words_at};
-ghost use Rattle.dx_standing.specs.Standing.{kept_parts, state_of, IsStanding, IsGroundOf};
+ghost use Rattle.dx_standing.specs.Standing.{kept_parts, state_of, AreStanding, IsStanding};
+ghost use Rattle.dx_standing.specs.Standing.{IsGroundOf};
 
+use dx_case::Starts;
 use dx_rules::Rulebook;
 use dx_serd::Engine;
 use dx_turn::{Ground, Told, Tracked, Work, turn};
@@ -23,6 +25,8 @@ pub struct StandingState {
     pub(crate) time: u64,
     pub(crate) next: u64,
     pub(crate) cases: Vec<Tracked>,
+    /// What was found for nodes that opened cases since the configuration came into force.
+    pub(crate) starts: Starts,
     pub(crate) solved: Vec<ListEvent>,
     pub(crate) engines: Vec<Engine>,
 }
@@ -65,8 +69,10 @@ impl StandingState {
     {
         let time = self.time.max(entry.moment());
         let cases = mem::replace(&mut self.cases, Vec::new(alloc));
+        let starts = mem::replace(&mut self.starts, Starts::new(alloc));
         let mut work = Work {
             cases,
+            starts,
             next: self.next,
             told: Told::new(alloc),
         };
@@ -74,13 +80,13 @@ impl StandingState {
         match turn(&ground, &mut work, number, entry) {
             Ok(reloaded) => self.put(work, time, reloaded),
             Err(fault) => {
-                self.put_back(work.cases);
+                self.put_back(work.cases, work.starts);
                 Err(fault)
             }
         }
     }
 
-    /// The state of these parts.
+    /// The state of these parts, which stands wherever they do.
     pub fn of_parts(
         conf: u32,
         time: u64,
@@ -89,7 +95,7 @@ impl StandingState {
         solved: Vec<ListEvent>,
         engines: Vec<Engine>,
     ) -> StandingState
-        ensures { kept_parts result ≡ record {
+        ensures parts { kept_parts result ≡ record {
           conf = conf;
           time = time;
           next = next;
@@ -97,12 +103,15 @@ impl StandingState {
           solved = solved.items;
           engines = engines.items;
         } }
+        ensures stands { (r : Rules) → AreStanding r (kept_parts result) → IsStanding r result }
     {
+        let alloc = *cases.allocator();
         StandingState {
             conf,
             time,
             next,
             cases,
+            starts: Starts::new(alloc),
             solved,
             engines,
         }

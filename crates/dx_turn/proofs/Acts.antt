@@ -13,5 +13,9 @@ pub told_gone : (d : Ground) (f : Turn → Turn) (a b : Work) → IsWork d a
     → b ≡ record a { told = b.told } → HasTurned d f a.told b.told → HasGone d f a b
 told_gone d f a b h e t = record {
   turn = ap (turn_of d) e ∙ t.turn a.next (opens_in a.cases.items);
-  work = subst (IsWork d) (sym e) (record { told = t.told; current = h.current });
+  work = subst (IsWork d) (sym e) (record {
+    told = t.told;
+    current = h.current;
+    starts = h.starts;
+  });
 }

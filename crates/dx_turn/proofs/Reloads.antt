@@ -14,6 +14,7 @@ use Rattle.ev_graph.specs.Kinds.{has_limits}
 use Rattle.ev_graph.specs.Lawful.{GraphValue, has_engine_limits, IsGraph}
 use Rattle.dx_case.specs.declared.case.Case.{Case}
 use Rattle.dx_case.specs.Cases.{open_of}
+use Rattle.dx_case.specs.Starts.{AreStartsOf}
 use Rattle.dx_serd.specs.Rates.{RateOf, IsLimited}
 use Rattle.dx_state.specs.Configured.{Rules, Configuration, Configurations, Single, Listed}
 use Rattle.dx_state.specs.Configured.{found_at, known_of, configuration_at}
@@ -159,8 +160,9 @@ pub reload_done : (d : Ground) (x : Reloaded) (old new : Work)
     → x.engines.items ≡ fresh_rates (configuration_at (rules_on d) x.conf).graph.engines
     → HasTurned d (decide_each (rules_on d) (opens_in old.cases.items)) old.told new.told
     → cases_of new.cases.items ≡ []
+    → AreStartsOf (configuration_at (rules_on d) x.conf).graph new.starts
     → HasEnded d (reloaded_to d x.conf) (Some x) old new
-reload_done d x old new on next engines h none =
+reload_done d x old new on next engines h none starts =
     let r = rules_on d in
     let t = turn_of d old in
     let es = (configuration_at r x.conf).graph.engines in
@@ -176,7 +178,7 @@ reload_done d x old new on next engines h none =
           ∙ ap (λ (rs : List RateOf). with_engines (map (λ (q : RateOf). q.kept) rs)) engines
           ∙ ap with_engines (kept_fresh es)
           ∙ ap (λ (b : Bool). if b then configure r x.conf (decide_all r t) else t) (sym on);
-      left = (none, engines);
+      left = record { none = none; engines = engines; starts = starts };
     }
 
 -- one part after others
@@ -191,11 +193,11 @@ gone_ended d f h x a b c g k = record { turn = k.turn ∙ ap h g.turn; left = k.
 -- the open cases have settled
 pub settled_gone : (d : Ground) (a b : Work) → b.next ≡ a.next
     → HasSettled d (opens_in a.cases.items) (opens_in b.cases.items) a.told b.told
-    → All (IsTrackedAt d.graph.now d.time) b.cases.items
+    → All (IsTrackedAt d.graph.now d.time) b.cases.items → AreStartsOf d.graph.now b.starts
     → HasGone d (settle_all (rules_on d)) a b
-settled_gone d a b next h current = record {
+settled_gone d a b next h current starts = record {
   turn = ap (λ (n : ℕ). turn_at d n (opens_in b.cases.items) b.told) next ∙ h.turn a.next [];
-  work = record { told = h.told; current = current };
+  work = record { told = h.told; current = current; starts = starts };
 }
 
 pub gone_ascend : (d : Ground) (f : Turn → Turn) (a b : Work) → HasGone d f a b

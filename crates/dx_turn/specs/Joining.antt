@@ -4,6 +4,7 @@ use Rattle.std.specs.Prelude.{List, length, Option, Some, None, take}
 use Rattle.std.specs.List.{All, HoldsAt, list_any}
 use Rattle.fm_core.specs.Meaning.{OpenCase}
 use Rattle.dx_words.specs.Cases.{takes_report}
+use Rattle.dx_case.specs.Starts.{AreStartsOf}
 use Rattle.dx_step.specs.Turns.{Turn}
 use Rattle.dx_step.specs.Reports.{join_or_open, place_of_report}
 use Rattle.dx_turn.specs.declared.ground.Ground.{Ground}
@@ -36,6 +37,7 @@ turn_of d w = turn_at d w.next (opens_in w.cases.items) w.told
 pub record IsWork (d : Ground) (w : Work) : Type 0 where
   pub told : IsTold d w.told
   pub current : All (IsTrackedAt d.graph.now d.time) w.cases.items
+  pub starts : AreStartsOf d.graph.now w.starts
 
 -- a report joins a case or opens one
 abbrev pub joined_by : Ground → Incoming → Turn → Turn

@@ -6,6 +6,7 @@ use Rattle.ev_graph.specs.declared.nodes.EngineSpec.{EngineSpec}
 use Rattle.dx_serd.specs.Rates.{RateOf, rate_of}
 use Rattle.dx_case.specs.declared.case.Case.{Case}
 use Rattle.dx_case.specs.Cases.{open_of, time_of, IsCaseOf}
+use Rattle.dx_case.specs.Starts.{AreStartsOf}
 use Rattle.dx_state.specs.Configured.{configuration_at}
 use Rattle.dx_step.specs.Turns.{Turn, settle_all, decide_all}
 use Rattle.dx_step.specs.Reports.{trips}
@@ -47,12 +48,17 @@ turned_by d number e t =
     reload (rules_on d) e
     (trips (rules_on d) number (act (rules_on d) number e (settle_all (rules_on d) t)))
 
--- where no configuration comes into force, what a turn keeps to; else no case is open, and the
--- engines of that configuration have noted nothing
+-- no case is open, the engines of a configuration have noted nothing, and what was found for nodes
+-- is right in its graph
+pub record IsReloaded (d : Ground) (x : Reloaded) (w : Work) : Type 0 where
+  pub none : cases_of w.cases.items ≡ []
+  pub engines : x.engines.items ≡ fresh_rates (configuration_at (rules_on d) x.conf).graph.engines
+  pub starts : AreStartsOf (configuration_at (rules_on d) x.conf).graph w.starts
+
+-- where no configuration comes into force, what a turn keeps to; else it is so of that one
 abbrev pub IsLeft : Ground → Option Reloaded → Work → Type 0
 IsLeft d None w = IsWork d w
-IsLeft d (Some x) w = (cases_of w.cases.items ≡ [])
-    × (x.engines.items ≡ fresh_rates (configuration_at (rules_on d) x.conf).graph.engines)
+IsLeft d (Some x) w = IsReloaded d x w
 
 -- the turn came to its end
 pub record HasEnded (d : Ground) (f : Turn → Turn) (x : Option Reloaded) (old new : Work) : Type 0

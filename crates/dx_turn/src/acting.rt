@@ -3,6 +3,7 @@
 ghost use Rattle.std.specs.Prelude.{◌≡◌, true, OnOk, IsTrue};
 ghost use Rattle.ev_graph.specs.Kinds.{is_report_node};
 ghost use Rattle.ev_graph.specs.Sets.{ascends};
+ghost use Rattle.dx_case.specs.Starts.{AreStartsOf};
 ghost use Rattle.dx_state.specs.LawfulState.{solved_numbers};
 ghost use Rattle.dx_step.specs.Reports.{join, open_unknown};
 ghost use Rattle.dx_step.specs.Repairs.{mark};
@@ -39,6 +40,7 @@ fn join_known(
     ensures kept { kept_of work.new.cases.items ≡ kept_of work.old.cases.items }
     ensures ok { OnOk result (HasGone ground.now
         (join (rules_on ground.now) true entry node payload.now) work.old work.new) }
+    ensures starts { AreStartsOf ground.now.graph.now work.new.starts }
 {
     let links = ground
         .rules
@@ -58,6 +60,7 @@ fn open_unknown(ground: &Ground<'_>, work: &mut Work, name: EventName) -> Result
     ensures kept { kept_of work.new.cases.items ≡ kept_of work.old.cases.items }
     ensures ok { OnOk result
         (HasGone ground.now (open_unknown (own_of ground.now) name) work.old work.new) }
+    ensures starts { AreStartsOf ground.now.graph.now work.new.starts }
 {
     if work.next >= 1 << 63 {
         return Ok(());
@@ -70,11 +73,13 @@ fn open_unknown(ground: &Ground<'_>, work: &mut Work, name: EventName) -> Result
 
 /// The same, where the graph declares its class.
 fn join_unknown(ground: &Ground<'_>, work: &mut Work, name: EventName) -> Result<(), NoMemory>
+    requires ground { IsGround ground.now }
     requires work { IsWork ground.now work.old }
     ensures kept { kept_of work.new.cases.items ≡ kept_of work.old.cases.items }
     ensures ok { OnOk result (HasGone ground.now (unknown_by ground.now name) work.old work.new) }
+    ensures starts { AreStartsOf ground.now.graph.now work.new.starts }
 {
-    if declares(ground.graph, &name.class) {
+    if declares(ground, &name.class) {
         open_unknown(ground, work, name)
     } else {
         Ok(())
@@ -94,9 +99,10 @@ fn report(
     ensures kept { kept_of work.new.cases.items ≡ kept_of work.old.cases.items }
     ensures ok { OnOk result
         (HasGone ground.now (reported_by ground.now entry name payload.now) work.old work.new) }
+    ensures starts { AreStartsOf ground.now.graph.now work.new.starts }
 {
     // Most reports of other modules' classes end here, before a search among all names.
-    if !declares(ground.graph, &name.class) {
+    if !declares(ground, &name.class) {
         return Ok(());
     }
     match report_named(ground.graph, &name) {
@@ -117,6 +123,7 @@ fn repair<C: Choice>(
     ensures kept { kept_of work.new.cases.items ≡ kept_of work.old.cases.items }
     ensures ok { OnOk result
         (HasGone ground.now (mark (C.chosen choice.now) with) work.old work.new) }
+    ensures starts { AreStartsOf ground.now.graph.now work.new.starts }
 {
     mark(ground, &mut work.told, choice, with)
 }
@@ -129,6 +136,7 @@ pub fn act(ground: &Ground<'_>, work: &mut Work, number: u64, entry: &Entry) -> 
     ensures kept { kept_of work.new.cases.items ≡ kept_of work.old.cases.items }
     ensures ok { OnOk result
         (HasGone ground.now (act (rules_on ground.now) number entry.now) work.old work.new) }
+    ensures starts { AreStartsOf ground.now.graph.now work.new.starts }
 {
     match entry {
         Entry::Report {

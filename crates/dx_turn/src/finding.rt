@@ -3,19 +3,18 @@
 ghost use Rattle.std.specs.Prelude.{◌≡◌};
 ghost use Rattle.dx_step.specs.Reports.{declares, report_named};
 ghost use Rattle.dx_turn.specs.Finding.{report_in, IsDeclared};
+ghost use Rattle.dx_turn.specs.Grounds.{IsGround};
 
+use crate::ground::Ground;
 use ev_graph::{Graph, Node, is_report_node};
 use fm_name::{Class, EventName};
 
-/// Whether some report of the graph has the class. It looks at each node.
-#[tactic(auto, unfolding(dx_step::specs::Reports::declares))]
-pub fn declares(graph: &Graph, class: &Class) -> bool
-    ensures { result ≡ declares graph.now class.now }
+/// Whether some report of the graph has the class.
+pub(crate) fn declares(ground: &Ground<'_>, class: &Class) -> bool
+    requires { IsGround ground.now }
+    ensures { result ≡ declares ground.now.graph.now class.now }
 {
-    graph
-        .nodes()
-        .iter()
-        .any(|node| node.kind.is_report() && node.name.class == *class)
+    ground.rules.declares(ground.conf, class)
 }
 
 /// The node, if it is a report.

@@ -6,6 +6,7 @@ ghost use Rattle.ev_graph.specs.Kinds.{is_report_node};
 ghost use Rattle.fm_core.specs.Meaning.{OpenCase};
 ghost use Rattle.dx_words.specs.Cases.{case_joined};
 ghost use Rattle.dx_case.specs.Cases.{open_of, time_of, IsCaseOf};
+ghost use Rattle.dx_case.specs.Starts.{AreStartsOf};
 ghost use Rattle.dx_step.specs.Reports.{join_each, trips};
 ghost use Rattle.dx_turn.specs.Grounds.{IsGround, rules_on};
 ghost use Rattle.dx_turn.specs.Tracking.{opens_of, kept_of, IsTrackedAt};
@@ -16,7 +17,7 @@ use crate::ground::Ground;
 use crate::settling::settle;
 use crate::tracked::Tracked;
 use crate::work::Work;
-use dx_case::Case;
+use dx_case::{Case, FirstReport};
 use ev_graph::{Link, NoMemory};
 use fm_bytes::Items;
 use std::mem;
@@ -72,6 +73,7 @@ fn join_at(
     ensures kept { kept_of work.new.cases.items ≡ kept_of work.old.cases.items }
     ensures ok { OnOk result
         (HasGone ground.now (joined_by ground.now incoming.now) work.old work.new) }
+    ensures starts { AreStartsOf ground.now.graph.now work.new.starts }
 {
     let case = joined(ground, &work.cases[at], incoming)?;
     settle(
@@ -93,19 +95,19 @@ fn open_new(ground: &Ground<'_>, work: &mut Work, incoming: &Incoming<'_>) -> Re
     ensures kept { kept_of work.new.cases.items ≡ kept_of work.old.cases.items }
     ensures ok { OnOk result
         (HasGone ground.now (joined_by ground.now incoming.now) work.old work.new) }
+    ensures starts { AreStartsOf ground.now.graph.now work.new.starts }
 {
     if work.next >= 1 << 63 {
         return Ok(());
     }
-    let case = Case::start_with(
-        ground.alloc,
-        ground.graph,
-        work.next,
-        incoming.node,
-        ground.time,
-        incoming.entry,
-        incoming.links,
-    )?;
+    let report = FirstReport {
+        number: work.next,
+        node: incoming.node,
+        moment: ground.time,
+        entry: incoming.entry,
+        broken: incoming.links,
+    };
+    let case = Case::start_with(ground.alloc, ground.graph, &mut work.starts, &report)?;
     let mut tracked = Tracked::blank();
     settle(ground, &mut work.told, &mut tracked, case, incoming.notes)?;
     work.cases.push(tracked)?;
@@ -121,6 +123,7 @@ pub fn join(ground: &Ground<'_>, work: &mut Work, incoming: &Incoming<'_>) -> Re
     ensures kept { kept_of work.new.cases.items ≡ kept_of work.old.cases.items }
     ensures ok { OnOk result
         (HasGone ground.now (joined_by ground.now incoming.now) work.old work.new) }
+    ensures starts { AreStartsOf ground.now.graph.now work.new.starts }
 {
     match place_of(ground, &work.cases, incoming.node) {
         Some(at) => join_at(ground, work, incoming, at),
@@ -136,6 +139,7 @@ fn join_trip(ground: &Ground<'_>, work: &mut Work, entry: u64, node: u32) -> Res
     ensures kept { kept_of work.new.cases.items ≡ kept_of work.old.cases.items }
     ensures ok { OnOk result
         (HasGone ground.now (join_each (rules_on ground.now) entry (node ∷ [])) work.old work.new) }
+    ensures starts { AreStartsOf ground.now.graph.now work.new.starts }
 {
     let links = ground
         .rules
@@ -162,6 +166,7 @@ fn join_trips(
     ensures kept { kept_of work.new.cases.items ≡ kept_of work.old.cases.items }
     ensures ok { OnOk result
         (HasGone ground.now (join_each (rules_on ground.now) entry nodes.now) work.old work.new) }
+    ensures starts { AreStartsOf ground.now.graph.now work.new.starts }
 {
     for node in nodes {
         join_trip(ground, work, entry, *node)?;
@@ -176,6 +181,7 @@ pub fn trips(ground: &Ground<'_>, work: &mut Work, entry: u64) -> Result<(), NoM
     ensures kept { kept_of work.new.cases.items ≡ kept_of work.old.cases.items }
     ensures ok { OnOk result
         (HasGone ground.now (trips (rules_on ground.now) entry) work.old work.new) }
+    ensures starts { AreStartsOf ground.now.graph.now work.new.starts }
 {
     let none = Items::new(Vec::new(ground.alloc));
     let fired = mem::replace(&mut work.told.fired, none);

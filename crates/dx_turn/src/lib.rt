@@ -32,7 +32,6 @@ mod work;
 pub use acting::act;
 pub use ending::{end_turn, undo_turn};
 pub use ev_graph::NoMemory;
-pub use finding::declares;
 pub use ground::Ground;
 pub use joining::{Incoming, join, trips};
 pub use reloading::{Reloaded, fresh_engines, reload};

@@ -3,6 +3,7 @@
 ghost use Rattle.std.specs.Prelude.{◌≡◌, [], IfOk, OnOk, IsTrue};
 ghost use Rattle.std.specs.List.{All, list_all};
 ghost use Rattle.ev_graph.specs.Lawful.{has_engine_limits};
+ghost use Rattle.dx_case.specs.Starts.{AreStartsOf};
 ghost use Rattle.dx_serd.specs.Rates.{rate_of};
 ghost use Rattle.dx_step.specs.Turns.{decide_each};
 ghost use Rattle.dx_step.specs.Step.{is_above, reload};
@@ -129,12 +130,15 @@ fn reload_to(ground: &Ground<'_>, work: &mut Work, conf: u32) -> Result<Option<R
     ensures kept { kept_of work.new.cases.items ≡ kept_of work.old.cases.items }
     ensures ok { IfOk result
         (λ x. HasEnded ground.now (reloaded_to ground.now conf) x work.old work.new) }
+    ensures starts { AreStartsOf ground.now.graph.now work.new.starts }
 {
     if !is_above(ground, conf) {
         return Ok(None);
     }
     decide_all(ground, &mut work.told, &mut work.cases)?;
     let engines = fresh_engines(ground.alloc, ground.rules.graph(conf))?;
+    // What was found in the graph that was in force says nothing of the next one.
+    work.starts.forget();
     Ok(Some(Reloaded { conf, engines }))
 }
 
@@ -150,6 +154,7 @@ pub fn reload(
     ensures kept { kept_of work.new.cases.items ≡ kept_of work.old.cases.items }
     ensures ok { IfOk result
         (λ x. HasEnded ground.now (reload (rules_on ground.now) entry.now) x work.old work.new) }
+    ensures starts { AreStartsOf ground.now.graph.now work.new.starts }
 {
     match entry {
         Entry::Reload { conf, .. } => reload_to(ground, work, *conf),

@@ -3,6 +3,7 @@
 ghost use Rattle.std.specs.Prelude.{◌≡◌, IfOk, OnOk, IsTrue};
 ghost use Rattle.std.specs.List.{All};
 ghost use Rattle.ev_graph.specs.Sets.{ascends};
+ghost use Rattle.dx_case.specs.Starts.{AreStartsOf};
 ghost use Rattle.dx_state.specs.LawfulState.{solved_numbers};
 ghost use Rattle.dx_step.specs.Turns.{settle_all};
 ghost use Rattle.dx_turn.specs.Grounds.{IsGround, rules_on};
@@ -25,10 +26,12 @@ use fm_entry::Entry;
 fn settle_work(ground: &Ground<'_>, work: &mut Work) -> Result<(), NoMemory>
     requires ground { IsGround ground.now }
     requires told { IsTold ground.now work.old.told }
+    requires starts { AreStartsOf ground.now.graph.now work.old.starts }
     requires ready { All (IsBeforeTurn ground.now.graph.now ground.now.time) work.old.cases.items }
     ensures kept { kept_of work.new.cases.items ≡ kept_of work.old.cases.items }
     ensures ok { OnOk result
         (HasGone ground.now (settle_all (rules_on ground.now)) work.old work.new) }
+    ensures starts { AreStartsOf ground.now.graph.now work.new.starts }
 {
     settle_all(ground, &mut work.told, &mut work.cases)
 }
@@ -44,12 +47,14 @@ pub fn turn(
 ) -> Result<Option<Reloaded>, NoMemory>
     requires ground { IsGround ground.now }
     requires told { IsTold ground.now work.old.told }
+    requires starts { AreStartsOf ground.now.graph.now work.old.starts }
     requires ready { All (IsBeforeTurn ground.now.graph.now ground.now.time) work.old.cases.items }
     requires ascend { IsTrue (ascends (solved_numbers
         (settle_all (rules_on ground.now) (turn_of ground.now work.old)).state.solved)) }
     ensures kept { kept_of work.new.cases.items ≡ kept_of work.old.cases.items }
     ensures ok { IfOk result
         (λ x. HasEnded ground.now (turned_by ground.now number entry.now) x work.old work.new) }
+    ensures starts { AreStartsOf ground.now.graph.now work.new.starts }
 {
     settle_work(ground, work)?;
     act(ground, work, number, entry)?;

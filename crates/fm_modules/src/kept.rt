@@ -64,7 +64,7 @@ fn guard_graph(
     // for the proof alone: that it is a graph
     let _nodes = graph.nodes();
     let guards = guards_of(alloc, checked, topo, &graph)?;
-    Ok(Ruled { graph, guards })
+    Ruled::new(alloc, graph, guards)
 }
 
 /// What a checked rule file makes over a topology.

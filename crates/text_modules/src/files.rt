@@ -38,10 +38,7 @@ fn ruled(alloc: Global, text: &str, parts: &str) -> Result<Ruled, ScriptFault> {
         return Err(ScriptFault::NoSpelling);
     };
     let guards = make_guards(alloc, &checked, topo, &made.graph)?;
-    Ok(Ruled {
-        graph: made.graph,
-        guards: some_guards(guards),
-    })
+    Ok(Ruled::new(alloc, made.graph, some_guards(guards))?)
 }
 
 /// What each rule file of a setup comes to.
@@ -75,7 +72,7 @@ fn single_module(alloc: Global, own: u32, number: u32, ruled: Ruled) -> Result<D
     ensures state { IfOk result
         (λ d. state_of d.standing ≡ fresh_of (rules_with own (Single number (ruled_of ruled)))) }
 {
-    let Ruled { graph, guards } = ruled;
+    let Ruled { graph, guards, .. } = ruled;
     match guards {
         Some(guards) => Diagnoser::with_guards(alloc, own, number, graph, guards),
         None => Diagnoser::new(alloc, own, number, graph),

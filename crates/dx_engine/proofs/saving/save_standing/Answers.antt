@@ -14,7 +14,7 @@ use Rattle.dx_engine.proofs.saving.save_standing.Goals as goal
 pub kept_cases-requires : goal.kept_cases-requires
 kept_cases-requires c =
     short_cases (rules_in c.args.rules.now) (kept_parts c.args.standing.now) c.cases.result.now
-    c.cases.ensures c.requires
+    c.cases.ensures c.requires.parts
 
 pub save-requires : goal.save-requires
 save-requires c =
@@ -37,7 +37,7 @@ save-requires c =
       engines = c.engines.ensures;
     } in
     subst IsLawfulSomewhere (sym (saved_state p q made))
-    (somewhere (rules_in c.args.rules.now) p c.requires)
+    (somewhere (rules_in c.args.rules.now) p c.requires.parts)
 
 pub returns-clause-ok : goal.returns-clause-ok
 returns-clause-ok c =

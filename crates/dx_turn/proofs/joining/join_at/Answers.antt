@@ -28,6 +28,7 @@ returns-clause-ok c =
         told = h.told;
         current = all_set (IsTrackedAt d.graph.now d.time) w.cases.items c.args.at
             c.settle.new.tracked c.requires.work.current c.settle.ensures.current;
+        starts = c.requires.work.starts;
       };
     })
     c.settle.ensures.turned c.settle.ensures.left

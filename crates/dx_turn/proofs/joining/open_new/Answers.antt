@@ -40,5 +40,6 @@ returns-clause-ok c =
         current = subst (All (IsTrackedAt d.graph.now d.time)) (sym c.in_ok-push.ensures.items)
             (all_push (IsTrackedAt d.graph.now d.time) w.cases.items t c.requires.work.current
             c.settle.ensures.current);
+        starts = c.start_with.ensures.starts;
       };
     }

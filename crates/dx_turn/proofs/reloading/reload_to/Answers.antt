@@ -20,3 +20,4 @@ returns-clause-ok c =
     c.args.work.now _ (sym c.is_above.ensures ∙ c.if-not-is_above.false) refl
     (c.in_ok-engines.ensures ∙ ap (λ (g : GraphValue). fresh_rates g.engines) c.graph.ensures)
     c.in_ok-decide_all.ensures.ok c.in_ok-decide_all.ensures.none
+    (c.forget.ensures _)

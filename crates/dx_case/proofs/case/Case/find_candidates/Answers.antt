@@ -10,22 +10,22 @@ use Rattle.dx_case.proofs.Inserting.{write_back, same_count}
 use Rattle.dx_case.proofs.Steps.{lives_of, opened_case}
 use Rattle.dx_case.proofs.case.Case.find_candidates.Goals as goal
 
-pub fresh_from-requires : goal.fresh_from-requires
-fresh_from-requires c =
+pub fresh-requires-clause-node : goal.fresh-requires-clause-node
+fresh-requires-clause-node c =
     let nodes = c.args.graph.now.nodes in
     let observed = c.args.self.now.observed.items in
     let node = c.first-node.result in
     let first = c.first-node.ensures in
     let P : ℕ → Type 0 = λ e. is_member observed e ≡ true in
-    report_below nodes node (all_in (is_report_node nodes) observed node c.requires.observed_are
-    (subst P (sym first) (in_at observed 0 c.requires.some)))
+    report_below nodes node (all_in (is_report_node nodes) observed node c.requires.opened.observed_are
+    (subst P (sym first) (in_at observed 0 c.requires.opened.some)))
 
 pub change_each-requires-clause-lives : goal.change_each-requires-clause-lives
 change_each-requires-clause-lives c =
     let fresh = c.in_ok-fresh.fresh in
     rw c.as_mut_slice.ensures.value (lives_of c.args.graph.now no_cut
     (is_member (c.first-node.result ∷ [])) all_allowed fresh.candidates.items fresh.reports.items
-    c.in_ok-fresh.ensures)
+    c.in_ok-fresh.ensures.fresh)
 
 pub returns-clause-case : goal.returns-clause-case
 returns-clause-case c =
@@ -53,10 +53,10 @@ returns-clause-case c =
       s.broken,
       s.reports,
       c.new.ensures.items,
-      c.requires.time,
-      c.requires.until,
+      c.requires.opened.time,
+      c.requires.opened.until,
     ) (opened_case g c.nodes.ensures.graph new.number old.opened node new.entries.items observed
     old.broken.items fresh.reports.items fresh.candidates.items mid new.candidates.items
-    new.waiting (subst P (sym first) (in_at observed 0 c.requires.some)) c.in_ok-fresh.ensures
-    c.requires.observed_ascend c.requires.observed_are c.requires.broken_ascend changed kept
+    new.waiting (subst P (sym first) (in_at observed 0 c.requires.opened.some)) c.in_ok-fresh.ensures.fresh
+    c.requires.opened.observed_ascend c.requires.opened.observed_are c.requires.opened.broken_ascend changed kept
     (rw c.new.ensures.items at c.settle.ensures.waiting))

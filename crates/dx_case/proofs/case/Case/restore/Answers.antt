@@ -5,9 +5,9 @@ use Rattle.dx_case.specs.Facts.{case_of}
 use Rattle.dx_case.proofs.Fitting.{facts_parts, links_rise}
 use Rattle.dx_case.proofs.case.Case.restore.Goals as goal
 
-pub find_candidates-requires : goal.find_candidates-requires
-find_candidates-requires c =
-    let p = facts_parts c.args.graph.now c.args.moment (case_of c.args.facts.now) c.requires in
+pub find_candidates-requires-clause-opened : goal.find_candidates-requires-clause-opened
+find_candidates-requires-clause-opened c =
+    let p = facts_parts c.args.graph.now c.args.moment (case_of c.args.facts.now) c.requires.fit in
     record {
       some = rw (c.new-observed.ensures.items, c.in_ok-reported.ensures.items) p.some;
       observed_ascend = rw (c.new-observed.ensures.items, c.in_ok-reported.ensures.items)

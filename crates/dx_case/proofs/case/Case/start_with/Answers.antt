@@ -6,8 +6,8 @@ use Rattle.dx_case.proofs.case.Case.start_with.Goals as goal
 pub returns : goal.returns
 returns c =
     let brk = c.in_ok-put_links.ensures.put
-    ∙ ap (λ (ls : List Link). with_links c.args.broken.now (map broken_of ls))
-    c.new-links.ensures.items in
+    ∙ ap (λ (ls : List Link). with_links c.args.report.now.broken.now (map broken_of ls))
+    c.new-broken.ensures.items in
     record {
       case = c.in_ok-find_candidates.ensures.case;
       «open» = c.find_candidates.ensures.open
@@ -18,4 +18,5 @@ returns c =
             brk,
           ) refl;
       time = c.find_candidates.ensures.time;
+      starts = c.find_candidates.ensures.starts;
     }

@@ -6,4 +6,4 @@ use Rattle.dx_engine.proofs.diagnoser.Diagnoser.graph.Goals as goal
 pub graph-requires : goal.graph-requires
 graph-requires c =
     rw c.conf.ensures (lawful_is (rules_in c.self.inside.rules) (state_of c.self.inside.standing)
-    c.self.invariant.lawful).there
+    c.self.invariant.parts.lawful).there

@@ -15,5 +15,5 @@ returns-clause-events c =
     let s = state_of c.self.inside.standing in
     rw (← c.self.view_is) (IfOk-weaker c.turn.result _ _
     (λ words is. subst (λ (ws : List ListEvent). All (IsWordOf r.own) ws) (sym is)
-    (says_words r (Diagnosing s) c.args.number c.args.entry.now c.self.invariant.lawful
+    (says_words r (Diagnosing s) c.args.number c.args.entry.now c.self.invariant.parts.lawful
     c.requires.number c.requires.spelled)) c.turn.ensures.says)

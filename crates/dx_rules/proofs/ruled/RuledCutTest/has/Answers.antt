@@ -3,7 +3,7 @@ use Rattle.ev_graph.specs.Cutting.{is_cut}
 use Rattle.ev_inst.specs.Guards.{GuardsValue}
 use Rattle.ev_inst.proofs.GuardedLinks.{cut_same}
 use Rattle.dx_rules.specs.Rulebooks.{guarding_if_any}
-use Rattle.dx_rules.proofs.rulebook.RuledCutTest.has.Goals as goal
+use Rattle.dx_rules.proofs.ruled.RuledCutTest.has.Goals as goal
 
 pub returns-in-Some : goal.returns-in-Some
 returns-in-Some c =

@@ -1,7 +1,7 @@
 use Rattle.std.proofs.Common.{sym, ap, ◌∙◌}
 use Rattle.dx_guards.proofs.Alike.{same_guarding}
 use Rattle.dx_rules.specs.Rulebooks.{guarding_if_any}
-use Rattle.dx_rules.proofs.rulebook.copy_guards.Goals as goal
+use Rattle.dx_rules.proofs.ruled.Ruled.copy_guards.Goals as goal
 
 pub returns-in_ok-copy-in-Some : goal.returns-in_ok-copy-in-Some
 returns-in_ok-copy-in-Some c =
