@@ -1,7 +1,9 @@
 -- What a call of the fault manager does, by its command.
-use Rattle.std.specs.Prelude.{◌≡◌, ℕ, List, Option, None, Some, Result, Err, OnOk, IfErr}
+use Rattle.std.specs.Prelude.{◌≡◌, ℕ, List, map, Option, None, Some, Result, Err, OnOk}
+use Rattle.std.specs.Prelude.{IfErr}
+use Rattle.fm_act.specs.Reconciled.{ActuatorState}
 use Rattle.fm_answers.specs.Ending.{EndsAs}
-use Rattle.fm_answers.specs.StreamsAt.{SinkAt}
+use Rattle.fm_answers.specs.StreamsAt.{SinkAt, source_at, sink_at}
 use Rattle.fm_answers.specs.Replaying.{ReplayRan}
 use Rattle.fm_answers.specs.declared.status.ToolStatus.{ToolStatus}
 use Rattle.fm_answers.specs.declared.stops.Stop.{Stop}
@@ -11,6 +13,9 @@ use Rattle.fm_command.specs.declared.words.Command.TheVariants.{Accept, Fmd, Rep
 use Rattle.fm_command.specs.declared.words.Command.TheVariants.{EscInput, Admin, Repair, Explain}
 use Rattle.fm_command.specs.declared.words.Command.TheVariants.{Generate, GeneratedLines}
 use Rattle.fm_outer.specs.Failures.{Rose}
+use Rattle.fm_outer.specs.declared.disk.Disk.{Ghosts as DiskGhosts}
+use Rattle.fm_outer.specs.declared.sink.Sink.{Ghosts as SinkGhosts}
+use Rattle.fm_outer.specs.declared.source.Source.{Ghosts as SourceGhosts}
 use Rattle.fm_top.specs.Accepting.{AcceptRan}
 use Rattle.fm_top.specs.Admin.{AdminRan}
 use Rattle.fm_top.specs.Esc.{EscEnds, EscInputEnds}
@@ -21,7 +26,7 @@ use Rattle.fm_top.specs.Order.{Goes, looks, world_of}
 use Rattle.fm_top.specs.Headline.{Headline}
 use Rattle.fm_top.specs.Init.{InitRan}
 use Rattle.fm_top.specs.Outside.{Outside, source_counts, disk_counts, counts_of, RoseAt}
-use Rattle.fm_top.specs.Outside.{given_of, standing, act_counts}
+use Rattle.fm_top.specs.Outside.{given_of, standing, act_counts, disks_at}
 use Rattle.fm_top.specs.Repair.{RepairRan}
 use Rattle.fm_logs.specs.declared.disks.Disks.{Disks}
 
@@ -84,6 +89,18 @@ pub record Handed (S D A : Type 0) : Type 0 where
 abbrev pub handed : {S D A : Type 0} → S → List S → S → Disks D → List A → Handed S D A
 handed input rules topo disks acts =
     record { input = input; rules = rules; topo = topo; disks = disks; acts = acts }
+
+-- all objects as they stand, with an actuator's state by its own words
+abbrev pub outside_of : {S K D A : Type 0} → SourceGhosts S → SinkGhosts K → DiskGhosts D
+    → (A → ActuatorState) → Handed S D A → K → Outside
+outside_of s k d a h out = record {
+  input = source_at s h.input;
+  rules = map (source_at s) h.rules;
+  topo = source_at s h.topo;
+  out = sink_at k out;
+  disks = disks_at d h.disks;
+  acts = map a h.acts;
+}
 
 -- WHAT EACH COMMAND WORKS ON, one line a command: all else that was handed in is as it was
 abbrev pub WorksOn : {S D A : Type 0} → Option Command → Handed S D A → Handed S D A → Type 0

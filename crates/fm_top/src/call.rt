@@ -1,10 +1,8 @@
 // The top call.
-ghost use Rattle.std.specs.Prelude.{◌≡◌, ◌<◌, ◌≤◌, ◌^◌, length, map};
-ghost use Rattle.fm_answers.specs.StreamsAt.{source_at, sink_at};
+ghost use Rattle.std.specs.Prelude.{◌≡◌, ◌<◌, ◌≤◌, ◌^◌, length};
 ghost use Rattle.fm_command.specs.Words.{command_of};
-ghost use Rattle.fm_top.specs.Calls.{Does, WorksOn, handed, names_of};
+ghost use Rattle.fm_top.specs.Calls.{Does, WorksOn, handed, names_of, outside_of};
 ghost use Rattle.fm_act.specs.Reconciled.{actuator_state};
-ghost use Rattle.fm_top.specs.Outside.{Outside, disks_at};
 
 use crate::accept::accept;
 use crate::admin::tell;
@@ -58,23 +56,13 @@ pub fn tool<S: Source, K: Sink, D: Disk>(
 ) -> ToolStatus
     requires moment { now < 2 ^ 62 }
     requires few { length rules.old ≤ 8 }
-    ensures does { let before : Outside = record {
-      input = source_at S.Source input.old;
-      rules = map (source_at S.Source) rules.old;
-      topo = source_at S.Source topo.old;
-      out = sink_at K.Sink out.old;
-      disks = disks_at D.Disk disks.old;
-      acts = map (λ a. actuator_state (kind_text a) (held a) (act_failures a)) acts.old;
-    } in
-        let after : Outside = record {
-          input = source_at S.Source input.new;
-          rules = map (source_at S.Source) rules.new;
-          topo = source_at S.Source topo.new;
-          out = sink_at K.Sink out.new;
-          disks = disks_at D.Disk disks.new;
-          acts = map (λ a. actuator_state (kind_text a) (held a) (act_failures a)) acts.new;
-        } in
-        Does (command_of words.now now) before after result }
+    ensures does { Does (command_of words.now now)
+        (outside_of S.Source K.Sink D.Disk
+        (λ a. actuator_state (kind_text a) (held a) (act_failures a))
+        (handed input.old rules.old topo.old disks.old acts.old) out.old)
+        (outside_of S.Source K.Sink D.Disk
+        (λ a. actuator_state (kind_text a) (held a) (act_failures a))
+        (handed input.new rules.new topo.new disks.new acts.new) out.new) result }
     ensures works_on { WorksOn (command_of words.now now)
         (handed input.old rules.old topo.old disks.old acts.old)
         (handed input.new rules.new topo.new disks.new acts.new) }
@@ -86,40 +74,28 @@ pub fn tool<S: Source, K: Sink, D: Disk>(
     };
     match command {
         Some(Command::Accept) => end(alloc, accept(alloc, input, out, disks), out),
-        Some(Command::Fmd) => {
-            let ran = fmd(alloc, input, rules, topo, out, disks, acts);
-            end(alloc, ran, out)
-        }
+        Some(Command::Fmd) => end(alloc, fmd(alloc, input, rules, topo, out, disks, acts), out),
         Some(Command::Replay) => end(alloc, replay(alloc, input, out), out),
-        Some(Command::Init(namespace)) => {
-            let ran = init(alloc, namespace, rules, topo, disks);
-            end(alloc, ran, out)
-        }
-        Some(Command::Esc(form)) => {
-            let ran = esc(alloc, form, rules, topo, out);
-            end(alloc, ran, out)
-        }
+        Some(Command::Init(namespace)) => end(
+            alloc,
+            init(alloc, namespace, rules, topo, disks),
+            out,
+        ),
+        Some(Command::Esc(form)) => end(alloc, esc(alloc, form, rules, topo, out), out),
         Some(Command::EscInput) => end(alloc, esc_input(alloc, input, out), out),
-        Some(Command::Admin(asked)) => {
-            let ran = tell(alloc, asked, out, disks);
-            end(alloc, ran, out)
-        }
-        Some(Command::Repair(request)) => {
-            let ran = repair(alloc, request, out, disks, acts);
-            end(alloc, ran, out)
-        }
-        Some(Command::Explain(uuid)) => {
-            let ran = explain(alloc, uuid, out, disks);
-            end(alloc, ran, out)
-        }
-        Some(Command::Generate(number)) => {
-            let ran = generate(alloc, number, out, disks, acts);
-            end(alloc, ran, out)
-        }
-        Some(Command::GeneratedLines(number)) => {
-            let ran = put_generated(alloc, number, out, disks);
-            end(alloc, ran, out)
-        }
+        Some(Command::Admin(asked)) => end(alloc, tell(alloc, asked, out, disks), out),
+        Some(Command::Repair(request)) => end(alloc, repair(alloc, request, out, disks, acts), out),
+        Some(Command::Explain(uuid)) => end(alloc, explain(alloc, uuid, out, disks), out),
+        Some(Command::Generate(number)) => end(
+            alloc,
+            generate(alloc, number, out, disks, acts),
+            out,
+        ),
+        Some(Command::GeneratedLines(number)) => end(
+            alloc,
+            put_generated(alloc, number, out, disks),
+            out,
+        ),
         None => end(alloc, Err(Stop::Usage), out),
     }
 }

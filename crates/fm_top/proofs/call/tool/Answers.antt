@@ -23,7 +23,7 @@ returns-in-Some-Accept-clause-does g c =
 pub returns-in-Some-Fmd-clause-does : goal.returns-in-Some-Fmd-clause-does
 returns-in-Some-Fmd-clause-does g c =
     does_as _ (Some Fmd) _ _ _ (search rules)
-    (does_fmd _ _ (sink_at g.K.Sink c.fmd-ran.new.out) c.fmd-ran.result _ c.fmd-ran.ensures.ran
+    (does_fmd _ _ (sink_at g.K.Sink c.fmd.new.out) c.fmd.result _ c.fmd.ensures.ran
     c.end-in-Some-Fmd.ensures)
 
 pub returns-in-Some-Replay-clause-does : goal.returns-in-Some-Replay-clause-does
@@ -38,15 +38,15 @@ returns-in-Some-Replay-clause-does g c =
 pub returns-in-Some-Init-clause-does : goal.returns-in-Some-Init-clause-does
 returns-in-Some-Init-clause-does g c =
     does_as _ (Some (Init c.in-Some-Init.namespace)) _ _ _ (search rules)
-    (does_init _ _ _ c.init-ran.result _
-    (ends_standing g.S.Source _ _ _ _ _ _ _ c.init-ran.result c.init-ran.ensures.ends)
+    (does_init _ _ _ c.init.result _
+    (ends_standing g.S.Source _ _ _ _ _ _ _ c.init.result c.init.ensures.ends)
     c.end-in-Some-Init.ensures refl refl)
 
 pub returns-in-Some-Esc-clause-does : goal.returns-in-Some-Esc-clause-does
 returns-in-Some-Esc-clause-does g c =
     does_as _ (Some (Esc c.in-Some-Esc.form)) _ _ _ (search rules)
-    (does_esc _ _ (sink_at g.K.Sink c.esc-ran.new.out) _ c.esc-ran.result _
-    (esc_standing g.S.Source _ _ _ _ _ _ _ c.esc-ran.result c.esc-ran.ensures)
+    (does_esc _ _ (sink_at g.K.Sink c.esc.new.out) _ c.esc.result _
+    (esc_standing g.S.Source _ _ _ _ _ _ _ c.esc.result c.esc.ensures)
     c.end-in-Some-Esc.ensures refl refl refl (λ image leaves. leaves))
 
 pub returns-in-Some-EscInput-clause-does : goal.returns-in-Some-EscInput-clause-does
@@ -59,36 +59,36 @@ returns-in-Some-EscInput-clause-does g c =
 pub returns-in-Some-Admin-clause-does : goal.returns-in-Some-Admin-clause-does
 returns-in-Some-Admin-clause-does g c =
     does_as _ (Some (Admin c.in-Some-Admin.asked)) _ _ _ (search rules)
-    (does_tell c.in-Some-Admin.asked _ _ (sink_at g.K.Sink c.tell-ran.new.out) c.tell-ran.result _
-    c.tell-ran.ensures.ran c.end-in-Some-Admin.ensures
+    (does_tell c.in-Some-Admin.asked _ _ (sink_at g.K.Sink c.tell.new.out) c.tell.result _
+    c.tell.ensures.ran c.end-in-Some-Admin.ensures
     (record { rules = refl; topo = refl; acts = refl }) refl)
 
 pub returns-in-Some-Repair-clause-does : goal.returns-in-Some-Repair-clause-does
 returns-in-Some-Repair-clause-does g c =
     does_as _ (Some (Repair c.in-Some-Repair.request)) _ _ _ (search rules)
-    (does_repair c.in-Some-Repair.request _ _ (sink_at g.K.Sink c.repair-ran.new.out)
-    c.repair-ran.result _ c.repair-ran.ensures.ran c.end-in-Some-Repair.ensures refl refl refl)
+    (does_repair c.in-Some-Repair.request _ _ (sink_at g.K.Sink c.repair.new.out)
+    c.repair.result _ c.repair.ensures.ran c.end-in-Some-Repair.ensures refl refl refl)
 
 pub returns-in-Some-Explain-clause-does : goal.returns-in-Some-Explain-clause-does
 returns-in-Some-Explain-clause-does g c =
     does_as _ (Some (Explain c.in-Some-Explain.uuid)) _ _ _ (search rules)
-    (does_explain c.in-Some-Explain.uuid _ _ (sink_at g.K.Sink c.explain-ran.new.out)
-    c.explain-ran.result _ c.explain-ran.ensures.ran c.end-in-Some-Explain.ensures
+    (does_explain c.in-Some-Explain.uuid _ _ (sink_at g.K.Sink c.explain.new.out)
+    c.explain.result _ c.explain.ensures.ran c.end-in-Some-Explain.ensures
     (record { rules = refl; topo = refl; acts = refl }) refl)
 
 pub returns-in-Some-Generate-clause-does : goal.returns-in-Some-Generate-clause-does
 returns-in-Some-Generate-clause-does g c =
     does_as _ (Some (Generate c.in-Some-Generate.number)) _ _ _ (search rules)
-    (does_generate c.in-Some-Generate.number _ _ (sink_at g.K.Sink c.generate-ran.new.out)
-    c.generate-ran.result _ c.generate-ran.ensures.ran c.end-in-Some-Generate.ensures refl refl
+    (does_generate c.in-Some-Generate.number _ _ (sink_at g.K.Sink c.generate.new.out)
+    c.generate.result _ c.generate.ensures.ran c.end-in-Some-Generate.ensures refl refl
     refl)
 
 pub returns-in-Some-GeneratedLines-clause-does : goal.returns-in-Some-GeneratedLines-clause-does
 returns-in-Some-GeneratedLines-clause-does g c =
     does_as _ (Some (GeneratedLines c.in-Some-GeneratedLines.number)) _ _ _ (search rules)
     (does_lines c.in-Some-GeneratedLines.number _ _
-    (sink_at g.K.Sink c.put_generated-ran.new.out) c.put_generated-ran.result _
-    c.put_generated-ran.ensures.ran c.end-in-Some-GeneratedLines.ensures
+    (sink_at g.K.Sink c.put_generated.new.out) c.put_generated.result _
+    c.put_generated.ensures.ran c.end-in-Some-GeneratedLines.ensures
     (record { rules = refl; topo = refl; acts = refl }) refl)
 
 pub returns-in-Err-clause-does : goal.returns-in-Err-clause-does
