@@ -1,12 +1,11 @@
 -- What an operator's command that puts one text did, in the words of the whole call.
-use Rattle.std.proofs.Common.{◌≡◌, inl, inr, ℕ, List, refl, sym, subst, Some}
+use Rattle.std.proofs.Common.{◌≡◌, inl, inr, List, [], sym, subst, Some}
 use Rattle.std.proofs.Common.{OnOk, IfErr, Result, Ok, Err}
 use Rattle.fm_answers.specs.Ending.{EndsAs}
 use Rattle.fm_answers.specs.StreamsAt.{SinkAt}
 use Rattle.fm_answers.specs.declared.status.ToolStatus.{ToolStatus}
 use Rattle.fm_answers.specs.declared.stops.Stop.{Stop}
-use Rattle.fm_answers.specs.declared.stops.Stop.TheVariants.{Read, Write, Disk, Damaged, Memory}
-use Rattle.fm_answers.specs.declared.stops.Stop.TheVariants.{Full}
+use Rattle.fm_answers.specs.declared.stops.Stop.TheVariants.{Read, Write, Disk}
 use Rattle.fm_answers.specs.declared.stops.Stop.TheVariants.{Act}
 use Rattle.fm_command.specs.declared.words.AdminCommand.{AdminCommand}
 use Rattle.fm_command.specs.declared.words.AdminCommand.TheVariants.{Config, Dump, Faulty, Rotate}
@@ -15,17 +14,14 @@ use Rattle.fm_core.specs.Book.{ModuleState}
 use Rattle.fm_logs.specs.Contents.{Contents}
 use Rattle.fm_logs.specs.StoreBook.{StoreBook}
 use Rattle.fm_store.specs.StoreLeft.{ReadsLike}
-use Rattle.fm_top.specs.Accepting.{OpeningStops}
-use Rattle.fm_top.specs.Admin.{AdminRan, ReadsAfter, StoreUntold, TextAsked, command_limit}
+use Rattle.fm_top.specs.Admin.{AdminRan, ReadsAfter, TextAsked, command_limit}
 use Rattle.fm_top.specs.Calls.{IsCaused, Does}
-use Rattle.fm_top.specs.Esc.{TextEnds}
-use Rattle.fm_top.specs.Fmd.{ConcludingStops}
 use Rattle.fm_top.specs.Headline.{Headline}
-use Rattle.fm_top.specs.Kept.{BookAt}
 use Rattle.fm_top.specs.Order.{Goes, looks, world_of}
-use Rattle.fm_top.specs.Outside.{Outside, Tells, counts_of}
+use Rattle.fm_top.specs.Outside.{Outside, counts_of}
 use Rattle.fm_top.proofs.Doing.{Rests, quiet_counts}
-use Rattle.fm_top.proofs.Escs.{ok_no_err}
+use Rattle.fm_top.proofs.Escs.{ok_no_err, text_caused}
+use Rattle.fm_top.proofs.Going.{put_goes, unopened_goes, worked_goes}
 use Rattle.fm_top.proofs.Texts.{like_drained}
 
 -- what a command leaves reads like the book from before
@@ -47,47 +43,18 @@ module _ (asked : AdminCommand) (before after : Outside) where
 
   -- ---- the order of refusals
 
-  unopened_goes : (stop : Stop) → OpeningStops before.disks stop
-      → Goes (world_of before after) (looks (Admin asked)) (Err stop)
-  unopened_goes Disk why = inl tt
-  unopened_goes Memory why = inl tt
-  unopened_goes (Damaged disk place) why = inr (inl (inl (disk, place, refl, why)))
-  unopened_goes _ why = absurd why
-
-  untold_goes : (stop : Stop) → StoreUntold (command_limit asked) before.disks after.disks stop
-      → Goes (world_of before after) (looks (Admin asked)) (Err stop)
-  untold_goes stop untold = by_stop stop untold.why
-    where
-      by_stop : (stop : Stop) → ConcludingStops (command_limit asked) before.disks stop
-          → Goes (world_of before after) (looks (Admin asked)) (Err stop)
-      by_stop Disk why = inl tt
-      by_stop Memory why = inl tt
-      by_stop (Full kind) why = inr (inr (
-        ((λ told tells. (untold.holds told tells).stood), tt),
-        tt,
-      ))
-      by_stop (Damaged disk place) why =
-          inr (inl (inl (disk, place, refl, λ told tells. absurd (why told tells))))
-      by_stop _ why = absurd why
-
-  put_goes : (text : List ℕ) (ran : Result (Unit {0}) Stop)
-      → ((told : Contents) → Tells before.disks told → BookAt told)
-      → TextEnds before.out after.out text ran
-      → Goes (world_of before after) (looks (Admin asked)) ran
-  put_goes text (Ok done) stood ends = (stood, tt)
-  put_goes text (Err Write) stood ends = inl tt
-  put_goes text (Err Memory) stood ends = inl tt
-  put_goes text (Err _) stood ends = absurd ends
-
   tell_goes : (ran : Result (Unit {0}) Stop) → RanSo ran
       → Goes (world_of before after) (looks (Admin asked)) ran
   tell_goes ran (inl told) =
-      put_goes told.text ran (λ c tells. (told.store.went c tells).stood) told.put
+      put_goes (world_of before after) (looks (Admin asked)) before.out after.out told.text ran
+      ((λ c tells. (told.store.went c tells).stood), tt) told.put
   tell_goes ran (inr untold) =
       subst (Goes (world_of before after) (looks (Admin asked))) (sym untold.told)
       (elim untold.store.went [
-        | inl unopened ↦ unopened_goes untold.stop unopened.why
-        | inr opened ↦ untold_goes untold.stop opened
+        | inl unopened ↦ unopened_goes before after [] untold.stop unopened.why
+        | inr opened ↦
+            worked_goes before after [] (command_limit asked) untold.stop
+            ((λ told tells. (opened.holds told tells).stood), tt) opened.why
       ])
 
   -- ---- the causes
@@ -103,15 +70,8 @@ module _ (asked : AdminCommand) (before after : Outside) where
       absurd (elim asked_so.went [ inl unopened ↦ unopened.why | inr opened ↦ opened.why ])
   untold_caused _ asked_so = tt
 
-  put_caused : (text : List ℕ) (ran : Result (Unit {0}) Stop)
-      → TextEnds before.out after.out text ran → IfErr ran (IsCaused before after)
-  put_caused text (Ok done) ends = tt
-  put_caused text (Err Write) ends = ends.0
-  put_caused text (Err Memory) ends = tt
-  put_caused text (Err _) ends = absurd ends
-
   tell_caused : (ran : Result (Unit {0}) Stop) → RanSo ran → IfErr ran (IsCaused before after)
-  tell_caused ran (inl told) = put_caused told.text ran told.put
+  tell_caused ran (inl told) = text_caused before after told.text ran told.put
   tell_caused ran (inr untold) =
       subst (λ r. IfErr r (IsCaused before after)) (sym untold.told)
       (untold_caused untold.stop untold.store)

@@ -25,6 +25,7 @@ use Rattle.fm_top.specs.Headline.{AreFromBefore}
 use Rattle.fm_top.specs.Order.{Goes, Look, at_rules, at_topology, at_graphs, looks, world_of}
 use Rattle.fm_top.specs.Outside.{Outside, standing, given_of}
 use Rattle.fm_top.specs.Outside.{disk_counts, counts_of}
+use Rattle.fm_top.proofs.Going.{put_goes}
 use Rattle.fm_top.proofs.Inits.{refused_goes, refused_caused, done_quiet}
 use Rattle.fm_top.proofs.Standing.{reads_standing, gave_text}
 
@@ -34,16 +35,14 @@ text_goes : (before after : Outside) (form : GraphForm) (text : List ℕ)
     (ran : Result (Unit {0}) Stop)
     → IsCompiled standing form (given_of before) (given_of after) text
     → TextEnds before.out after.out text ran → Goes (world_of before after) (looks (Esc form)) ran
-text_goes before after form text (Ok done) is put = (
-  (is.got.files.items, is.read.0),
-  (
-    (is.got.topo_text.items, is.got.topo, is.read.1),
-    ((is.got, is.read, (is.mades, is.graphs)), tt),
-  ),
-)
-text_goes before after form text (Err Write) is cut = inl tt
-text_goes before after form text (Err Memory) is cut = inl tt
-text_goes before after form text (Err _) is cut = absurd cut
+text_goes before after form text ran is =
+    put_goes (world_of before after) (looks (Esc form)) before.out after.out text ran (
+      (is.got.files.items, is.read.0),
+      (
+        (is.got.topo_text.items, is.got.topo, is.read.1),
+        ((is.got, is.read, (is.mades, is.graphs)), tt),
+      ),
+    )
 
 -- sources that come to nothing, of a command that looks at them first
 pub cause_goes : (before after : Outside) (more : List Look) (fault : CompileFault)
@@ -68,7 +67,8 @@ esc_goes before after form ran (inr (fault, cause, same, rest)) =
     subst (Goes (world_of before after) (looks (Esc form))) (sym same)
     (cause_goes before after [] fault cause)
 
-text_caused : (before after : Outside) (text : List ℕ) (ran : Result (Unit {0}) Stop)
+-- a text that was put, or part of one
+pub text_caused : (before after : Outside) (text : List ℕ) (ran : Result (Unit {0}) Stop)
     → TextEnds before.out after.out text ran → IfErr ran (IsCaused before after)
 text_caused before after text (Ok done) put = tt
 text_caused before after text (Err Write) cut = cut.0

@@ -1,29 +1,27 @@
 -- What `explain` did, in the words of the whole call.
-use Rattle.std.proofs.Common.{◌≡◌, inl, inr, ℕ, List, refl, sym, subst, Some}
+use Rattle.std.proofs.Common.{◌≡◌, inl, inr, ℕ, List, [], ◌∷◌, sym, subst, Some}
 use Rattle.std.proofs.Common.{OnOk, IfErr, Result, Ok, Err}
 use Rattle.std.specs.declared.option.Option.{Option}
 use Rattle.fm_answers.specs.Ending.{EndsAs}
 use Rattle.fm_answers.specs.StreamsAt.{SinkAt}
 use Rattle.fm_answers.specs.declared.status.ToolStatus.{ToolStatus}
 use Rattle.fm_answers.specs.declared.stops.Stop.{Stop}
-use Rattle.fm_answers.specs.declared.stops.Stop.TheVariants.{Read, Write, Disk, Damaged, Memory}
-use Rattle.fm_answers.specs.declared.stops.Stop.TheVariants.{Full}
+use Rattle.fm_answers.specs.declared.stops.Stop.TheVariants.{Read, Write, Disk}
 use Rattle.fm_answers.specs.declared.stops.Stop.TheVariants.{Act, NotFound}
 use Rattle.fm_command.specs.declared.words.Command.TheVariants.{Explain}
 use Rattle.fm_logs.specs.Contents.{Contents}
 use Rattle.fm_top.specs.Accepting.{OpeningStops}
 use Rattle.fm_top.specs.Admin.{StoreUntold}
 use Rattle.fm_top.specs.Calls.{IsCaused, Does}
-use Rattle.fm_top.specs.Esc.{TextEnds}
 use Rattle.fm_top.specs.Explain.{ExplainRan, ExplainTried, ExplainedOf, StoreWithout}
 use Rattle.fm_top.specs.Fmd.{ConcludingStops}
 use Rattle.fm_top.specs.Headline.{Headline, HoldsOfBook, LikeBook}
-use Rattle.fm_top.specs.Kept.{BookAt}
 use Rattle.fm_top.specs.Limits.{draining_limit}
-use Rattle.fm_top.specs.Order.{Goes, looks, world_of}
-use Rattle.fm_top.specs.Outside.{Outside, Tells, counts_of}
+use Rattle.fm_top.specs.Order.{Goes, at_row, looks, world_of}
+use Rattle.fm_top.specs.Outside.{Outside, counts_of}
 use Rattle.fm_top.proofs.Doing.{Rests, quiet_counts}
-use Rattle.fm_top.proofs.Escs.{ok_no_err}
+use Rattle.fm_top.proofs.Escs.{ok_no_err, text_caused}
+use Rattle.fm_top.proofs.Going.{put_goes, unopened_goes, worked_goes}
 use Rattle.fm_top.proofs.Texts.{like_drained}
 
 module _ (uuid : List ℕ) (before after : Outside) where
@@ -34,12 +32,6 @@ module _ (uuid : List ℕ) (before after : Outside) where
   GoesSo ran = Goes (world_of before after) (looks (Explain uuid)) ran
 
   -- ---- the order of refusals
-
-  unopened_goes : (stop : Stop) → OpeningStops before.disks stop → GoesSo (Err stop)
-  unopened_goes Disk why = inl tt
-  unopened_goes Memory why = inl tt
-  unopened_goes (Damaged disk place) why = inr (inl (inl (disk, place, refl, why)))
-  unopened_goes _ why = absurd why
 
   without_goes : (stop : Stop) → StoreWithout uuid before.disks after.disks stop
       → GoesSo (Err stop)
@@ -55,33 +47,18 @@ module _ (uuid : List ℕ) (before after : Outside) where
 
   untold_goes : (stop : Stop) → StoreUntold draining_limit before.disks after.disks stop
       → GoesSo (Err stop)
-  untold_goes stop untold = by_stop stop untold.why
-    where
-      by_stop : (stop : Stop) → ConcludingStops draining_limit before.disks stop
-          → GoesSo (Err stop)
-      by_stop Disk why = inl tt
-      by_stop Memory why = inl tt
-      by_stop (Full kind) why =
-          inr (inr (((λ told tells. (untold.holds told tells).stood), (tt, tt)), tt))
-      by_stop (Damaged disk place) why =
-          inr (inl (inl (disk, place, refl, λ told tells. absurd (why told tells))))
-      by_stop _ why = absurd why
-
-  put_goes : (text : List ℕ) (ran : Result (Unit {0}) Stop)
-      → ((told : Contents) → Tells before.disks told → BookAt told)
-      → TextEnds before.out after.out text ran → GoesSo ran
-  put_goes text (Ok done) stood ends = (stood, (tt, tt))
-  put_goes text (Err Write) stood ends = inl tt
-  put_goes text (Err Memory) stood ends = inl tt
-  put_goes text (Err _) stood ends = absurd ends
+  untold_goes stop untold =
+      worked_goes before after (at_row uuid ∷ []) draining_limit stop
+      ((λ told tells. (untold.holds told tells).stood), (tt, tt)) untold.why
 
   explain_goes : (ran : Result (Unit {0}) Stop) → RanSo ran → GoesSo ran
   explain_goes ran (inl told) =
-      put_goes told.text ran (λ c tells. (told.store.went c tells).stood) told.put
+      put_goes (world_of before after) (looks (Explain uuid)) before.out after.out told.text ran
+      ((λ c tells. (told.store.went c tells).stood), (tt, tt)) told.put
   explain_goes ran (inr untold) =
       subst GoesSo (sym untold.told)
       (elim untold.store.went [
-        | inl unopened ↦ unopened_goes untold.stop unopened.why
+        | inl unopened ↦ unopened_goes before after (at_row uuid ∷ []) untold.stop unopened.why
         | inr opened ↦ elim opened [
           | inl without ↦ without_goes untold.stop without
           | inr stopped ↦ untold_goes untold.stop stopped
@@ -112,15 +89,8 @@ module _ (uuid : List ℕ) (before after : Outside) where
       only_store (Act index) _ tried (λ why. why) (λ is. cc) (λ why. why)
   untold_caused _ tried = tt
 
-  put_caused : (text : List ℕ) (ran : Result (Unit {0}) Stop)
-      → TextEnds before.out after.out text ran → IfErr ran (IsCaused before after)
-  put_caused text (Ok done) ends = tt
-  put_caused text (Err Write) ends = ends.0
-  put_caused text (Err Memory) ends = tt
-  put_caused text (Err _) ends = absurd ends
-
   explain_caused : (ran : Result (Unit {0}) Stop) → RanSo ran → IfErr ran (IsCaused before after)
-  explain_caused ran (inl told) = put_caused told.text ran told.put
+  explain_caused ran (inl told) = text_caused before after told.text ran told.put
   explain_caused ran (inr untold) =
       subst (λ r. IfErr r (IsCaused before after)) (sym untold.told)
       (untold_caused untold.stop untold.store)

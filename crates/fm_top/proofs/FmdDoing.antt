@@ -41,6 +41,7 @@ use Rattle.fm_top.specs.Outside.{DisksAt, counts_of}
 use Rattle.fm_top.proofs.BookHeld.{HeldAfterOf, HeldOf, held_after_each}
 use Rattle.fm_top.proofs.Doing.{run_ends}
 use Rattle.fm_top.proofs.Escs.{cause_caused, cause_goes, cause_standing, ok_no_err}
+use Rattle.fm_top.proofs.Going.{settled_goes}
 use Rattle.fm_top.proofs.Headlines.{until_held, whole_answered}
 use Rattle.fm_top.proofs.Inits.{rules_quiet}
 
@@ -130,16 +131,6 @@ module _ (before after : Outside) (got : Sources) (sources : SourcesRead before 
   stops_goes stop middle (inr (inr (same, inl until))) = until_goes stop middle same until
   stops_goes stop middle (inr (inr (same, inr behind))) = behind_goes _ stop same behind.why
 
-  settled_goes : (paths : List (List ℕ)) (summary : List ℕ) (middle : SinkAt)
-      (ran : Result (Unit {0}) Stop) → KeepSame before.disks got
-      → SettlingEnds paths summary before.acts after.acts middle after.out ran
-      → Goes (world_of before after) (looks Fmd) ran
-  settled_goes paths summary middle (Ok done) same ends = same_passes same
-  settled_goes paths summary middle (Err (Act index)) same ends = inl tt
-  settled_goes paths summary middle (Err Write) same ends = inl tt
-  settled_goes paths summary middle (Err Memory) same ends = inl tt
-  settled_goes paths summary middle (Err _) same ends = absurd ends
-
 fmd_goes : (before after : Outside) (ran : Result (Unit {0}) Stop) → FmdRan before after ran
     → Goes (world_of before after) (looks Fmd) ran
 fmd_goes before after ran (inl stopped) =
@@ -149,8 +140,9 @@ fmd_goes before after ran (inr (inl s)) =
     subst (Goes (world_of before after) (looks Fmd)) (sym s.told)
     (stops_goes before after s.got s.sources s.stop after.out s.store.went)
 fmd_goes before after ran (inr (inr s)) =
-    settled_goes before after s.got s.sources s.conclusion.wanted s.conclusion.summary.items
-    s.middle ran s.store.went.same s.settled
+    settled_goes (world_of before after) (looks Fmd) s.conclusion.wanted s.conclusion.summary.items
+    before.acts after.acts s.middle after.out ran
+    (same_passes before after s.got s.sources s.store.went.same) s.settled
 
 -- ---- the causes
 

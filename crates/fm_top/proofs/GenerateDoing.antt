@@ -8,7 +8,7 @@ use Rattle.fm_answers.specs.Ending.{EndsAs}
 use Rattle.fm_answers.specs.StreamsAt.{SinkAt}
 use Rattle.fm_answers.specs.declared.status.ToolStatus.{ToolStatus}
 use Rattle.fm_answers.specs.declared.stops.Stop.{Stop}
-use Rattle.fm_answers.specs.declared.stops.Stop.TheVariants.{Read, Write, Disk, Damaged, Memory}
+use Rattle.fm_answers.specs.declared.stops.Stop.TheVariants.{Read, Write, Disk, Memory}
 use Rattle.fm_answers.specs.declared.stops.Stop.TheVariants.{Full, Act}
 use Rattle.fm_answers.specs.Recording.{store_with}
 use Rattle.fm_command.specs.declared.words.Command.TheVariants.{Generate, GeneratedLines}
@@ -18,11 +18,9 @@ use Rattle.fm_journal.specs.declared.fault.FullKind.TheVariants.{Numbers}
 use Rattle.fm_logs.specs.Contents.{Contents}
 use Rattle.fm_logs.specs.StoreBook.{StoreBook}
 use Rattle.fm_store.specs.StoreLeft.{ReadsLike, ReadsLikeEither}
-use Rattle.fm_top.specs.Accepting.{OpeningStops}
 use Rattle.fm_top.specs.Admin.{StoreUnopened}
 use Rattle.fm_top.specs.Calls.{IsCaused, Does}
-use Rattle.fm_top.specs.Esc.{TextEnds}
-use Rattle.fm_top.specs.Fmd.{ConcludingStops, ReadsBased, SettlingEnds}
+use Rattle.fm_top.specs.Fmd.{ReadsBased, SettlingEnds}
 use Rattle.fm_top.specs.Generate.{GenerateConcluded, GenerateRan, GenerateStops, GenerateTried}
 use Rattle.fm_top.specs.Generate.{GenerateUnconcluded, GenerateUntil, Generates, LinesRan}
 use Rattle.fm_top.specs.Generate.{LinesTried, StoreUnbegun, UnbegunStops}
@@ -34,7 +32,8 @@ use Rattle.fm_top.specs.Order.{AllPass, Goes, at_early, at_store, world_of}
 use Rattle.fm_top.specs.Outside.{Outside, DisksAt, Tells, Leaves, counts_of}
 use Rattle.fm_top.proofs.BookHeld.{same_book}
 use Rattle.fm_top.proofs.Doing.{Rests, quiet_counts}
-use Rattle.fm_top.proofs.Escs.{ok_no_err}
+use Rattle.fm_top.proofs.Escs.{ok_no_err, text_caused}
+use Rattle.fm_top.proofs.Going.{put_goes, settled_goes, unopened_goes, worked_goes}
 use Rattle.fm_top.proofs.FmdDoing.{acts_quiet, settled_caused}
 
 -- ---- the order of refusals
@@ -45,12 +44,6 @@ module _ (before after : Outside) where
 
   abbrev PassSo : Type 0
   PassSo = AllPass (world_of before after) (at_store ∷ at_early ∷ [])
-
-  unopened_goes : (stop : Stop) → OpeningStops before.disks stop → GoesSo (Err stop)
-  unopened_goes Disk why = inl tt
-  unopened_goes Memory why = inl tt
-  unopened_goes (Damaged disk place) why = inr (inl (inl (disk, place, refl, why)))
-  unopened_goes _ why = absurd why
 
   unbegun_goes : (stop : Stop) → StoreUnbegun before.disks after.disks stop → GoesSo (Err stop)
   unbegun_goes stop unbegun = by_stop stop unbegun.why
@@ -81,31 +74,9 @@ module _ (before after : Outside) where
 
   behind_goes : (number : ℕ) (stop : Stop)
       → GenerateUnconcluded number before.disks after.disks stop → GoesSo (Err stop)
-  behind_goes number stop behind = by_stop stop behind.why
-    where
-      by_stop : (stop : Stop) → ConcludingStops (concluding_limit behind.entries) before.disks stop
-          → GoesSo (Err stop)
-      by_stop Disk why = inl tt
-      by_stop Memory why = inl tt
-      by_stop (Full kind) why = inr (inr (all_pass number behind.entries behind.are, tt))
-      by_stop (Damaged disk place) why =
-          inr (inl (inl (disk, place, refl, λ told tells. absurd (why told tells))))
-      by_stop _ why = absurd why
-
-  settled_goes : (paths : List (List ℕ)) (text : List ℕ) (ran : Result (Unit {0}) Stop) → PassSo
-      → SettlingEnds paths text before.acts after.acts before.out after.out ran → GoesSo ran
-  settled_goes paths text (Ok done) pass ends = pass
-  settled_goes paths text (Err (Act index)) pass ends = inl tt
-  settled_goes paths text (Err Write) pass ends = inl tt
-  settled_goes paths text (Err Memory) pass ends = inl tt
-  settled_goes paths text (Err _) pass ends = absurd ends
-
-  put_goes : (text : List ℕ) (ran : Result (Unit {0}) Stop) → PassSo
-      → TextEnds before.out after.out text ran → GoesSo ran
-  put_goes text (Ok done) pass ends = pass
-  put_goes text (Err Write) pass ends = inl tt
-  put_goes text (Err Memory) pass ends = inl tt
-  put_goes text (Err _) pass ends = absurd ends
+  behind_goes number stop behind =
+      worked_goes before after (at_early ∷ []) (concluding_limit behind.entries) stop
+      (all_pass number behind.entries behind.are) behind.why
 
 -- ---- what a crash leaves of a book
 
@@ -278,7 +249,7 @@ module _ (number : ℕ) (before after : Outside) where
 
   stops_goes : (stop : Stop) → GenerateStops number before.disks after.disks stop
       → GoesSo before after (Err stop)
-  stops_goes stop (inl unopened) = unopened_goes before after stop unopened.why
+  stops_goes stop (inl unopened) = unopened_goes before after (at_early ∷ []) stop unopened.why
   stops_goes stop (inr (inl unbegun)) = unbegun_goes before after stop unbegun
   stops_goes stop (inr (inr (inl until))) = until_goes before after number stop until
   stops_goes stop (inr (inr (inr behind))) = behind_goes before after number stop behind
@@ -287,7 +258,8 @@ module _ (number : ℕ) (before after : Outside) where
   generate_goes ran (inl stopped) =
       subst (GoesSo before after) (sym stopped.told) (stops_goes stopped.stop stopped.store.went)
   generate_goes ran (inr settled) =
-      settled_goes before after settled.conclusion.wanted settled.conclusion.summary.items ran
+      settled_goes (world_of before after) (at_store ∷ at_early ∷ []) settled.conclusion.wanted
+      settled.conclusion.summary.items before.acts after.acts before.out after.out ran
       (all_pass before after number settled.store.went.entries settled.store.went.are)
       settled.settled
 
@@ -399,12 +371,12 @@ module _ (number : ℕ) (before after : Outside) where
 
   lines_goes : (ran : Result (Unit {0}) Stop) → ListedSo ran → GoesSo before after ran
   lines_goes ran (inl put) =
-      put_goes before after put.text ran
+      put_goes (world_of before after) (at_store ∷ at_early ∷ []) before.out after.out put.text ran
       (all_pass before after number put.store.went.entries put.store.went.are) put.put
   lines_goes ran (inr untold) =
       subst (GoesSo before after) (sym untold.told)
       (elim untold.store.went [
-        | inl unopened ↦ unopened_goes before after untold.stop unopened.why
+        | inl unopened ↦ unopened_goes before after (at_early ∷ []) untold.stop unopened.why
         | inr unbegun ↦ unbegun_goes before after untold.stop unbegun
       ])
 
@@ -419,15 +391,8 @@ module _ (number : ℕ) (before after : Outside) where
       absurd (elim tried.went [ inl unopened ↦ unopened.why | inr unbegun ↦ unbegun.why ])
   untold_caused _ tried = tt
 
-  put_caused : (text : List ℕ) (ran : Result (Unit {0}) Stop)
-      → TextEnds before.out after.out text ran → IfErr ran (IsCaused before after)
-  put_caused text (Ok done) ends = tt
-  put_caused text (Err Write) ends = ends.0
-  put_caused text (Err Memory) ends = tt
-  put_caused text (Err _) ends = absurd ends
-
   lines_caused : (ran : Result (Unit {0}) Stop) → ListedSo ran → IfErr ran (IsCaused before after)
-  lines_caused ran (inl put) = put_caused put.text ran put.put
+  lines_caused ran (inl put) = text_caused before after put.text ran put.put
   lines_caused ran (inr untold) =
       subst (λ r. IfErr r (IsCaused before after)) (sym untold.told)
       (untold_caused untold.stop untold.store)

@@ -13,6 +13,7 @@ pub mod FmdDoing
 pub mod Fmds
 pub mod GenerateDoing
 pub mod Generates
+pub mod Going
 pub mod Headlines
 pub mod Inits
 pub mod Makings

@@ -1,5 +1,5 @@
 -- What a command did that accepts what is said of repairs, in the words of the whole call.
-use Rattle.std.proofs.Common.{◌≡◌, ◌⊎◌, inl, inr, ℕ, List, ◌∷◌, map, refl}
+use Rattle.std.proofs.Common.{◌≡◌, ◌⊎◌, inl, inr, ℕ, List, [], ◌∷◌, map, refl}
 use Rattle.std.proofs.Common.{sym, subst, Some, OnOk, IfErr, Result, Ok, Err}
 use Rattle.fm_act.specs.Reconciled.{ActuatorState}
 use Rattle.fm_admin.specs.declared.repairing.Repaired.{Repaired}
@@ -20,13 +20,14 @@ use Rattle.fm_top.specs.Calls.{IsCaused, Does}
 use Rattle.fm_top.specs.Fmd.{ConcludingStops, SettlingEnds}
 use Rattle.fm_top.specs.Headline.{HasRepaired, HeldRepair, HoldsOfBook, Headline}
 use Rattle.fm_top.specs.Kept.{BookAt}
-use Rattle.fm_top.specs.Order.{Goes, looks, world_of}
+use Rattle.fm_top.specs.Order.{Goes, at_marked, looks, world_of}
 use Rattle.fm_top.specs.Outside.{Outside, Tells, counts_of}
 use Rattle.fm_top.specs.Repair.{MayHaveRepair, RepairRan, RepairTried, RepairedOf, StoreUnmarked}
 use Rattle.fm_top.specs.Repair.{StoreUnrepaired, repair_limit}
 use Rattle.fm_top.specs.RepairEntry.{HasRepair}
 use Rattle.fm_top.proofs.Escs.{ok_no_err}
 use Rattle.fm_top.proofs.FmdDoing.{acts_quiet, settled_caused}
+use Rattle.fm_top.proofs.Going.{settled_goes, unopened_goes, worked_goes}
 use Rattle.fm_top.proofs.Texts.{like_drained}
 
 module _ (asked : RepairAsked) (before after : Outside) where
@@ -38,12 +39,6 @@ module _ (asked : RepairAsked) (before after : Outside) where
   GoesSo ran = Goes (world_of before after) (looks (Repair asked)) ran
 
   -- ---- the order of refusals
-
-  unopened_goes : (stop : Stop) → OpeningStops before.disks stop → GoesSo (Err stop)
-  unopened_goes Disk why = inl tt
-  unopened_goes Memory why = inl tt
-  unopened_goes (Damaged disk place) why = inr (inl (inl (disk, place, refl, why)))
-  unopened_goes _ why = absurd why
 
   unmarked_goes : (stop : Stop) → StoreUnmarked asked before.disks after.disks stop
       → GoesSo (Err stop)
@@ -59,40 +54,24 @@ module _ (asked : RepairAsked) (before after : Outside) where
 
   unrepaired_goes : (stop : Stop) → StoreUnrepaired asked before.disks after.disks stop
       → GoesSo (Err stop)
-  unrepaired_goes stop unrepaired = by_stop stop unrepaired.why
-    where
-      by_stop : (stop : Stop) → ConcludingStops (repair_limit asked) before.disks stop
-          → GoesSo (Err stop)
-      by_stop Disk why = inl tt
-      by_stop Memory why = inl tt
-      by_stop (Full kind) why =
-          inr (inr (((λ told tells. (unrepaired.holds told tells).stood), (tt, tt)), tt))
-      by_stop (Damaged disk place) why =
-          inr (inl (inl (disk, place, refl, λ told tells. absurd (why told tells))))
-      by_stop _ why = absurd why
-
-  settled_goes : (paths : List (List ℕ)) (text : List ℕ) (ran : Result (Unit {0}) Stop)
-      → ((told : Contents) → Tells before.disks told → BookAt told)
-      → SettlingEnds paths text before.acts after.acts before.out after.out ran → GoesSo ran
-  settled_goes paths text (Ok done) stood ends = (stood, (tt, tt))
-  settled_goes paths text (Err (Act index)) stood ends = inl tt
-  settled_goes paths text (Err Write) stood ends = inl tt
-  settled_goes paths text (Err Memory) stood ends = inl tt
-  settled_goes paths text (Err _) stood ends = absurd ends
+  unrepaired_goes stop unrepaired =
+      worked_goes before after (at_marked asked ∷ []) (repair_limit asked) stop
+      ((λ told tells. (unrepaired.holds told tells).stood), (tt, tt)) unrepaired.why
 
   repair_goes : (ran : Result (Unit {0}) Stop) → RanSo ran → GoesSo ran
   repair_goes ran (inl stopped) =
       subst GoesSo (sym stopped.told)
       (elim stopped.store.went [
-        | inl unopened ↦ unopened_goes stopped.stop unopened.why
+        | inl unopened ↦ unopened_goes before after (at_marked asked ∷ []) stopped.stop unopened.why
         | inr opened ↦ elim opened [
           | inl unmarked ↦ unmarked_goes stopped.stop unmarked
           | inr unrepaired ↦ unrepaired_goes stopped.stop unrepaired
         ]
       ])
   repair_goes ran (inr settled) =
-      settled_goes settled.one.wanted (ok_text settled.one.number) ran
-      (λ told tells. (settled.store.went told tells).stood) settled.settled
+      settled_goes (world_of before after) (looks (Repair asked)) settled.one.wanted
+      (ok_text settled.one.number) before.acts after.acts before.out after.out ran
+      ((λ told tells. (settled.store.went told tells).stood), (tt, tt)) settled.settled
 
   -- ---- the causes
 

@@ -116,8 +116,6 @@ pub(crate) fn tell<K: Sink, D: Disk>(
     let done = work_store(alloc, &task, &mut none, out, disks)?;
     match done {
         TaskDone::Text(text) => put_bytes(out, text.as_slice()),
-        TaskDone::Nothing => Err(Stop::Memory),
-        TaskDone::Concluded(_) => Err(Stop::Memory),
-        TaskDone::Repaired(_) => Err(Stop::Memory),
+        _ => unreachable!(),
     }
 }

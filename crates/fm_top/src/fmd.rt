@@ -135,8 +135,6 @@ pub(crate) fn fmd<S: Source, K: Sink, D: Disk, A: ActCalls>(
             };
             settle(alloc, &settlement, acts, out)
         }
-        TaskDone::Nothing => Err(Stop::Memory),
-        TaskDone::Text(_) => Err(Stop::Memory),
-        TaskDone::Repaired(_) => Err(Stop::Memory),
+        _ => unreachable!(),
     }
 }

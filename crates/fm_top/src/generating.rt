@@ -163,9 +163,7 @@ pub(crate) fn generate<K: Sink, D: Disk, A: ActCalls>(
             };
             settle(alloc, &settlement, acts, out)
         }
-        TaskDone::Nothing => Err(Stop::Memory),
-        TaskDone::Text(_) => Err(Stop::Memory),
-        TaskDone::Repaired(_) => Err(Stop::Memory),
+        _ => unreachable!(),
     }
 }
 
@@ -185,8 +183,6 @@ pub(crate) fn put_generated<K: Sink, D: Disk>(
     let done = work_store(alloc, &task, &mut none, out, disks)?;
     match done {
         TaskDone::Text(text) => put_bytes(out, text.as_slice()),
-        TaskDone::Nothing => Err(Stop::Memory),
-        TaskDone::Concluded(_) => Err(Stop::Memory),
-        TaskDone::Repaired(_) => Err(Stop::Memory),
+        _ => unreachable!(),
     }
 }

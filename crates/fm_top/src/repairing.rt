@@ -106,8 +106,6 @@ pub(crate) fn repair<K: Sink, D: Disk, A: ActCalls>(
     let done = work_store(alloc, &task, &mut none, out, disks)?;
     match done {
         TaskDone::Repaired(repaired) => settle_repair(alloc, repaired, acts, out),
-        TaskDone::Nothing => Err(Stop::Memory),
-        TaskDone::Concluded(_) => Err(Stop::Memory),
-        TaskDone::Text(_) => Err(Stop::Memory),
+        _ => unreachable!(),
     }
 }

@@ -6,8 +6,8 @@ use Rattle.fm_top.proofs.Standing.{reads_standing}
 use Rattle.fm_top.proofs.TasksDone.{fmd_did}
 use Rattle.fm_top.proofs.fmd.fmd.Goals as goal
 
-pub returns-in-Concluded-clause-ran : goal.returns-in-Concluded-clause-ran
-returns-in-Concluded-clause-ran g c = inr (inr (record {
+pub returns-clause-ran : goal.returns-clause-ran
+returns-clause-ran g c = inr (inr (record {
   got = c.in_ok-got.got;
   sources = record {
     read = reads_standing g.S.Source _ _ _ _ (Ok c.in_ok-got.got) c.in_ok-got.ensures.read;

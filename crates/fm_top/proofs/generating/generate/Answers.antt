@@ -9,8 +9,8 @@ use Rattle.fm_top.proofs.generating.generate.Goals as goal
 unread : SourceAt
 unread = record { left = Some []; failures = 0 }
 
-pub returns-in-Concluded-clause-ran : goal.returns-in-Concluded-clause-ran
-returns-in-Concluded-clause-ran g c =
+pub returns-clause-ran : goal.returns-clause-ran
+returns-clause-ran g c =
     let did = generate_did _ c.in_ok-done.done c.in-Concluded.conclusion unread unread _ _ _ _
     (search rules) c.in_ok-done.ensures.ran in
     inr (record {

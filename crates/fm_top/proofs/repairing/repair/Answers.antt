@@ -9,8 +9,8 @@ use Rattle.fm_top.proofs.repairing.repair.Goals as goal
 unread : SourceAt
 unread = record { left = Some []; failures = 0 }
 
-pub returns-in-Repaired-clause-ran : goal.returns-in-Repaired-clause-ran
-returns-in-Repaired-clause-ran g c =
+pub returns-clause-ran : goal.returns-clause-ran
+returns-clause-ran g c =
     let did = repair_did _ c.in_ok-done.done c.in-Repaired.repaired unread unread _ _ _ _
     (search rules) c.in_ok-done.ensures.ran in
     inr (record {
