@@ -1,7 +1,7 @@
 // A core of two modules that takes the entries of lines.
 ghost use Rattle.std.specs.Prelude.{◌≡◌, [], ◌∷◌, IfOk};
 ghost use Rattle.fm_core.specs.Seen.{seen};
-ghost use Rattle.text_modules.specs.Alike.{AreTwins};
+ghost use Rattle.test_text_modules.specs.Alike.{AreTwins};
 ghost use Rattle.bench_diagnosis.specs.Twos.{IsTwo, hand_of};
 
 use fm_core::{Core, Hand, Module};

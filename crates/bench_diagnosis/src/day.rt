@@ -1,6 +1,6 @@
 // Generated entries over a chassis with 200 processors and 40 memories.
 ghost use Rattle.fm_core.specs.Seen.{seen};
-ghost use Rattle.text_modules.specs.Alike.{AreTwins};
+ghost use Rattle.test_text_modules.specs.Alike.{AreTwins};
 ghost use Rattle.bench_diagnosis.specs.Twos.{IsTwo};
 
 use crate::cores::{accept, core_of};
@@ -9,8 +9,8 @@ use crate::steps::{Stepped, tally_of};
 use crate::tally::Tally;
 use fm_core::{Core, Counter, Module};
 use std::alloc::{AllocError, Global};
+use test_text_modules::{Cases, twins};
 use test_words::ScriptFault;
-use text_modules::{Cases, twins};
 
 /// How many reports there are: two of each processor, three of each memory.
 const REPORTS: u64 = 520;

@@ -6,8 +6,8 @@ use crate::steps::{Stepped, tally_of};
 use crate::tally::Tally;
 use fm_core::Module;
 use std::alloc::Global;
+use test_text_modules::{Cases, twins};
 use test_words::ScriptFault;
-use text_modules::{Cases, twins};
 
 /// What comes once the cases are open: reports, each of which joins a case, or ticks.
 #[derive(Clone, Copy, Drop)]

@@ -5,8 +5,8 @@ use crate::tally::Tally;
 use fm_core::{Hand, Module};
 use fm_line::read_line;
 use std::alloc::Global;
+use test_text_modules::{Cases, loaded_from, saved};
 use test_words::ScriptFault;
-use text_modules::{Cases, loaded_from, saved};
 
 /// A module with its place, and how many words it has said.
 #[derive(Drop)]

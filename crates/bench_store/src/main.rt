@@ -12,10 +12,10 @@ mod files;
 mod journals;
 mod stores;
 
-use small_store::{Told, opened};
 use std::alloc::{AllocError, Global};
 use std::env;
 use std::process::ExitCode;
+use test_small_store::{Told, opened};
 
 /// Where the words are none of the program's.
 const USAGE: u8 = 2;

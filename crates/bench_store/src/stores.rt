@@ -2,8 +2,8 @@
 use crate::journals::journal;
 use fm_logs::Disks;
 use fm_outer::MemDisk;
-use small_store::{SmallStore, Stopped, Told, new_store, opened};
 use std::alloc::{AllocError, Global};
+use test_small_store::{SmallStore, Stopped, Told, new_store, opened};
 
 /// A disk with these bytes and room for so many more, of which each is written at most once.
 fn disk(alloc: Global, bytes: &[u8], more: u64) -> Result<MemDisk, AllocError> {

@@ -2,8 +2,8 @@
 use fm_entry::{ListEvent, ListKind, read_case_name};
 use fm_status::Status;
 use std::alloc::{AllocError, Global};
+use test_text_modules::{Setup, put_cases, put_word, run};
 use test_words::ScriptFault;
-use text_modules::{Setup, put_cases, put_word, run};
 
 /// How many rows there are of a kind.
 fn count_of(rows: &[&ListEvent], kind: ListKind) -> usize {

@@ -3,8 +3,8 @@ use crate::fields::{Fields, spell};
 use crate::rows::{show_row, show_rows};
 use crate::steps::{begin, repeat, show_kept, show_load, take};
 use std::alloc::{AllocError, Global};
+use test_text_modules::{Setup, run};
 use test_words::{Named, Script, ScriptFault, first_word, show_difference, small_in};
-use text_modules::{Setup, run};
 
 /// A piece of the text of a rule file.
 #[derive(Drop)]

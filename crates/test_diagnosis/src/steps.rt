@@ -1,7 +1,7 @@
 // What a module says at entries, and whether its state is kept.
 use std::alloc::Global;
+use test_text_modules::{Ended, Setup, loaded, put_cases, run};
 use test_words::{ScriptFault, first_word, number_in, show_difference};
-use text_modules::{Ended, Setup, loaded, put_cases, run};
 
 /// Appends what was said, and which cases are open then.
 fn show_said(ended: &Ended, out: &mut String) -> Result<(), ScriptFault> {

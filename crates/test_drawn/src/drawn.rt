@@ -3,8 +3,8 @@ use crate::happenings::Happening;
 use crate::plain::{Counts, Plain};
 use crate::rules::{DrawnRules, PARTS, drawn_rules, text_of};
 use std::alloc::Global;
+use test_text_modules::{Setup, put_cases, run};
 use test_words::{Draws, Script, ScriptFault, first_word, number_in, small_in};
-use text_modules::{Setup, put_cases, run};
 
 /// What each place of the counts is of.
 const NAMES: [&str; 7] = [

@@ -3,8 +3,8 @@ use crate::rules::{DrawnRules, RootKind, bit_of, path_of};
 use crate::stories::Cut;
 use fm_entry::{ListKind, Mark};
 use std::alloc::{AllocError, Global};
+use test_text_modules::{kind_text, link_text, mark_text};
 use test_words::ScriptFault;
-use text_modules::{kind_text, link_text, mark_text};
 
 /// A suspect: a root, how sure it is in percent, and what became of it.
 #[derive(Clone, Copy, Drop)]

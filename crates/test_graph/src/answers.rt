@@ -1,8 +1,8 @@
 // What a graph answers, and marks.
 use crate::words::{first_part, numbers_text};
 use ev_graph::{Graph, Incidence, Marked};
-use ev_small::name_at;
 use std::alloc::Global;
+use test_small_graph::name_at;
 use test_words::{ScriptFault, first_word, small_in};
 
 /// How many nodes, engines and instances there are.

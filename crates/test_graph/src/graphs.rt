@@ -1,8 +1,8 @@
 // Graphs that a script says, and what their making answers.
 use crate::lines::{EngineLine, InstanceLine, engine_in, instance_in, kind_in, kinds_in};
 use ev_graph::{EngineSpec, Graph, GraphFault, Instance, Node, NodeKind};
-use ev_small::{node_at, nodes_of};
 use std::alloc::Global;
+use test_small_graph::{node_at, nodes_of};
 use test_words::{ScriptFault, first_word, small_in};
 
 /// The kinds of the nodes, the engines and the instances of a graph.

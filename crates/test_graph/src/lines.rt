@@ -1,8 +1,8 @@
 // The lines of a script that say a graph: the kinds of nodes, engines and instances.
 use crate::words::{first_part, numbers_in, pair_in};
 use ev_graph::{EngineSpec, Instance, NodeKind};
-use ev_small::{Wire, name_at};
 use std::alloc::Global;
+use test_small_graph::{Wire, name_at};
 use test_words::{ScriptFault, first_word, number_in, small_in};
 
 /// An engine.

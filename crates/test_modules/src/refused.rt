@@ -2,10 +2,10 @@
 use crate::stores::{NO_RULES, PARTS, RULES, conf_bytes, made_of, why};
 use fm_logs::{DiskName, Disks, StoreFault};
 use fm_outer::MemDisk;
-use small_store::{bytes_of, disk_of};
 use std::alloc::Global;
 use std::process::Abort;
 use std::test::Fail;
+use test_small_store::{bytes_of, disk_of};
 
 /// Damage of the configurations at this place.
 fn damaged_at(place: u64) -> StoreFault {

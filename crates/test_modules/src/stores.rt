@@ -8,9 +8,9 @@ use fm_logs::{Disks, StoreFault};
 use fm_modules::{OpenStore, open_store};
 use fm_outer::MemDisk;
 use fm_saved::{Conf, read_conf};
-use small_store::empty_disks;
 use std::alloc::Global;
 use std::test::Fail;
+use test_small_store::empty_disks;
 
 /// Rules of one fault, which one report shows, over the parts below.
 pub(crate) const RULES: &str = "event fault.cpu.core@chassis/cpu;

@@ -1,7 +1,7 @@
 // What the mixed reports of a store come to, in the bytes of the formats, worked out from the
 // reports alone.
-use small_store::{letter_at, moment_at};
 use std::alloc::{AllocError, Global};
+use test_small_store::{letter_at, moment_at};
 
 /// The bytes of a class, behind its length, but for its letter.
 const CLASS: &[u8] = b"\0\x0eereport.cpu.u";

@@ -12,8 +12,8 @@ use fm_logs::{DiskName, Disks, StoreFault};
 use fm_outer::{Disk, MemDisk, NoMemory};
 use fm_saved::Conf;
 use fm_store::Opened;
-use small_store::{SmallStore, disk_of, opened, small_conf};
 use std::alloc::Global;
+use test_small_store::{SmallStore, disk_of, opened, small_conf};
 
 /// What a making leaves: the disks, and why it was refused.
 fn made<D: Disk>(alloc: Global, disks: Disks<D>, conf: &Conf) -> (Disks<D>, Option<StoreFault>)

@@ -3,8 +3,8 @@ use crate::runs::{Ran, run};
 use crate::store_bytes::{FailingCalls, StoreBytes};
 use fm_logs::StoreFault;
 use fm_outer::NoMemory;
-use small_store::Told;
 use std::alloc::Global;
+use test_small_store::Told;
 
 /// What openings of a store come to.
 #[derive(Clone, Copy, Drop, PartialEq, Eq)]

@@ -1,14 +1,14 @@
 // Runs of a store: it is opened, makes steps, and is closed.
 ghost use Rattle.std.specs.Prelude.{IfOk};
-ghost use Rattle.small_store.specs.Small.{HasHandsAtCursors};
+ghost use Rattle.test_small_store.specs.Small.{HasHandsAtCursors};
 
 use crate::steps::Step;
 use crate::store_bytes::{CallCounts, FailingCalls, StoreBytes, bytes_left, disks_with};
 use fm_logs::{DiskName, Disks, StoreFault};
 use fm_outer::{Image, MemDisk, NoMemory};
 use fm_settled::drain_to_base;
-use small_store::{SmallStore, Stopped, Told, opened};
 use std::alloc::Global;
+use test_small_store::{SmallStore, Stopped, Told, opened};
 
 /// What a run came to: how many reports it took, and what the store told at its end; or what it
 /// met, and what later calls answered then.

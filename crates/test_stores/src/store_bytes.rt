@@ -1,8 +1,8 @@
 // The bytes of six disks, and disks in memory that have them.
 use fm_logs::{DiskName, Disks};
 use fm_outer::{Image, MemDisk, NoMemory};
-use small_store::{bytes_of, crashed, disk_of};
 use std::alloc::Global;
+use test_small_store::{bytes_of, crashed, disk_of};
 
 /// The names of the disks, in order.
 pub const NAMES: [DiskName; 6] = [

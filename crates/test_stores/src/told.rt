@@ -6,8 +6,8 @@ use crate::store_bytes::{NAMES, StoreBytes};
 use fm_entry::{CaseName, ListEvent, Spoken};
 use fm_logs::{DiskName, StoreFault};
 use fm_status::Status;
-use small_store::Told;
 use std::alloc::{AllocError, Global};
+use test_small_store::Told;
 
 /// The name of a disk.
 pub fn name_text(disk: DiskName) -> &'static str {

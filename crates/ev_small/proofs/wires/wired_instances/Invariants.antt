@@ -1,6 +1,0 @@
-use Rattle.std.proofs.Common.{◌≡◌, take, map}
-use Rattle.ev_small.specs.Small.{wired}
-use Rattle.ev_small.proofs.wires.wired_instances.Given as goal
-
-abbrev pub invariant-loop-wire : goal.invariant-loop-wire
-invariant-loop-wire l = l.instances.items ≡ map wired (take l.wire-index l.wires)

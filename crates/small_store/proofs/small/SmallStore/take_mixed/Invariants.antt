@@ -1,6 +1,0 @@
--- The hands stay at their cursors from one report to the next.
-use Rattle.small_store.specs.Small.{HasHandsAtCursors}
-use Rattle.small_store.proofs.small.SmallStore.take_mixed.Given as goal
-
-abbrev pub invariant-reports : goal.invariant-reports
-invariant-reports l = HasHandsAtCursors l.small
