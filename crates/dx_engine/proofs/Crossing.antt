@@ -16,6 +16,7 @@ use Rattle.ev_inst.specs.contracts.guards.Guard as guard
 use Rattle.ev_inst.specs.contracts.guards.GuardedNode as node
 use Rattle.ev_inst.specs.contracts.guards.Guards as guards
 use Rattle.dx_rules.proofs.classes.Classes.TheSendSync.{the_send as classes_send}
+use Rattle.dx_rules.proofs.report_index.ReportIndex.TheSendSync.{the_send as index_send}
 use Rattle.dx_rules.specs.contracts.ruled.Ruled as ruled
 use Rattle.dx_rules.specs.contracts.rulebook.Configs as configs
 use Rattle.dx_rules.specs.contracts.rulebook.Rulebook as rulebook
@@ -48,10 +49,24 @@ guards_send = search (sendable, crosses, topo_send, node_send) depth 20
 
 -- a configuration by itself, as a member of a list; and as a field
 ruled_send : IsSend ruled.the_row
-ruled_send = search (sendable, crosses, graph_send, guards_send, classes_send) depth 20
+ruled_send = search (
+  sendable,
+  crosses,
+  graph_send,
+  guards_send,
+  classes_send,
+  index_send,
+) depth 20
 
 ruled_field_send : IsSend (ruled.the_field).row
-ruled_field_send = search (sendable, crosses, graph_send, guards_send, classes_send) depth 20
+ruled_field_send = search (
+  sendable,
+  crosses,
+  graph_send,
+  guards_send,
+  classes_send,
+  index_send,
+) depth 20
 
 configs_field_send : IsSend (configs.the_field).row
 configs_field_send = search (sendable, crosses, ruled_send, ruled_field_send) depth 20

@@ -1,1 +1,3 @@
 mod Declaring
+mod Indexing
+mod Naming

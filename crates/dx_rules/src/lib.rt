@@ -5,19 +5,23 @@
 //! which configurations are numbered from 0. A [`Ruled`] is one configuration (`ruled_of`).
 //!
 //! A configuration has guards of the links that payloads can break, or none where they can break
-//! no link; and it keeps the [`Classes`] of its graph's reports, which its meaning leaves out.
+//! no link; and it keeps the [`Classes`] of its graph's reports and a [`ReportIndex`] of them, which
+//! its meaning leaves out.
 //!
 //! **Promises.** A rulebook gives a configuration and its graph by its number, how many
-//! configurations it knows of a list, whether a report there has a class, and the links that a
-//! report breaks there. A [`Ruled`] tells which of its links payloads can break.
+//! configurations it knows of a list, whether a report there has a class, the report of a name
+//! there, and the links that a report breaks there. A [`Ruled`] tells which of its links payloads
+//! can break.
 #![tactic(auto)]
 
 mod classes;
+mod report_index;
 mod rulebook;
 mod ruled;
 
 pub use classes::Classes;
 pub use ev_graph::NoMemory;
 pub use ev_inst::Guards;
+pub use report_index::ReportIndex;
 pub use rulebook::{Configs, Rulebook};
 pub use ruled::Ruled;

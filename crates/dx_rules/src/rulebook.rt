@@ -4,12 +4,13 @@ ghost use Rattle.std.specs.Prelude.{◌≡◌, None, Some, IsTrue, IfOk, MatchOp
 ghost use Rattle.fm_nv.specs.Data.{no_pairs};
 ghost use Rattle.dx_state.specs.Configured.{found_at, known_of, configuration_at};
 ghost use Rattle.dx_step.specs.Lawful.{is_there};
-ghost use Rattle.dx_step.specs.Reports.{declares, links_broken};
+ghost use Rattle.dx_step.specs.Reports.{declares, links_broken, report_named};
+ghost use Rattle.dx_rules.specs.ReportIndex.{event_by};
 ghost use Rattle.dx_rules.specs.Rulebooks.{ruled_of, rules_in};
 
 use crate::ruled::Ruled;
 use ev_graph::{Graph, Link, NoMemory};
-use fm_name::Class;
+use fm_name::{Class, Fmri};
 use fm_nv::Nv;
 use std::alloc::Global;
 
@@ -80,6 +81,18 @@ impl Rulebook {
         match self.found(conf) {
             Some(ruled) => ruled.declares(class),
             None => false,
+        }
+    }
+
+    /// The number of the report of a path and a class, in the configuration of this number. It is a
+    /// search in an index, whatever the number of nodes.
+    pub fn report_named(&self, conf: u32, name: &(Fmri, Class)) -> Option<u32>
+        ensures { result ≡ report_named (configuration_at (rules_in self.now) conf).graph
+            (event_by name.now) }
+    {
+        match self.found(conf) {
+            Some(ruled) => ruled.report_named(name),
+            None => None,
         }
     }
 

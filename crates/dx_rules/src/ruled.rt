@@ -3,12 +3,14 @@
 ghost use Rattle.std.specs.Prelude.{◌≡◌, ℕ, List};
 ghost use Rattle.dx_step.specs.Reports.{declares};
 ghost use Rattle.dx_rules.specs.Classes.{is_class_among};
+ghost use Rattle.dx_rules.specs.ReportIndex.{IndexesReports};
 
 use crate::classes::Classes;
+use crate::report_index::ReportIndex;
 use dx_guards::broken_links;
 use ev_graph::{CutTest, Graph, Link, NoMemory};
 use ev_inst::Guards;
-use fm_name::Class;
+use fm_name::{Class, Fmri};
 use fm_nv::Nv;
 use std::alloc::Global;
 
@@ -18,9 +20,11 @@ use std::alloc::Global;
 pub struct Ruled {
     pub graph: Graph,
     pub guards: Option<Guards>,
-    /// The classes of the graph's reports.
+    /// The classes of the graph's reports, and their numbers by their names.
     classes: Classes,
+    index: ReportIndex,
     ghost declared: { (class : List ℕ) → is_class_among classes class ≡ declares graph class },
+    ghost indexed: { IndexesReports graph index },
 }
 
 /// Which links of the configuration payloads can break.
@@ -40,19 +44,23 @@ impl CutTest for Ruled {
 
 impl Ruled {
     ghost use Rattle.std.specs.Prelude.{IfOk};
-    ghost use Rattle.dx_step.specs.Reports.{links_broken};
+    ghost use Rattle.dx_step.specs.Reports.{links_broken, report_named};
+    ghost use Rattle.dx_rules.specs.ReportIndex.{event_by};
     ghost use Rattle.dx_rules.specs.Rulebooks.{guarding_if_any, ruled_of};
 
-    /// The configuration of a graph, and of guards, if any. It takes time for each node.
+    /// The configuration of a graph, and of guards, if any. It takes time for each node, and memory
+    /// for each report.
     pub fn new(alloc: Global, graph: Graph, guards: Option<Guards>) -> Result<Ruled, NoMemory>
         ensures graph { IfOk result (λ ruled. ruled.graph ≡ graph) }
         ensures guards { IfOk result (λ ruled. ruled.guards ≡ guards) }
     {
         let classes = Classes::of(alloc, &graph)?;
+        let index = ReportIndex::of(alloc, &graph)?;
         Ok(Ruled {
             graph,
             guards,
             classes,
+            index,
         })
     }
 
@@ -76,10 +84,12 @@ impl Ruled {
         let graph = self.graph.copy(alloc)?;
         let guards = self.copy_guards(alloc)?;
         let classes = self.classes.copy()?;
+        let index = self.index.copy()?;
         Ok(Ruled {
             graph,
             guards,
             classes,
+            index,
         })
     }
 
@@ -88,6 +98,13 @@ impl Ruled {
         ensures { result ≡ declares self.now.graph class.now }
     {
         self.classes.has(class)
+    }
+
+    /// The number of the report of a path and a class.
+    pub(crate) fn report_named(&self, name: &(Fmri, Class)) -> Option<u32>
+        ensures { result ≡ report_named self.now.graph (event_by name.now) }
+    {
+        self.index.number(name)
     }
 
     /// The links of a report that its payload breaks.

@@ -1,19 +1,13 @@
 -- Reports by their names, and how they act.
-use Rattle.std.specs.Prelude.{◌≡◌, ℕ, true, List, Option, Some, None, if◌then◌else◌}
+use Rattle.std.specs.Prelude.{◌≡◌, ℕ, true, Option, Some, None, if◌then◌else◌}
 use Rattle.fm_nv.specs.Data.{Pairs}
 use Rattle.fm_name.specs.declared.events.EventName.{EventName}
 use Rattle.ev_graph.specs.Kinds.{is_report_node}
 use Rattle.ev_graph.specs.Lawful.{GraphValue}
-use Rattle.ev_graph.specs.declared.nodes.Node.{Node}
 use Rattle.dx_step.specs.Turns.{Turn}
 use Rattle.dx_step.specs.Reports.{declares, report, open_unknown}
 use Rattle.dx_turn.specs.declared.ground.Ground.{Ground}
 use Rattle.dx_turn.specs.Grounds.{rules_on, own_of}
-
--- the node, if it is a report
-abbrev pub report_in : List Node → Option ℕ → Option ℕ
-report_in nodes None = None
-report_in nodes (Some node) = if is_report_node nodes node then Some node else None
 
 -- a node that was found is a report, and the graph declares its class
 abbrev pub IsDeclared : GraphValue → EventName → Option ℕ → Type 0

@@ -101,13 +101,18 @@ fn report(
         (HasGone ground.now (reported_by ground.now entry name payload.now) work.old work.new) }
     ensures starts { AreStartsOf ground.now.graph.now work.new.starts }
 {
-    // Most reports of other modules' classes end here, before a search among all names.
+    // Most reports of other modules' classes end here, before a search for the whole name.
     if !declares(ground, &name.class) {
         return Ok(());
     }
-    match report_named(ground.graph, &name) {
+    let EventName { class, path } = name;
+    let sought = (path, class);
+    match report_named(ground, &sought) {
         Some(node) => join_known(ground, work, entry, node, payload),
-        None => join_unknown(ground, work, name),
+        None => {
+            let (path, class) = sought;
+            join_unknown(ground, work, EventName { class, path })
+        }
     }
 }
 
