@@ -20,8 +20,6 @@
 
 mod again;
 mod law;
-#[cfg(test)]
-mod tests;
 mod unread;
 
 pub use again::read_again;

@@ -10,6 +10,7 @@ use crate::instances::instances;
 use crate::listed::list;
 use crate::orders::ordered_iterators;
 use crate::pairs::pairs;
+use crate::printed::printed;
 use crate::settings::Settings;
 use crate::sources::{rule_file, sources};
 use crate::texts::bytes_in;
@@ -71,6 +72,7 @@ fn answer_of_text(
     match word {
         "tokens" => tokens(alloc, &bytes_in(alloc, rest)?),
         "tree" => tree(alloc, &settings.rules(alloc, rest)?),
+        "printed" => printed(alloc, &settings.rules(alloc, rest)?),
         "check" => checks(alloc, &settings.rules(alloc, rest)?),
         "checked" => checked_file(alloc, &settings.rules(alloc, rest)?),
         "rules" => rule_file(alloc, &settings.rules(alloc, rest)?),

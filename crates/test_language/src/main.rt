@@ -20,6 +20,7 @@ mod listed;
 mod orders;
 mod pairs;
 mod parts;
+mod printed;
 mod settings;
 mod sources;
 mod texts;
