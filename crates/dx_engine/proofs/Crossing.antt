@@ -20,7 +20,7 @@ use Rattle.dx_rules.proofs.report_index.ReportIndex.TheSendSync.{the_send as ind
 use Rattle.dx_rules.specs.contracts.ruled.Ruled as ruled
 use Rattle.dx_rules.specs.contracts.rulebook.Configs as configs
 use Rattle.dx_rules.specs.contracts.rulebook.Rulebook as rulebook
-use Rattle.dx_standing.proofs.standing.StandingState.TheSendSync.{the_send as standing_send}
+use Rattle.dx_engine.proofs.standing.StandingState.TheSendSync.{the_send as standing_send}
 use Rattle.dx_engine.specs.contracts.diagnoser.Diagnoser as diagnoser
 use Rattle.dx_engine.specs.contracts.diagnoser.Diagnoser.TheInside as inside
 

@@ -1,3 +1,9 @@
+pub mod Ascending
+pub mod Beginning
+pub mod Placing
+pub mod Beginnings
+pub mod Forming
+pub mod OpenRows
 pub mod Loads
 pub mod Saves
 pub mod KeptCases

@@ -20,8 +20,8 @@ use Rattle.dx_turn.specs.Grounds.{AreRates}
 use Rattle.dx_turn.specs.Standing.{still_of}
 use Rattle.dx_turn.specs.Tracking.{IsCurrent}
 use Rattle.dx_turn.proofs.Moving.{current_at}
-use Rattle.dx_standing.specs.Standing.{stands_for, AreStanding}
-use Rattle.dx_standing.proofs.Beginning.{kept_still}
+use Rattle.dx_engine.specs.Standing.{stands_for, AreStanding}
+use Rattle.dx_engine.proofs.Beginning.{kept_still}
 use Rattle.dx_engine.specs.Diagnosers.{standing_parts}
 
 rates_with : (time : ℕ) (es : List EngineSpec) (ks : List (List ℕ))

@@ -15,7 +15,7 @@ use Rattle.dx_restore.specs.Saving.{IsLawfulSomewhere, IsShortCase}
 use Rattle.dx_restore.proofs.Short.{cases_short_in}
 use Rattle.dx_turn.specs.declared.tracked.Tracked.{Tracked}
 use Rattle.dx_turn.specs.Tracking.{kept_of}
-use Rattle.dx_standing.specs.Standing.{StandingParts, stands_for, AreStanding}
+use Rattle.dx_engine.specs.Standing.{StandingParts, stands_for, AreStanding}
 
 pub somewhere : (r : Rules) (p : StandingParts) → AreStanding r p → IsLawfulSomewhere (stands_for p)
 somewhere r p h = record { rules = r; lawful = h.lawful }

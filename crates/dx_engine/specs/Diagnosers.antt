@@ -2,14 +2,14 @@
 use Rattle.std.specs.Prelude.{ℕ, map}
 use Rattle.ev_graph.specs.Lawful.{GraphValue}
 use Rattle.ev_inst.specs.Guards.{GuardsValue}
-use Rattle.dx_guards.specs.Payloads.{guarding_of}
+use Rattle.dx_rules.specs.Payloads.{guarding_of}
 use Rattle.dx_meaning.specs.DiagnoserMeaning.{diagnoser_meaning}
 use Rattle.dx_rules.specs.Rulebooks.{rules_in}
 use Rattle.dx_rules.specs.declared.rulebook.Rulebook.{Rulebook}
 use Rattle.dx_state.specs.Configured.{Rules, Single, unguarded}
 use Rattle.dx_restore.specs.declared.parts.Loaded.{Loaded}
-use Rattle.dx_standing.specs.Standing.{StandingParts, state_of}
-use Rattle.dx_standing.specs.declared.standing.StandingState.{StandingState}
+use Rattle.dx_engine.specs.Standing.{StandingParts, state_of}
+use Rattle.dx_engine.specs.declared.standing.StandingState.{StandingState}
 use Rattle.dx_turn.specs.Standing.{still_of}
 use Rattle.fm_core.specs.Meaning.{Diagnosing}
 use Rattle.fm_core.specs.declared.module.Module.{Ghosts}

@@ -3,16 +3,17 @@
 ghost use Rattle.std.specs.Prelude.{◌≡◌, map, IfOk, IsTrue};
 ghost use Rattle.dx_meaning.specs.Fresh.{first_of, fresh_of};
 ghost use Rattle.dx_rules.specs.Rulebooks.{rules_in};
-ghost use Rattle.dx_standing.specs.Rows.{row_of};
-ghost use Rattle.dx_standing.specs.Standing.{state_of};
+ghost use Rattle.dx_engine.specs.Rows.{row_of};
+ghost use Rattle.dx_engine.specs.Standing.{state_of};
 ghost use Rattle.dx_state.specs.Configured.{configuration_at, found_at};
 ghost use Rattle.dx_step.specs.Lawful.{are_rules, is_there};
 ghost use Rattle.dx_engine.specs.Diagnosers.{guarded_rules, single_rules};
 
 use crate::loading::load_standing;
+use crate::rows::OpenRow;
 use crate::saving::save_standing;
+use crate::standing::StandingState;
 use dx_rules::{Configs, Guards, Rulebook, Ruled};
-use dx_standing::{OpenRow, StandingState};
 use ev_graph::{Graph, NoMemory};
 use fm_core::{LoadFault, Module};
 use fm_entry::{Entry, ListEvent};
@@ -29,10 +30,10 @@ pub struct Diagnoser {
 
 impl Model for Diagnoser {
     ghost use Rattle.dx_rules.specs.Rulebooks.{rules_in};
-    ghost use Rattle.dx_standing.specs.Standing.{IsStanding};
+    ghost use Rattle.dx_engine.specs.Standing.{IsStanding};
     ghost use Rattle.dx_engine.specs.Diagnosers.{DiagnoserOf};
     ghost use Rattle.dx_rules.specs.contracts.rulebook.Rulebook as rulebook;
-    ghost use Rattle.dx_standing.specs.contracts.standing.StandingState as standing_row;
+    ghost use Rattle.dx_engine.specs.contracts.standing.StandingState as standing_row;
     ghost use Rattle.std.specs.Coded.{codes};
 
     ghost Value = { DiagnoserOf };
@@ -45,7 +46,7 @@ impl Model for Diagnoser {
 }
 
 impl Diagnoser {
-    /// The module with these rules, as `dx_standing::can_begin` asks, to which nothing has
+    /// The module with these rules, as [`can_begin`](crate::can_begin) asks, to which nothing has
     /// happened.
     pub fn with_rules(alloc: Global, rules: Rulebook) -> Result<Diagnoser, NoMemory>
         requires rules { IsTrue (are_rules (rules_in rules)) }
@@ -123,7 +124,7 @@ impl Module for Diagnoser {
     ghost use Rattle.fm_core.specs.Meaning.{Diagnosing};
     ghost use Rattle.dx_meaning.specs.DiagnoserMeaning.{diagnoser_meaning};
     ghost use Rattle.dx_rules.specs.Rulebooks.{rules_in};
-    ghost use Rattle.dx_standing.specs.Standing.{state_of};
+    ghost use Rattle.dx_engine.specs.Standing.{state_of};
 
     ghost meaning = { λ d. diagnoser_meaning (rules_in d.rules) };
 

@@ -8,13 +8,13 @@ ghost use Rattle.dx_state.specs.Configured.{Rules};
 ghost use Rattle.dx_state.specs.StateBytes.{diagnosis_bytes};
 ghost use Rattle.dx_step.specs.Lawful.{are_rules};
 ghost use Rattle.dx_turn.specs.Standing.{still_of};
-ghost use Rattle.dx_standing.specs.Standing.{kept_parts, state_of, AreStanding, IsStanding};
+ghost use Rattle.dx_engine.specs.Standing.{kept_parts, state_of, AreStanding, IsStanding};
 ghost use Rattle.dx_engine.specs.Diagnosers.{standing_parts};
 
+use crate::standing::StandingState;
 use dx_case::Case;
 use dx_restore::{Loaded, load};
 use dx_rules::Rulebook;
-use dx_standing::StandingState;
 use dx_turn::Tracked;
 use ev_graph::NoMemory;
 use fm_core::LoadFault;

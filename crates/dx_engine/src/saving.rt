@@ -7,12 +7,12 @@ ghost use Rattle.dx_restore.specs.Saving.{IsShortCase};
 ghost use Rattle.dx_rules.specs.Rulebooks.{rules_in};
 ghost use Rattle.dx_state.specs.StateBytes.{diagnosis_bytes};
 ghost use Rattle.dx_turn.specs.Tracking.{kept_of};
-ghost use Rattle.dx_standing.specs.Standing.{state_of, IsStanding};
+ghost use Rattle.dx_engine.specs.Standing.{state_of, IsStanding};
 
+use crate::standing::StandingState;
 use dx_kept::KeptCase;
 use dx_restore::{Parts, kept_case, save};
 use dx_rules::Rulebook;
-use dx_standing::StandingState;
 use dx_turn::Tracked;
 use ev_graph::NoMemory;
 use std::alloc::Global;

@@ -7,16 +7,17 @@ ghost use Rattle.dx_live.specs.Cuts.{CutsValue, mark_place, cut_at, AreStarts, A
 
 use crate::region::{number_at, place_among};
 use ev_graph::{CutTest, Incidence, NoMemory};
+use smallvec::SmallVec;
 use std::alloc::Global;
 use std::marker::Model;
 
 /// A mark for each effect of each instance of an incidence. It takes a byte an effect and 4 an
-/// instance.
+/// instance, in the value itself where there are at most four of them.
 #[derive(Drop)]
 pub struct Cuts {
     /// Where the marks of each instance begin.
-    starts: Vec<u32>,
-    marks: Vec<bool>,
+    starts: SmallVec<u32, 4>,
+    marks: SmallVec<bool, 4>,
     /// Whether some link may be cut: where none is, no mark is looked for.
     is_marked: bool,
 }
@@ -34,11 +35,11 @@ impl Model for Cuts {
         c.is_marked ≡ false → (e : ℕ) → has_mark c.marks.items e ≡ false };
 }
 
-fn starts_of(alloc: Global, table: &Incidence) -> Result<(Vec<u32>, u32), NoMemory>
+fn starts_of(alloc: Global, table: &Incidence) -> Result<(SmallVec<u32, 4>, u32), NoMemory>
     ensures { IfOk result (λ made. AreStarts (length table.now.effects) table.now.effects
         made.0.items made.1) }
 {
-    let mut starts = Vec::new(alloc);
+    let mut starts = SmallVec::new(alloc);
     let mut total = 0;
     let count = table.count() as u32;
     for place in 0..count {
@@ -60,7 +61,7 @@ impl Cuts {
         ensures none { IfOk result (λ cuts. (e : ℕ) → has_mark cuts.marks e ≡ false) }
     {
         let (starts, total) = starts_of(alloc, table)?;
-        let marks = vec![in alloc; false; total as usize]?;
+        let marks = SmallVec::from_elem(alloc, false, total as usize)?;
         Ok(Cuts {
             starts,
             marks,
@@ -72,8 +73,8 @@ impl Cuts {
     pub fn copy(&self, alloc: Global) -> Result<Cuts, NoMemory>
         ensures { IfOk result (λ cuts. cuts ≡ self.now) }
     {
-        let starts = Vec::from_slice(alloc, self.starts.as_slice())?;
-        let marks = Vec::from_slice(alloc, self.marks.as_slice())?;
+        let starts = SmallVec::from_slice(alloc, self.starts.as_slice())?;
+        let marks = SmallVec::from_slice(alloc, self.marks.as_slice())?;
         Ok(Cuts {
             starts,
             marks,

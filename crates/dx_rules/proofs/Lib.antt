@@ -1,3 +1,5 @@
+pub mod Asking
+pub mod Alike
 mod Declaring
 mod Indexing
 mod Naming

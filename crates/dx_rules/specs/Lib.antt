@@ -1,3 +1,4 @@
+pub mod Payloads
 pub mod Classes
 pub mod ReportIndex
 pub mod Rulebooks

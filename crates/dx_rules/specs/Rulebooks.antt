@@ -3,7 +3,7 @@ use Rattle.std.specs.Prelude.{map, Option, Some, None}
 use Rattle.ev_inst.specs.Guards.{GuardsValue}
 use Rattle.dx_state.specs.Configured.{Configuration, Configurations, Guarding, Single, Listed}
 use Rattle.dx_state.specs.Configured.{Rules, unguarded}
-use Rattle.dx_guards.specs.Payloads.{guarding_of}
+use Rattle.dx_rules.specs.Payloads.{guarding_of}
 use Rattle.dx_rules.specs.declared.rulebook.Configs.{Configs}
 use Rattle.dx_rules.specs.declared.rulebook.Configs.TheVariants.{Single as SingleOf}
 use Rattle.dx_rules.specs.declared.rulebook.Configs.TheVariants.{Listed as ListedOf}

@@ -5,9 +5,9 @@ ghost use Rattle.dx_step.specs.Reports.{declares};
 ghost use Rattle.dx_rules.specs.Classes.{is_class_among};
 ghost use Rattle.dx_rules.specs.ReportIndex.{IndexesReports};
 
+use crate::breaking::broken_links;
 use crate::classes::Classes;
 use crate::report_index::ReportIndex;
-use dx_guards::broken_links;
 use ev_graph::{CutTest, Graph, Link, NoMemory};
 use ev_inst::Guards;
 use fm_name::{Class, Fmri};

@@ -7,22 +7,23 @@ ghost use Rattle.ev_graph.specs.Sets.{has_mark};
 ghost use Rattle.dx_sets.specs.Sets.{SetsValue, removed};
 
 use ev_graph::NoMemory;
+use smallvec::SmallVec;
 use std::alloc::Global;
 use std::marker::Model;
 
 /// A set of nodes that shrinks, and what is counted of it. It takes 9 bytes a node and 8 an
-/// instance.
+/// instance, in the value itself where there are at most four of them.
 #[derive(Drop)]
 pub struct Sets {
-    marks: Vec<bool>,
+    marks: SmallVec<bool, 4>,
     /// The nodes that have left the set, in that order. There is a place for each node.
-    gone: Vec<u32>,
+    gone: SmallVec<u32, 4>,
     /// How many have left, and how many of these were looked at.
     left: usize,
     looked: usize,
-    causes_left: Vec<u32>,
-    effects_left: Vec<u32>,
-    support: Vec<u32>,
+    causes_left: SmallVec<u32, 4>,
+    effects_left: SmallVec<u32, 4>,
+    support: SmallVec<u32, 4>,
 }
 
 impl Model for Sets {
@@ -71,11 +72,11 @@ impl Sets {
           support = replicate nodes 0;
         }) }
     {
-        let marks = vec![in alloc; false; nodes]?;
-        let gone = vec![in alloc; 0; nodes]?;
-        let causes_left = vec![in alloc; 0; count]?;
-        let effects_left = vec![in alloc; 0; count]?;
-        let support = vec![in alloc; 0; nodes]?;
+        let marks = SmallVec::from_elem(alloc, false, nodes)?;
+        let gone = SmallVec::from_elem(alloc, 0, nodes)?;
+        let causes_left = SmallVec::from_elem(alloc, 0, count)?;
+        let effects_left = SmallVec::from_elem(alloc, 0, count)?;
+        let support = SmallVec::from_elem(alloc, 0, nodes)?;
         Ok(Sets {
             marks,
             gone,
@@ -91,11 +92,11 @@ impl Sets {
     pub fn copy(&self, alloc: Global) -> Result<Sets, NoMemory>
         ensures { IfOk result (λ sets. sets ≡ self.now) }
     {
-        let marks = Vec::from_slice(alloc, self.marks.as_slice())?;
-        let gone = Vec::from_slice(alloc, self.gone.as_slice())?;
-        let causes_left = Vec::from_slice(alloc, self.causes_left.as_slice())?;
-        let effects_left = Vec::from_slice(alloc, self.effects_left.as_slice())?;
-        let support = Vec::from_slice(alloc, self.support.as_slice())?;
+        let marks = SmallVec::from_slice(alloc, self.marks.as_slice())?;
+        let gone = SmallVec::from_slice(alloc, self.gone.as_slice())?;
+        let causes_left = SmallVec::from_slice(alloc, self.causes_left.as_slice())?;
+        let effects_left = SmallVec::from_slice(alloc, self.effects_left.as_slice())?;
+        let support = SmallVec::from_slice(alloc, self.support.as_slice())?;
         Ok(Sets {
             marks,
             gone,

@@ -43,7 +43,7 @@ use Rattle.fm_admin.specs.Repairing.{RepairsBook, TakeRefused, TakesAndTells}
 use Rattle.fm_admin.specs.Repairing.{TookOne}
 use Rattle.fm_admin.specs.Telling.{AreHandsAndStatus, IsDrainedOf, StandsTold, TellsBook}
 use Rattle.fm_admin.specs.Telling.{TellRefused, WasDrained}
-use Rattle.fm_admin.specs.declared.marking.RepairOrder.{RepairOrder}
+use Rattle.fm_command.specs.declared.request.RepairOrder.{RepairOrder}
 use Rattle.fm_admin.specs.declared.repairing.Repaired.{Repaired}
 use Rattle.fm_admin.proofs.Repairs.{accepted_alike}
 use Rattle.fm_admin.proofs.Tellings.{drained_same, refused_on, tell_full, told_on}

@@ -15,7 +15,7 @@ use Rattle.fm_settled.specs.BaseLimits.{CheckpointIsFull, Figures}
 use Rattle.fm_store.specs.StoreOf.{StoreOf}
 use Rattle.fm_admin.specs.Marking.{IsEntryBy}
 use Rattle.fm_admin.specs.Telling.{IsDrainedOf}
-use Rattle.fm_admin.specs.declared.marking.RepairOrder.{RepairOrder}
+use Rattle.fm_command.specs.declared.request.RepairOrder.{RepairOrder}
 
 -- A drain reaches this limit, or the rotation that follows it: no journal begins at 2^46, or else
 -- there is no room for a checkpoint of the drained book.

@@ -15,8 +15,8 @@ use Rattle.fm_entry.specs.declared.entry.Entry.TheVariants as entry
 use Rattle.fm_entry.specs.declared.list_event.ListEvent.{ListEvent}
 use Rattle.fm_settled.specs.CaseStatus.{IsStatusOf}
 use Rattle.fm_admin.specs.Rows.{row_with}
-use Rattle.fm_admin.specs.declared.marking.Repair.{Repair}
-use Rattle.fm_admin.specs.declared.marking.Repair.TheVariants.{Repaired, Replaced, Acquit}
+use Rattle.fm_command.specs.declared.request.Repair.{Repair}
+use Rattle.fm_command.specs.declared.request.Repair.TheVariants.{Repaired, Replaced, Acquit}
 
 -- the last words of the solved cases of a state
 abbrev pub solved_of : State → List ListEvent

@@ -20,7 +20,7 @@ use Rattle.fm_summary.specs.DrainedSummary.{AreWantedOf}
 use Rattle.fm_admin.specs.Limits.{RepairLimit}
 use Rattle.fm_admin.specs.Marking.{IsEntryBy}
 use Rattle.fm_admin.specs.Telling.{TellRefused, TellsBook, WasDrained}
-use Rattle.fm_admin.specs.declared.marking.RepairOrder.{RepairOrder}
+use Rattle.fm_command.specs.declared.request.RepairOrder.{RepairOrder}
 use Rattle.fm_admin.specs.declared.repairing.Repaired.{Repaired}
 
 -- The entry was taken, and then the store was drained: `between` is the store after the entry.

@@ -20,7 +20,6 @@ mod telling;
 
 pub use dumping::{dump_errors, dump_faults};
 pub use explaining::explain;
-pub use marking::{Repair, RepairOrder};
 pub use repairing::{Repaired, repair};
 pub use rotating::rotate_drained;
 pub use telling::tell_faulty;

@@ -10,29 +10,12 @@ use crate::named_rows::find_row;
 use dx_engine::Diagnoser;
 use dx_said::{AtPath, Choice, OfCase, UnderPath, marks_any};
 use fm_bytes::NoMemory;
+use fm_command::{Repair, RepairOrder};
 use fm_core::Hand;
 use fm_entry::{CaseName, Entry, ListEvent};
-use fm_name::Fmri;
 use fm_status::Status;
 use std::alloc::Global;
 use uuid::Uuid;
-
-/// What an operator says: the resource at a path was repaired; it was replaced, with all below it;
-/// or the suspects of the case with a UUID are acquitted.
-#[derive(Drop)]
-pub enum Repair {
-    Repaired(Fmri),
-    Replaced(Fmri),
-    Acquit(Uuid),
-}
-
-/// What an operator says, when, and the namespace of the UUIDs of cases.
-#[derive(Drop)]
-pub struct RepairOrder {
-    pub namespace: [u8; 16],
-    pub moment: u64,
-    pub repair: Repair,
-}
 
 /// The last words of the solved cases of a hand's module.
 fn solved_by(hand: &Hand<Diagnoser>) -> &[ListEvent]

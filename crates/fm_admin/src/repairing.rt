@@ -15,10 +15,11 @@ ghost use Rattle.fm_store.specs.StoreLeft.{AreSameStore};
 ghost use Rattle.fm_store.specs.StoreOf.{StoreStandsFor};
 ghost use Rattle.dx_engine.specs.Diagnosers.{diagnosers};
 
-use crate::marking::{RepairOrder, entry_by};
+use crate::marking::entry_by;
 use crate::telling::drain_status;
 use dx_engine::Diagnoser;
 use fm_bytes::NoMemory;
+use fm_command::RepairOrder;
 use fm_core::{Hand, Module};
 use fm_entry::Entry;
 use fm_outer::Disk;

@@ -5,8 +5,8 @@ use Rattle.std.specs.Option.{option_map}
 use Rattle.std.specs.Str.{bytes_eq}
 use Rattle.uuid.specs.Text.{parsed}
 use Rattle.fm_bytes.specs.Decimals.{digits_within}
-use Rattle.fm_admin.specs.declared.marking.Repair.{Repair as Said}
-use Rattle.fm_admin.specs.declared.marking.Repair.TheVariants.{Repaired, Replaced, Acquit}
+use Rattle.fm_command.specs.declared.request.Repair.{Repair as Said}
+use Rattle.fm_command.specs.declared.request.Repair.TheVariants.{Repaired, Replaced, Acquit}
 use Rattle.fm_dump.specs.Options.{dump_options}
 use Rattle.fm_name.specs.Path.{is_path}
 use Rattle.fm_esc.specs.declared.graphs.GraphForm.TheVariants.{Listed, Compiled}

@@ -14,5 +14,5 @@
 mod request;
 mod words;
 
-pub use request::RepairRequest;
+pub use request::{Repair, RepairOrder, RepairRequest};
 pub use words::{AdminCommand, Command, command_of};

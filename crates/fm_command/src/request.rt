@@ -1,9 +1,27 @@
 // What an operator says of repairs, and when.
 ghost use Rattle.std.specs.Prelude.{◌≡◌, ◌<◌, ◌^◌, IfOk};
 
-use fm_admin::{Repair, RepairOrder};
 use fm_bytes::NoMemory;
+use fm_name::Fmri;
 use std::marker::Model;
+use uuid::Uuid;
+
+/// What an operator says: the resource at a path was repaired; it was replaced, with all below it;
+/// or the suspects of the case with a UUID are acquitted.
+#[derive(Drop)]
+pub enum Repair {
+    Repaired(Fmri),
+    Replaced(Fmri),
+    Acquit(Uuid),
+}
+
+/// What an operator says, when, and the namespace of the UUIDs of cases.
+#[derive(Drop)]
+pub struct RepairOrder {
+    pub namespace: [u8; 16],
+    pub moment: u64,
+    pub repair: Repair,
+}
 
 /// What an operator says of repairs, at a moment that an entry can have.
 #[derive(Drop)]

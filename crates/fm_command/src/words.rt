@@ -8,8 +8,7 @@ ghost use Rattle.fm_command.specs.Words.{fmadm_with};
 ghost use Rattle.fm_command.specs.Words.{fmd_with, generate_with, lines_with, path_of, repair_with};
 ghost use Rattle.fm_command.specs.Words.{short_command};
 
-use crate::request::RepairRequest;
-use fm_admin::Repair;
+use crate::request::{Repair, RepairRequest};
 use fm_bytes::NoMemory;
 use fm_dump::{DumpFault, DumpOptions, read_options};
 use fm_esc::GraphForm;

@@ -24,7 +24,7 @@ use Rattle.dx_meaning.specs.Fresh.{fresh_of}
 use Rattle.dx_rules.specs.Rulebooks.{ruled_of, rules_in}
 use Rattle.dx_rules.specs.declared.rulebook.Rulebook.{Rulebook}
 use Rattle.dx_rules.specs.declared.ruled.Ruled.{Ruled}
-use Rattle.dx_standing.specs.Standing.{state_of}
+use Rattle.dx_engine.specs.Standing.{state_of}
 use Rattle.dx_state.specs.Configured.{Configuration, or_none}
 use Rattle.dx_step.specs.Longer.{rules_of}
 use Rattle.fm_modules.specs.KeptTexts.{ConfMakes, EachHas, TextMakes, conf_row, conf_rows}

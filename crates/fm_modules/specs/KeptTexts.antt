@@ -16,7 +16,7 @@ use Rattle.ev_inst.specs.Instances.{IsInstFault, IsMadeOf}
 use Rattle.ev_inst.specs.declared.fault.InstFault.TheVariants.{Nodes, Links}
 use Rattle.dx_rules.specs.Rulebooks.{ruled_of}
 use Rattle.dx_state.specs.Configured.{Configuration, Guarding}
-use Rattle.dx_guards.specs.Payloads.{guarding_of}
+use Rattle.dx_rules.specs.Payloads.{guarding_of}
 use Rattle.fm_modules.specs.declared.kept.MadeConf.{MadeConf}
 use Rattle.fm_modules.specs.declared.fault.KeptFault.{KeptFault}
 use Rattle.fm_modules.specs.declared.fault.KeptFault.TheVariants.{Refused, NoMemory}

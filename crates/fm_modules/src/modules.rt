@@ -13,9 +13,8 @@ ghost use Rattle.dx_engine.specs.Diagnosers.{diagnosers};
 
 use crate::fault::ModulesFault;
 use crate::kept::{MadeConf, read_confs};
-use dx_engine::Diagnoser;
+use dx_engine::{Diagnoser, can_begin};
 use dx_rules::{Configs, Rulebook, Ruled};
-use dx_standing::can_begin;
 use fm_bytes::NoMemory;
 use fm_saved::Conf;
 use std::alloc::Global;

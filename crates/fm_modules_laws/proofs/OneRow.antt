@@ -13,7 +13,7 @@ use Rattle.ev_inst.specs.Guards.{AreGuardsOf}
 use Rattle.ev_inst.specs.Instances.{IsGraphOf}
 use Rattle.ev_inst.proofs.GuardsAlike.{guards_alike}
 use Rattle.ev_inst_laws.proofs.OneGraph.{graphs_one}
-use Rattle.dx_guards.proofs.Alike.{same_guarding}
+use Rattle.dx_rules.proofs.Alike.{same_guarding}
 use Rattle.dx_state.specs.Configured.{Configuration}
 use Rattle.fm_sources.specs.Rules.{IsRuleFile}
 use Rattle.fm_sources_laws.proofs.OneFile.{rule_files_one}

@@ -5,8 +5,8 @@ use Rattle.std.proofs.Common.{Result, Ok, Err, OnOk}
 use Rattle.std.proofs.lemmas.List.{map-append, take_more}
 use Rattle.std.proofs.lemmas.List.Concat.{flat_map-append}
 use Rattle.std.specs.List.{slice_get}
-use Rattle.dx_standing.specs.Rows.{row_of}
-use Rattle.dx_standing.specs.declared.rows.OpenRow.{OpenRow}
+use Rattle.dx_engine.specs.Rows.{row_of}
+use Rattle.dx_engine.specs.declared.rows.OpenRow.{OpenRow}
 use Rattle.fm_adm.specs.Summary.{IsSummary}
 use Rattle.fm_adm.specs.declared.summary.OpenReports.{OpenReports}
 use Rattle.fm_core.specs.Book.{Book, ModuleState, next_number}

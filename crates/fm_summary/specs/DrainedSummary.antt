@@ -1,6 +1,6 @@
 -- The summary of a drained book, and what it wants out of use.
 use Rattle.std.specs.Prelude.{ℕ, ◌+◌, List, [], ◌∷◌, ◌++◌, length, map}
-use Rattle.dx_standing.specs.declared.rows.OpenRow.{OpenRow}
+use Rattle.dx_engine.specs.declared.rows.OpenRow.{OpenRow}
 use Rattle.fm_adm.specs.Summary.{IsSummary}
 use Rattle.fm_adm.specs.declared.summary.OpenReports.{OpenReports}
 use Rattle.fm_core.specs.Drained.{Drained, Ended}

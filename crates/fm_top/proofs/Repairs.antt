@@ -8,7 +8,7 @@ use Rattle.fm_admin.specs.Repairing.{IsRepairedBy, RepairDid, RepairFollows}
 use Rattle.fm_admin.specs.Repairing.{RepairRefused, RepairsBook, TakeRefused, TakesAndTells}
 use Rattle.fm_admin.specs.Repairing.{TookAndDrained}
 use Rattle.fm_admin.specs.Telling.{TellsBook, WasDrained}
-use Rattle.fm_admin.specs.declared.marking.RepairOrder.{RepairOrder}
+use Rattle.fm_command.specs.declared.request.RepairOrder.{RepairOrder}
 use Rattle.fm_admin.specs.declared.repairing.Repaired.{Repaired}
 use Rattle.fm_answers.specs.Stops.{of_store}
 use Rattle.fm_answers.specs.declared.stops.Stop.{Stop}

@@ -1,7 +1,7 @@
 -- The entry that an operator's word on repairs comes to, by the book that the contents read as.
 use Rattle.std.specs.Prelude.{◌≡◌, Option, Some, None, slice_get}
 use Rattle.fm_admin.specs.Marking.{IsEntryBy}
-use Rattle.fm_admin.specs.declared.marking.RepairOrder.{RepairOrder}
+use Rattle.fm_command.specs.declared.request.RepairOrder.{RepairOrder}
 use Rattle.fm_command.specs.RepairAsked.{RepairAsked}
 use Rattle.fm_core.specs.Drained.{drained}
 use Rattle.fm_entry.specs.declared.entry.Entry.{Entry}

@@ -67,7 +67,6 @@ mod tasks;
 
 pub use call::tool;
 pub use fm_act::{ActFault, Actuator};
-pub use fm_admin::Repair;
 pub use fm_answers::{Stop, ToolStatus};
-pub use fm_command::{AdminCommand, Command, RepairRequest};
+pub use fm_command::{AdminCommand, Command, Repair, RepairRequest};
 pub use fm_init::{DiskName, Disks};

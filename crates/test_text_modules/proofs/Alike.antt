@@ -5,7 +5,7 @@ use Rattle.dx_engine.specs.Diagnosers.{DiagnoserOf, diagnosers}
 use Rattle.dx_meaning.specs.DiagnoserMeaning.{diagnoser_meaning}
 use Rattle.dx_meaning.specs.Fresh.{fresh_of}
 use Rattle.dx_rules.specs.Rulebooks.{rules_in}
-use Rattle.dx_standing.specs.Standing.{state_of}
+use Rattle.dx_engine.specs.Standing.{state_of}
 use Rattle.dx_state.specs.Configured.{Rules}
 use Rattle.test_text_modules.specs.Alike.{AreTwins}
 

@@ -2,16 +2,15 @@
 ghost use Rattle.std.specs.Prelude.{◌≡◌, IfOk, IsTrue};
 ghost use Rattle.dx_meaning.specs.Fresh.{fresh_of};
 ghost use Rattle.dx_rules.specs.Rulebooks.{configurations_of, ruled_of, rules_in};
-ghost use Rattle.dx_standing.specs.Standing.{state_of};
+ghost use Rattle.dx_engine.specs.Standing.{state_of};
 ghost use Rattle.dx_state.specs.Configured.{Single};
 ghost use Rattle.dx_step.specs.Lawful.{are_rules};
 ghost use Rattle.test_text_modules.specs.Alike.{AreTwins, rules_with};
 ghost use Rattle.dx_engine.specs.Diagnosers.{diagnosers};
 
 use crate::setup::Setup;
-use dx_engine::{Diagnoser, NoMemory};
+use dx_engine::{Diagnoser, NoMemory, can_begin};
 use dx_rules::{Configs, Rulebook, Ruled};
-use dx_standing::can_begin;
 use ev_inst::{Guards, instantiate, make_guards};
 use fm_sources::read_rules;
 use fm_topo::read_topo;

@@ -1,7 +1,7 @@
 use Rattle.std.proofs.Common.{◌∙◌, ap, sym, subst}
 use Rattle.dx_rules.specs.Rulebooks.{rules_in}
 use Rattle.dx_state.specs.StateBytes.{diagnosis_bytes}
-use Rattle.dx_standing.specs.Standing.{stands_for, AreStanding}
+use Rattle.dx_engine.specs.Standing.{stands_for, AreStanding}
 use Rattle.dx_engine.proofs.Loads.{loaded_same, loaded_stands}
 use Rattle.dx_engine.proofs.loading.load_standing.Goals as goal
 

@@ -7,7 +7,7 @@ use Rattle.dx_restore.specs.declared.parts.Parts.{Parts}
 use Rattle.dx_restore.specs.Saving.{IsLawfulSomewhere}
 use Rattle.dx_state.specs.StateBytes.{diagnosis_bytes}
 use Rattle.dx_turn.specs.Tracking.{kept_of}
-use Rattle.dx_standing.specs.Standing.{kept_parts}
+use Rattle.dx_engine.specs.Standing.{kept_parts}
 use Rattle.dx_engine.proofs.Saves.{somewhere, short_cases, ArePartsToSave, saved_state}
 use Rattle.dx_engine.proofs.saving.save_standing.Goals as goal
 

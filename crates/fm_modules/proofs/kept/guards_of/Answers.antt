@@ -2,8 +2,8 @@
 use Rattle.std.proofs.Common.{refl, subst, sym, ◌∙◌}
 use Rattle.fm_topo.specs.Topology.{Topology}
 use Rattle.ev_inst.specs.Guards.{AreGuardsOf}
-use Rattle.dx_guards.specs.Payloads.{guarding_of}
-use Rattle.dx_guards.proofs.Alike.{none_guarded}
+use Rattle.dx_rules.specs.Payloads.{guarding_of}
+use Rattle.dx_rules.proofs.Alike.{none_guarded}
 use Rattle.fm_modules.proofs.Guarding.{none_long}
 use Rattle.fm_modules.proofs.kept.guards_of.Goals as goal
 

@@ -1,6 +1,6 @@
 -- The rows of a module are its open cases.
 use Rattle.std.proofs.Common.{◌≡◌, ◌++◌, OnOk, ◌∙◌, subst}
-use Rattle.dx_standing.specs.Standing.{state_of}
+use Rattle.dx_engine.specs.Standing.{state_of}
 use Rattle.fm_summary.proofs.OpenCases.{rows_are}
 use Rattle.fm_summary.proofs.open_cases.push_open_reports.Goals as goal
 

@@ -1,5 +1,5 @@
 use Rattle.dx_rules.specs.Rulebooks.{rules_in}
-use Rattle.dx_standing.specs.Standing.{state_of}
+use Rattle.dx_engine.specs.Standing.{state_of}
 use Rattle.dx_step.proofs.Stepping.{lawful_is}
 use Rattle.dx_engine.proofs.diagnoser.Diagnoser.graph.Goals as goal
 

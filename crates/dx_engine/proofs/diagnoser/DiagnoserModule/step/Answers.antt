@@ -5,7 +5,7 @@ use Rattle.fm_entry.specs.Words.{IsWordOf}
 use Rattle.fm_entry.specs.declared.list_event.ListEvent.{ListEvent}
 use Rattle.fm_core.specs.Meaning.{Diagnosing}
 use Rattle.dx_rules.specs.Rulebooks.{rules_in}
-use Rattle.dx_standing.specs.Standing.{state_of}
+use Rattle.dx_engine.specs.Standing.{state_of}
 use Rattle.dx_step.proofs.Module.{says_words}
 use Rattle.dx_engine.proofs.diagnoser.DiagnoserModule.step.Goals as goal
 

@@ -1,5 +1,5 @@
 use Rattle.std.proofs.Common.{sym, ap, ◌∙◌}
-use Rattle.dx_guards.proofs.Alike.{same_guarding}
+use Rattle.dx_rules.proofs.Alike.{same_guarding}
 use Rattle.dx_rules.specs.Rulebooks.{guarding_if_any}
 use Rattle.dx_rules.proofs.ruled.Ruled.copy_guards.Goals as goal
 

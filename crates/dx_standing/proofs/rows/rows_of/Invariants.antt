@@ -1,7 +1,0 @@
-use Rattle.std.proofs.Common.{◌≡◌, take}
-use Rattle.dx_turn.specs.Tracking.{kept_of}
-use Rattle.dx_standing.specs.Rows.{rows_of}
-use Rattle.dx_standing.proofs.rows.rows_of.Given as goal
-
-abbrev pub invariant-loop-tracked : goal.invariant-loop-tracked
-invariant-loop-tracked l = l.rows.items ≡ rows_of l.own (kept_of (take l.tracked-index l.cases))
