@@ -19,7 +19,7 @@ use Rattle.fm_top.specs.Calls.{IsCaused, Does}
 use Rattle.fm_top.specs.Headline.{Headline}
 use Rattle.fm_top.specs.Order.{Goes, looks, world_of}
 use Rattle.fm_top.specs.Outside.{Outside, counts_of}
-use Rattle.fm_top.proofs.Doing.{Rests, quiet_counts}
+use Rattle.fm_top.proofs.Doing.{Rests, quiet_counts, rests_put, unopened}
 use Rattle.fm_top.proofs.Escs.{ok_no_err, text_caused}
 use Rattle.fm_top.proofs.Going.{put_goes, unopened_goes, worked_goes}
 use Rattle.fm_top.proofs.Texts.{like_drained}
@@ -99,12 +99,8 @@ module _ (asked : AdminCommand) (before after : Outside) where
       })
   tell_headline ran unread (inr untold) =
       elim untold.store.went [
-        | inl unopened ↦ inl (record {
-          refused = subst (λ r. OnOk r ⊥) (sym untold.told) tt;
-          unread = unread;
-          unsaid = untold.unsaid;
-          left = λ image leaves name. (unopened.untouched name).images _ (leaves name);
-        })
+        | inl before_it ↦
+            inl (unopened before after ran untold.stop untold.told unread untold.unsaid before_it.untouched)
         | inr opened ↦ inr opened.holds
       ]
 
@@ -114,15 +110,13 @@ pub does_tell : (asked : AdminCommand) (before after : Outside) (middle : SinkAt
     → EndsAs middle after.out ran result → Rests before after → after.input ≡ before.input
     → Does (Some (Admin asked)) before after result
 does_tell asked before after middle ran result did ends rests unread =
-    let mid : Outside = record after { out = middle } in
-    let still : Rests before mid =
-    record { rules = rests.rules; topo = rests.topo; acts = rests.acts } in (
+    let mid : Outside = record after { out = middle } in (
       ran,
       middle,
       record {
         order = tell_goes asked before mid ran did;
         cause = tell_caused asked before mid ran did;
-        quiet = tell_quiet asked before mid ran still unread did;
+        quiet = tell_quiet asked before mid ran (rests_put before after middle rests) unread did;
         did = did;
         headline = tell_headline asked before mid ran unread did;
       },

@@ -16,7 +16,8 @@ use Rattle.fm_command.specs.declared.words.Command.TheVariants.{Accept, Replay}
 use Rattle.fm_logs.specs.Contents.{Contents}
 use Rattle.fm_top.specs.Accepting.{AcceptRan, AcceptedUntil, Grew, NotOpened, OpeningStops}
 use Rattle.fm_top.specs.Calls.{IsCaused, Does, Handed, WorksOn}
-use Rattle.fm_top.specs.Headline.{AreFromBefore}
+use Rattle.fm_top.specs.Headline.{AreFromBefore, Unopened}
+use Rattle.fm_top.specs.Init.{AreUnwritten}
 use Rattle.fm_top.specs.Kept.{BookAt}
 use Rattle.fm_top.specs.Order.{Goes, IsOutsideFault, IsLimit, looks, world_of}
 use Rattle.fm_top.specs.Outside.{Outside, Tells, disk_counts, counts_of}
@@ -103,6 +104,23 @@ pub record Rests (before after : Outside) : Type 0 where
   pub topo : after.topo ≡ before.topo
   pub acts : after.acts ≡ before.acts
 
+-- that stays so, whatever is put then
+pub rests_put : (before after : Outside) (middle : SinkAt) → Rests before after
+    → Rests before (record after { out = middle })
+rests_put before after middle rests =
+    record { rules = rests.rules; topo = rests.topo; acts = rests.acts }
+
+-- nothing was called that is of the store, but for reads
+pub unopened : (before after : Outside) (ran : Result (Unit {0}) Stop) (stop : Stop)
+    → ran ≡ Err stop → after.input ≡ before.input → after.out ≡ before.out
+    → AreUnwritten before.disks after.disks → Unopened before after ran
+unopened before after ran stop told unread unsaid untouched = record {
+  refused = subst (λ r. OnOk r ⊥) (sym told) tt;
+  unread = unread;
+  unsaid = unsaid;
+  left = λ image leaves name. (untouched name).images _ (leaves name);
+}
+
 -- the counts of a command that is done
 pub quiet_counts : (before after : Outside) → Rests before after
     → after.input.failures ≡ before.input.failures → after.out.failures ≡ before.out.failures
@@ -134,8 +152,7 @@ does_accept before after middle ran result did ends rests =
       record {
         order = accept_goes before mid ran did;
         cause = accept_caused before mid ran did;
-        quiet = accept_quiet before mid ran
-            (record { rules = rests.rules; topo = rests.topo; acts = rests.acts }) did;
+        quiet = accept_quiet before mid ran (rests_put before after middle rests) did;
         did = did;
         headline = headline_accept before mid ran did;
       },
@@ -209,7 +226,7 @@ does_replay before after middle ran result all until input out ends rests disks 
     order = replay_goes before (record after { out = middle }) _ _ _ ran until;
     cause = replay_caused before (record after { out = middle }) _ _ _ ran until input out;
     quiet = replay_quiet before (record after { out = middle }) ran
-        (record { rules = rests.rules; topo = rests.topo; acts = rests.acts }) disks input out;
+        (rests_put before after middle rests) disks input out;
     did = record { went = both ran _ _ all until; counts_input = input; counts_out = out };
     headline = same;
   },

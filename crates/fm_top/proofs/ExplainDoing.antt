@@ -19,7 +19,7 @@ use Rattle.fm_top.specs.Headline.{Headline, HoldsOfBook, LikeBook}
 use Rattle.fm_top.specs.Limits.{draining_limit}
 use Rattle.fm_top.specs.Order.{Goes, at_row, looks, world_of}
 use Rattle.fm_top.specs.Outside.{Outside, counts_of}
-use Rattle.fm_top.proofs.Doing.{Rests, quiet_counts}
+use Rattle.fm_top.proofs.Doing.{Rests, quiet_counts, rests_put, unopened}
 use Rattle.fm_top.proofs.Escs.{ok_no_err, text_caused}
 use Rattle.fm_top.proofs.Going.{put_goes, unopened_goes, worked_goes}
 use Rattle.fm_top.proofs.Texts.{like_drained}
@@ -124,12 +124,8 @@ module _ (uuid : List ℕ) (before after : Outside) where
       inr (λ c tells. like_book c (Some told.text) (told.store.went c tells))
   explain_headline ran unread (inr untold) =
       elim untold.store.went [
-        | inl unopened ↦ inl (record {
-          refused = subst (λ r. OnOk r ⊥) (sym untold.told) tt;
-          unread = unread;
-          unsaid = untold.unsaid;
-          left = λ image leaves name. (unopened.untouched name).images _ (leaves name);
-        })
+        | inl before_it ↦
+            inl (unopened before after ran untold.stop untold.told unread untold.unsaid before_it.untouched)
         | inr opened ↦ inr (λ told tells. elim opened [
           | inl without ↦ like_book told _ (without.holds told tells)
           | inr stopped ↦ stopped.holds told tells
@@ -142,15 +138,13 @@ pub does_explain : (uuid : List ℕ) (before after : Outside) (middle : SinkAt)
     → EndsAs middle after.out ran result → Rests before after → after.input ≡ before.input
     → Does (Some (Explain uuid)) before after result
 does_explain uuid before after middle ran result did ends rests unread =
-    let mid : Outside = record after { out = middle } in
-    let still : Rests before mid =
-    record { rules = rests.rules; topo = rests.topo; acts = rests.acts } in (
+    let mid : Outside = record after { out = middle } in (
       ran,
       middle,
       record {
         order = explain_goes uuid before mid ran did;
         cause = explain_caused uuid before mid ran did;
-        quiet = explain_quiet uuid before mid ran still unread did;
+        quiet = explain_quiet uuid before mid ran (rests_put before after middle rests) unread did;
         did = did;
         headline = explain_headline uuid before mid ran unread did;
       },

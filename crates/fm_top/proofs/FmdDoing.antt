@@ -31,15 +31,14 @@ use Rattle.fm_top.specs.Accepting.{AcceptedAll, AcceptedUntil, NotOpened}
 use Rattle.fm_top.specs.Calls.{IsCaused, Does}
 use Rattle.fm_top.specs.Fmd.{ConcludingStops, FmdRan, KeepSame, SettlingEnds, SourcesRead}
 use Rattle.fm_top.specs.Fmd.{StoreDiffers, StoreRan, StoreStops}
-use Rattle.fm_top.specs.Headline.{HasEach, Headline, Unopened}
+use Rattle.fm_top.specs.Headline.{HasEach, Headline}
 use Rattle.fm_top.specs.Order.{AllPass, FirstFinds, Goes, at_store, at_same, looks, world_of}
-use Rattle.fm_top.specs.Init.{AreUnwritten}
 use Rattle.fm_top.specs.Kept.{BookAt}
 use Rattle.fm_top.specs.Limits.{WorkLimit}
 use Rattle.fm_top.specs.Outside.{Outside, Tells, Leaves, RoseAt, act_counts}
 use Rattle.fm_top.specs.Outside.{DisksAt, counts_of}
 use Rattle.fm_top.proofs.BookHeld.{HeldAfterOf, HeldOf, held_after_each}
-use Rattle.fm_top.proofs.Doing.{run_ends}
+use Rattle.fm_top.proofs.Doing.{run_ends, unopened}
 use Rattle.fm_top.proofs.Escs.{cause_caused, cause_goes, cause_standing, ok_no_err}
 use Rattle.fm_top.proofs.Going.{settled_goes}
 use Rattle.fm_top.proofs.Headlines.{until_held, whole_answered}
@@ -235,17 +234,6 @@ unfolding ended
 ended_none = refl
 
 module _ (before after : Outside) where
-  -- nothing was called that is of the store, but for reads
-  unopened : (ran : Result (Unit {0}) Stop) (stop : Stop) → ran ≡ Err stop
-      → after.input ≡ before.input → after.out ≡ before.out
-      → AreUnwritten before.disks after.disks → Unopened before after ran
-  unopened ran stop told unread unsaid untouched = record {
-    refused = subst (λ r. OnOk r ⊥) (sym told) tt;
-    unread = unread;
-    unsaid = unsaid;
-    left = λ image leaves name. (untouched name).images _ (leaves name);
-  }
-
   -- where all lines were answered, each image has the entries of all
   has_each : (told : Contents) → Tells before.disks told → (middle : SinkAt)
       → AcceptedAll before.input after.input before.out middle before.disks after.disks
@@ -317,7 +305,7 @@ module _ (before after : Outside) where
       → StoreStops before.input after.input before.out after.out before.disks after.disks got stop
       → Headline Fmd before after (Err stop)
   stops_headline got stop (inl refused) =
-      inl (unopened (Err stop) stop refl refused.consumed refused.put refused.untouched)
+      inl (unopened before after (Err stop) stop refl refused.consumed refused.put refused.untouched)
   stops_headline got stop (inr (inl other)) = inr (λ told tells.
       held_after_each before after told (Err stop)
       (held_after told stop (no_act_of got stop (inr (inl other)))

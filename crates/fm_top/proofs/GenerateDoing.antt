@@ -31,7 +31,7 @@ use Rattle.fm_top.specs.Limits.{concluding_limit}
 use Rattle.fm_top.specs.Order.{AllPass, Goes, at_early, at_store, world_of}
 use Rattle.fm_top.specs.Outside.{Outside, DisksAt, Tells, Leaves, counts_of}
 use Rattle.fm_top.proofs.BookHeld.{same_book}
-use Rattle.fm_top.proofs.Doing.{Rests, quiet_counts}
+use Rattle.fm_top.proofs.Doing.{Rests, quiet_counts, rests_put, unopened}
 use Rattle.fm_top.proofs.Escs.{ok_no_err, text_caused}
 use Rattle.fm_top.proofs.Going.{put_goes, settled_goes, unopened_goes, worked_goes}
 use Rattle.fm_top.proofs.FmdDoing.{acts_quiet, settled_caused}
@@ -324,12 +324,8 @@ module _ (number : ℕ) (before after : Outside) where
       → Headline (Generate number) before after ran
   generate_headline ran unread (inl stopped) =
       elim (stops_held number before.disks after.disks stopped.stop stopped.store.went) [
-        | inl unopened ↦ inl (record {
-          refused = subst (λ r. OnOk r ⊥) (sym stopped.told) tt;
-          unread = unread;
-          unsaid = stopped.unsaid;
-          left = λ image leaves name. (unopened.untouched name).images _ (leaves name);
-        })
+        | inl before_it ↦
+            inl (unopened before after ran stopped.stop stopped.told unread stopped.unsaid before_it.untouched)
         | inr held ↦ inr (λ told tells.
             subst (λ r. HoldsOfBook told (HeldGenerated number told after.disks r))
             (sym stopped.told)
@@ -410,12 +406,8 @@ module _ (number : ℕ) (before after : Outside) where
   lines_headline ran unread (inl put) = inr put.store.went.holds
   lines_headline ran unread (inr untold) =
       elim untold.store.went [
-        | inl unopened ↦ inl (record {
-          refused = subst (λ r. OnOk r ⊥) (sym untold.told) tt;
-          unread = unread;
-          unsaid = untold.unsaid;
-          left = λ image leaves name. (unopened.untouched name).images _ (leaves name);
-        })
+        | inl before_it ↦
+            inl (unopened before after ran untold.stop untold.told unread untold.unsaid before_it.untouched)
         | inr unbegun ↦ inr unbegun.holds
       ]
 
@@ -425,15 +417,13 @@ pub does_lines : (number : ℕ) (before after : Outside) (middle : SinkAt)
     → EndsAs middle after.out ran result → Rests before after → after.input ≡ before.input
     → Does (Some (GeneratedLines number)) before after result
 does_lines number before after middle ran result did ends rests unread =
-    let mid : Outside = record after { out = middle } in
-    let still : Rests before mid =
-    record { rules = rests.rules; topo = rests.topo; acts = rests.acts } in (
+    let mid : Outside = record after { out = middle } in (
       ran,
       middle,
       record {
         order = lines_goes number before mid ran did;
         cause = lines_caused number before mid ran did;
-        quiet = lines_quiet number before mid ran still unread did;
+        quiet = lines_quiet number before mid ran (rests_put before after middle rests) unread did;
         did = did;
         headline = lines_headline number before mid ran unread did;
       },

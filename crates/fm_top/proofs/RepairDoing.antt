@@ -25,6 +25,7 @@ use Rattle.fm_top.specs.Outside.{Outside, Tells, counts_of}
 use Rattle.fm_top.specs.Repair.{MayHaveRepair, RepairRan, RepairTried, RepairedOf, StoreUnmarked}
 use Rattle.fm_top.specs.Repair.{StoreUnrepaired, repair_limit}
 use Rattle.fm_top.specs.RepairEntry.{HasRepair}
+use Rattle.fm_top.proofs.Doing.{unopened}
 use Rattle.fm_top.proofs.Escs.{ok_no_err}
 use Rattle.fm_top.proofs.FmdDoing.{acts_quiet, settled_caused}
 use Rattle.fm_top.proofs.Going.{settled_goes, unopened_goes, worked_goes}
@@ -200,12 +201,8 @@ module _ (asked : RepairAsked) (before after : Outside) where
       → Headline (Repair asked) before after ran
   repair_headline ran unread (inl stopped) =
       elim stopped.store.went [
-        | inl unopened ↦ inl (record {
-          refused = subst (λ r. OnOk r ⊥) (sym stopped.told) tt;
-          unread = unread;
-          unsaid = stopped.unsaid;
-          left = λ image leaves name. (unopened.untouched name).images _ (leaves name);
-        })
+        | inl before_it ↦
+            inl (unopened before after ran stopped.stop stopped.told unread stopped.unsaid before_it.untouched)
         | inr opened ↦ inr (λ told tells.
             subst (HeldSo told) (sym stopped.told) (elim opened [
               | inl unmarked ↦ unmarked_held told stopped.stop unmarked tells
