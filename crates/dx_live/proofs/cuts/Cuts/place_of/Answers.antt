@@ -9,7 +9,7 @@ returns-in-Some-clause-found c =
       found_member c.args.effect c.args.effects.now c.in-Some.at f.0 f.1,
       omega (
         arith,
-        rw c.as_slice.ensures.value at c.number_at.ensures,
+        rw c.as_slice.ensures at c.number_at.ensures,
         ap (λ (z : CutsValue). get_or z.starts c.args.place 0) c.self.view_is,
         first_at c.args.effect c.args.effects.now c.in-Some.at c.requires.ascend f.0 f.1,
       ),
