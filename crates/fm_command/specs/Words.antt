@@ -9,7 +9,7 @@ use Rattle.fm_command.specs.declared.request.Repair.{Repair as Said}
 use Rattle.fm_command.specs.declared.request.Repair.TheVariants.{Repaired, Replaced, Acquit}
 use Rattle.fm_dump.specs.Options.{dump_options}
 use Rattle.fm_name.specs.Path.{is_path}
-use Rattle.fm_esc.specs.declared.graphs.GraphForm.TheVariants.{Listed, Compiled}
+use Rattle.ev_listing.specs.declared.form.GraphForm.TheVariants.{Listed, Compiled}
 use Rattle.fm_command.specs.declared.words.Command.{Command}
 use Rattle.fm_command.specs.declared.words.Command.TheVariants.{Accept, Fmd, Replay, Init, Esc}
 use Rattle.fm_command.specs.declared.words.Command.TheVariants.{EscInput, Admin, Repair, Explain}

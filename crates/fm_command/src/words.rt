@@ -9,9 +9,9 @@ ghost use Rattle.fm_command.specs.Words.{fmd_with, generate_with, lines_with, pa
 ghost use Rattle.fm_command.specs.Words.{short_command};
 
 use crate::request::{Repair, RepairRequest};
+use ev_listing::GraphForm;
 use fm_bytes::NoMemory;
 use fm_dump::{DumpFault, DumpOptions, read_options};
-use fm_esc::GraphForm;
 use fm_name::{Fmri, read_fmri};
 use fm_text::{ArgText, read_number};
 use std::alloc::Global;

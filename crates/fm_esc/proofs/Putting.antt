@@ -14,8 +14,8 @@ use Rattle.fm_esc.specs.Compiling.{AreGraphs, GraphCause, GraphsCause, IsFirstPa
 use Rattle.fm_esc.specs.Compiling.{part_in, text_in}
 use Rattle.fm_esc.specs.declared.faults.CompileFault.{CompileFault}
 use Rattle.fm_esc.specs.declared.faults.CompileFault.TheVariants.{Graph, NoMemory}
-use Rattle.fm_esc.specs.declared.graphs.GraphForm.{GraphForm}
-use Rattle.fm_esc.specs.declared.graphs.GraphForm.TheVariants.{Listed, Compiled}
+use Rattle.ev_listing.specs.declared.form.GraphForm.{GraphForm}
+use Rattle.ev_listing.specs.declared.form.GraphForm.TheVariants.{Listed, Compiled}
 
 -- the rule files before a place come to graphs, of which the text was appended
 pub record PutUpTo (form : GraphForm) (topo : Topology) (files : List RuleFile) (number : ℕ)

@@ -10,7 +10,7 @@ use Rattle.fm_esc.specs.Compiling.{AreGraphs, CompileCause, GraphsCause, IsCompi
 use Rattle.fm_esc.specs.Compiling.{text_in}
 use Rattle.fm_esc.specs.declared.faults.CompileFault.{CompileFault}
 use Rattle.fm_esc.specs.declared.faults.CompileFault.TheVariants.{Graph, NoMemory}
-use Rattle.fm_esc.specs.declared.graphs.GraphForm.{GraphForm}
+use Rattle.ev_listing.specs.declared.form.GraphForm.{GraphForm}
 
 -- as many files as sources
 pub files_count : {S : Type 0} (g : Ghosts S) (olds news : List S) (files : List RuleFile)

@@ -16,8 +16,8 @@ use Rattle.fm_esc.specs.declared.faults.CompileFault.{CompileFault}
 use Rattle.fm_esc.specs.declared.faults.CompileFault.TheVariants.{Sources, Graph, NoMemory}
 use Rattle.fm_esc.specs.declared.faults.GraphLimit.{GraphLimit}
 use Rattle.fm_esc.specs.declared.faults.GraphLimit.TheVariants.{Nodes, Links}
-use Rattle.fm_esc.specs.declared.graphs.GraphForm.{GraphForm}
-use Rattle.fm_esc.specs.declared.graphs.GraphForm.TheVariants.{Listed, Compiled}
+use Rattle.ev_listing.specs.declared.form.GraphForm.{GraphForm}
+use Rattle.ev_listing.specs.declared.form.GraphForm.TheVariants.{Listed, Compiled}
 
 -- each rule file comes to this over the topology
 abbrev pub AreGraphs : Topology → List RuleFile → List Made → Type 0

@@ -9,18 +9,11 @@ use crate::faults::{CompileFault, GraphLimit};
 use ev_check::Checked;
 use ev_file::{Made, write_file};
 use ev_inst::{InstFault, instantiate};
-use ev_listing::put_listing_of;
+use ev_listing::{GraphForm, put_listing_of};
 use fm_bytes::NoMemory;
 use fm_sources::RuleFile;
 use fm_topo::Topo;
 use std::alloc::Global;
-
-/// How what a rule file comes to is told: by a line of its sizes, or as a compiled file.
-#[derive(Clone, Copy, Debug, PartialEq, Eq)]
-pub enum GraphForm {
-    Listed,
-    Compiled,
-}
 
 /// What the rule file with this number comes to.
 fn graph_of(alloc: Global, file: u32, checked: &Checked, topo: &Topo) -> Result<Made, CompileFault>

@@ -21,6 +21,6 @@ mod sources;
 
 pub use faults::{CompileFault, GraphLimit, InputFault};
 pub use fm_bytes::NoMemory;
-pub use graphs::{GraphForm, put_graphs};
+pub use graphs::put_graphs;
 pub use input::{InputListing, list_input};
 pub use sources::compile_sources;

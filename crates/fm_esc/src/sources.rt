@@ -5,7 +5,8 @@ ghost use Rattle.fm_sources.specs.Sources.{ReadsSources, given};
 ghost use Rattle.fm_esc.specs.Compiling.{IsCompiled, CompileCause};
 
 use crate::faults::CompileFault;
-use crate::graphs::{GraphForm, put_graphs};
+use crate::graphs::put_graphs;
+use ev_listing::GraphForm;
 use fm_outer::Source;
 use fm_sources::read_sources;
 use std::alloc::Global;

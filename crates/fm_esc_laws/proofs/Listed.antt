@@ -13,7 +13,7 @@ use Rattle.fm_outer.specs.declared.source.Source.{Ghosts}
 use Rattle.fm_sources.specs.Sources.{Given}
 use Rattle.fm_esc.specs.Compiling.{IsCompiled}
 use Rattle.fm_esc.specs.InputListing.{IsListed}
-use Rattle.fm_esc.specs.declared.graphs.GraphForm.TheVariants.{Listed as AsLines, Compiled}
+use Rattle.ev_listing.specs.declared.form.GraphForm.TheVariants.{Listed as AsLines, Compiled}
 use Rattle.fm_esc_laws.proofs.OneText.{text_given, text_one}
 use Rattle.fm_esc_laws.specs.ToldTexts.{TellTexts}
 

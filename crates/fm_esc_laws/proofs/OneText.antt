@@ -15,7 +15,7 @@ use Rattle.fm_sources.specs.Texts.{GaveText}
 use Rattle.fm_sources.specs.declared.files.RuleFile.{RuleFile}
 use Rattle.fm_sources_laws.proofs.OneFile.{rule_files_one}
 use Rattle.fm_esc.specs.Compiling.{AreGraphs, IsCompiled, text_in}
-use Rattle.fm_esc.specs.declared.graphs.GraphForm.{GraphForm}
+use Rattle.ev_listing.specs.declared.form.GraphForm.{GraphForm}
 use Rattle.fm_esc_laws.specs.ToldTexts.{AreFilesOf, TellTexts}
 
 -- ---- rule files of the same texts come to the same

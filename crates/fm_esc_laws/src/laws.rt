@@ -8,8 +8,8 @@ ghost use Rattle.fm_sources.specs.declared.files.RuleFile.{RuleFile};
 ghost use Rattle.fm_topo.specs.Topology.{Topology};
 ghost use Rattle.fm_esc.specs.Compiling.{AreGraphs, IsCompiled};
 ghost use Rattle.fm_esc.specs.InputListing.{IsListed};
-ghost use Rattle.fm_esc.specs.declared.graphs.GraphForm.{GraphForm};
-ghost use Rattle.fm_esc.specs.declared.graphs.GraphForm.TheVariants.{Listed, Compiled};
+ghost use Rattle.ev_listing.specs.declared.form.GraphForm.{GraphForm};
+ghost use Rattle.ev_listing.specs.declared.form.GraphForm.TheVariants.{Listed, Compiled};
 ghost use Rattle.fm_esc_laws.specs.ToldTexts.{AreFilesOf, TellTexts};
 
 use fm_outer::Source;

@@ -16,7 +16,7 @@ use Rattle.fm_esc.specs.declared.faults.CompileFault.{CompileFault}
 use Rattle.fm_esc.specs.declared.faults.CompileFault.TheVariants as compiling
 use Rattle.fm_esc.specs.declared.faults.InputFault.{InputFault}
 use Rattle.fm_esc.specs.declared.faults.InputFault.TheVariants as inputs
-use Rattle.fm_esc.specs.declared.graphs.GraphForm.{GraphForm}
+use Rattle.ev_listing.specs.declared.form.GraphForm.{GraphForm}
 use Rattle.fm_sources.specs.Sources.{given}
 use Rattle.fm_top.specs.Calls.{IsCaused, Does}
 use Rattle.fm_top.specs.Esc.{EscEnds, EscInputEnds, TextEnds}

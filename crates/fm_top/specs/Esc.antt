@@ -11,7 +11,7 @@ use Rattle.fm_esc.specs.Compiling.{CompileCause, IsCompiled}
 use Rattle.fm_esc.specs.InputListing.{InputCause, IsListed}
 use Rattle.fm_esc.specs.declared.faults.CompileFault.{CompileFault}
 use Rattle.fm_esc.specs.declared.faults.InputFault.{InputFault}
-use Rattle.fm_esc.specs.declared.graphs.GraphForm.{GraphForm}
+use Rattle.ev_listing.specs.declared.form.GraphForm.{GraphForm}
 use Rattle.fm_outer.specs.declared.source.Source.{Ghosts}
 use Rattle.fm_sources.specs.Sources.{Given}
 

@@ -4,8 +4,9 @@ ghost use Rattle.fm_answers.specs.StreamsAt.{sink_at};
 ghost use Rattle.fm_sources.specs.Sources.{given};
 ghost use Rattle.fm_top.specs.Esc.{EscEnds, EscInputEnds};
 
+use ev_listing::GraphForm;
 use fm_answers::{Stop, put_bytes};
-use fm_esc::{GraphForm, compile_sources, list_input};
+use fm_esc::{compile_sources, list_input};
 use fm_outer::{Sink, Source};
 use std::alloc::Global;
 
