@@ -1,5 +1,6 @@
 //! Tests of calls whose answers were worked out by hand: entries made of a number (`fm_gen`), rate
-//! engines (`dx_serd`), and the bindings with which each of some tables has a row (`ev_join`).
+//! engines (`dx_serd`), the bindings with which each of some tables has a row (`ev_join`), and a word
+//! that is put in its place (`dx_said`).
 #![tactic(auto)]
 
 #[cfg(test)]
@@ -8,3 +9,5 @@ mod generated;
 mod joined;
 #[cfg(test)]
 mod rates;
+#[cfg(test)]
+mod worded;
