@@ -8,7 +8,7 @@ use Rattle.fm_core.specs.Folds.{state_along, words_along}
 use Rattle.fm_core.specs.Meaning.{State, Diagnosing, Diagnosis, holds_of}
 use Rattle.fm_core.specs.Records.{numbered_from}
 use Rattle.ev_graph.specs.Lawful.{IsGraph}
-use Rattle.dx_words.specs.Laws.{HasPending}
+use Rattle.dx_explain.specs.CaseLaws.{HasPending}
 use Rattle.dx_state.specs.Configured.{Rules, Configuration}
 use Rattle.dx_step.specs.Exact.{ByStories, IsExact, HaveGraphs}
 use Rattle.dx_step.specs.Turns.{graph_of}

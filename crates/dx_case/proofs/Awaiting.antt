@@ -10,7 +10,7 @@ use Rattle.ev_graph.specs.declared.nodes.Node.{Node}
 use Rattle.ev_graph.specs.declared.nodes.NodeKind.{NodeKind}
 use Rattle.ev_graph.specs.declared.nodes.NodeKind.TheVariants.{Fault, Defect, Upset, Inner, Report}
 use Rattle.ev_graph.proofs.Occurrences.{in_push}
-use Rattle.dx_words.specs.Cases.{is_awaited}
+use Rattle.dx_explain.specs.Cases.{is_awaited}
 use Rattle.dx_case.specs.Changes.{within_of, within_kind, within_if_any}
 use Rattle.dx_case.specs.Cases.{AreAwaited}
 

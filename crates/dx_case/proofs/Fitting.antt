@@ -12,7 +12,7 @@ use Rattle.ev_graph.specs.declared.instances.Link.{Link}
 use Rattle.fm_core.specs.Meaning.{OpenCase}
 use Rattle.fm_entry.specs.declared.broken.Broken.{Broken}
 use Rattle.fm_entry.specs.Words.{is_link_before, links_ascend}
-use Rattle.dx_words.specs.Cases.{broken_of}
+use Rattle.dx_explain.specs.Cases.{broken_of}
 use Rattle.dx_case.specs.Facts.{facts_fit}
 
 -- the parts of the test

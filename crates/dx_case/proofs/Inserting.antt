@@ -18,7 +18,7 @@ use Rattle.ev_graph.specs.declared.instances.Link.{Link}
 use Rattle.ev_graph.proofs.Ascending.{rises}
 use Rattle.fm_entry.specs.declared.broken.Broken.{Broken}
 use Rattle.fm_entry.specs.Words.{is_link_before}
-use Rattle.dx_words.specs.Cases.{inserted, broken_of, with_links}
+use Rattle.dx_explain.specs.Cases.{inserted, broken_of, with_links}
 
 if_true : {A : Type 0} (b : Bool) (x y : A) → b ≡ true → (if b then x else y) ≡ x
 if_true true x y h = refl

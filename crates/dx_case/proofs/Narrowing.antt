@@ -15,7 +15,7 @@ use Rattle.dx_sets.specs.Engine.{CutsOf}
 use Rattle.dx_explain.specs.Explaining.{no_other_report, IsAllowedStory, IsPossible}
 use Rattle.dx_explain.proofs.Shrinking.{shrinks}
 use Rattle.dx_live.specs.Live.{IsLiveBest, live_root, live_set}
-use Rattle.dx_words.proofs.Telling.{implied, implies}
+use Rattle.dx_explain.proofs.Telling.{implied, implies}
 use Rattle.dx_case.specs.declared.candidate.Candidate.{Candidate}
 use Rattle.dx_case.specs.Changes.{cut_or, allowed_less, IsChanged, AreChanged}
 use Rattle.dx_case.specs.Candidates.{roots_in, IsCandidate, AreCandidates, keeps, Narrows}

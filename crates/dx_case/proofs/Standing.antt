@@ -17,10 +17,10 @@ use Rattle.dx_explain.proofs.Listed.{same_answer}
 use Rattle.dx_explain.proofs.Shrinking.{when_decided}
 use Rattle.dx_live.specs.Live.{live_root, live_set}
 use Rattle.fm_core.specs.Meaning.{OpenCase}
-use Rattle.dx_words.specs.Cases.{cuts_of, is_allowed, is_pending, waits, takes_report, blamed}
-use Rattle.dx_words.proofs.Telling.{implied}
-use Rattle.dx_words.proofs.Meaning.{pending, waiting}
-use Rattle.dx_words.proofs.Blaming.{blamed_from, in_blamed, blamed_ascends}
+use Rattle.dx_explain.specs.Cases.{cuts_of, is_allowed, is_pending, waits, takes_report, blamed}
+use Rattle.dx_explain.proofs.Telling.{implied}
+use Rattle.dx_explain.proofs.Meaning.{pending, waiting}
+use Rattle.dx_explain.proofs.Blaming.{blamed_from, in_blamed, blamed_ascends}
 use Rattle.dx_case.specs.declared.candidate.Candidate.{Candidate}
 use Rattle.dx_case.specs.declared.case.Case.{Case}
 use Rattle.dx_case.specs.Candidates.{roots_in, keeps, is_held, is_left, is_of_kind}

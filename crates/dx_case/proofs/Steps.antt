@@ -18,7 +18,7 @@ use Rattle.dx_live.specs.Live.{no_cut, all_allowed}
 use Rattle.fm_core.specs.Meaning.{OpenCase}
 use Rattle.fm_entry.specs.declared.broken.Broken.{Broken}
 use Rattle.fm_entry.specs.Words.{is_link_before}
-use Rattle.dx_words.specs.Cases.{cuts_of, is_allowed, is_awaited, inserted, broken_of, with_links}
+use Rattle.dx_explain.specs.Cases.{cuts_of, is_allowed, is_awaited, inserted, broken_of, with_links}
 use Rattle.dx_case.specs.declared.candidate.Candidate.{Candidate}
 use Rattle.dx_case.specs.Changes.{cut_or, allowed_less, within_of, goes}
 use Rattle.dx_case.specs.Changes.{gone_of, AreChanged, AreLivesOf}

@@ -1,7 +1,7 @@
 -- Verdicts by whether lists are empty.
 use Rattle.std.proofs.Common.{◌≡◌, ℕ, true, false, List, [], ◌∷◌, eqb, length, refl, sym, arith}
 use Rattle.std.proofs.lemmas.Bool.{false≢true, eqb-true}
-use Rattle.dx_words.specs.Cases.{Solving, Upsetting, Unexplained, verdict}
+use Rattle.dx_explain.specs.Cases.{Solving, Upsetting, Unexplained, verdict}
 
 pub solving : (fs us : List ℕ) → eqb (length fs) 0 ≡ false → Solving fs ≡ verdict fs us
 solving [] us h = absurd (false≢true (sym h))

@@ -7,8 +7,8 @@ use Rattle.ev_graph.specs.Kinds.{is_report_node}
 use Rattle.ev_graph.specs.Cutting.{is_before_link}
 use Rattle.ev_graph.specs.Lawful.{GraphValue, IsGraph}
 use Rattle.fm_core.specs.Meaning.{OpenCase}
-use Rattle.dx_words.specs.Cases.{is_allowed, waits, takes_report, broken_of, cuts_of}
-use Rattle.dx_words.specs.Cases.{Verdict, Solving, Upsetting, Unexplained}
+use Rattle.dx_explain.specs.Cases.{is_allowed, waits, takes_report, broken_of, cuts_of}
+use Rattle.dx_explain.specs.Cases.{Verdict, Solving, Upsetting, Unexplained}
 use Rattle.ev_graph.specs.declared.nodes.Node.{Node}
 use Rattle.ev_graph.specs.declared.instances.Link.{Link}
 use Rattle.dx_case.specs.declared.candidate.Candidate.{Candidate}

@@ -2,7 +2,7 @@
 use Rattle.std.specs.Prelude.{Bool}
 use Rattle.ev_graph.specs.Kinds.{is_root_kind, is_report_kind, is_upset_kind}
 use Rattle.ev_graph.specs.declared.nodes.NodeKind.{NodeKind}
-use Rattle.dx_words.specs.Cases.{is_solving_kind}
+use Rattle.dx_explain.specs.Cases.{is_solving_kind}
 use Rattle.dx_case.specs.declared.kinds.Asked.{Asked}
 use Rattle.dx_case.specs.declared.kinds.Asked.TheVariants.{Roots, Reports, Solving, Upsets}
 

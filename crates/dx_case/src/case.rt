@@ -6,7 +6,7 @@ ghost use Rattle.std.specs.List.{list_all, list_any, filter};
 ghost use Rattle.ev_graph.specs.Sets.{ascends, is_member};
 ghost use Rattle.ev_graph.specs.Kinds.{is_report_node};
 ghost use Rattle.ev_graph.specs.Lawful.{GraphValue};
-ghost use Rattle.dx_words.specs.Cases.{case_opened, case_joined, broken_of, verdict_of};
+ghost use Rattle.dx_explain.specs.Cases.{case_opened, case_joined, broken_of, verdict_of};
 ghost use Rattle.dx_case.specs.Changes.{gone_of, AreLivesOf};
 ghost use Rattle.dx_case.specs.Candidates.{keeps, is_held, is_left};
 ghost use Rattle.dx_case.specs.Cases.{open_of, time_of, IsCaseOf, IsBefore};

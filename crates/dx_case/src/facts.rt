@@ -5,7 +5,7 @@ ghost use Rattle.std.specs.List.{list_all};
 ghost use Rattle.ev_graph.specs.Sets.{ascends_by};
 ghost use Rattle.ev_graph.specs.Kinds.{is_report_node};
 ghost use Rattle.fm_entry.specs.Words.{is_link_before};
-ghost use Rattle.dx_words.specs.Cases.{broken_of};
+ghost use Rattle.dx_explain.specs.Cases.{broken_of};
 ghost use Rattle.dx_case.specs.Facts.{case_of, facts_fit};
 
 use ev_graph::{Graph, Link, NoMemory, Node, ascends, is_report_node};

@@ -2,7 +2,7 @@
 
 ghost use Rattle.std.specs.Prelude.{◌≡◌};
 ghost use Rattle.ev_graph.specs.Kinds.{is_upset_kind};
-ghost use Rattle.dx_words.specs.Cases.{is_solving_kind};
+ghost use Rattle.dx_explain.specs.Cases.{is_solving_kind};
 ghost use Rattle.dx_case.specs.Candidates.{is_of_kind};
 ghost use Rattle.dx_case.specs.Kinds.{is_asked};
 

@@ -1,48 +1,33 @@
 -- A turn begins at a standing state.
-use Rattle.std.proofs.Common.{◌≡◌, ℕ, zero, suc, ◌<◌, ◌≤◌, ◌^◌, true, ◌&&◌, IsTrue}
-use Rattle.std.proofs.Common.{List, [], ◌∷◌, map, refl, sym, ap, ◌∙◌, arith, subst, max}
+use Rattle.std.proofs.Common.{◌≡◌, ℕ, zero, suc, ◌<◌, ◌≤◌, ◌^◌, true, IsTrue}
+use Rattle.std.proofs.Common.{List, [], ◌∷◌, map, refl, ap, ◌∙◌, arith, subst}
 use Rattle.std.proofs.Common.{Option, Some, None}
 use Rattle.std.specs.List.{All, AllByRecursion, list_all}
-use Rattle.std.proofs.lemmas.Bool.{false≢true, and_from, and_parts}
+use Rattle.std.proofs.lemmas.Bool.{and_parts}
 use Rattle.fm_core.specs.Meaning.{OpenCase, Diagnosis}
 use Rattle.ev_graph.specs.Lawful.{GraphValue}
 use Rattle.ev_graph.specs.Sets.{ascends}
 use Rattle.ev_graph.specs.declared.nodes.EngineSpec.{EngineSpec}
-use Rattle.dx_serd.specs.Rates.{RateOf, are_kept, none_past}
+use Rattle.dx_serd.specs.Rates.{RateOf}
 use Rattle.dx_serd.proofs.Moments.{past_later}
-use Rattle.dx_words.specs.Cases.{waits}
+use Rattle.dx_explain.specs.Cases.{waits}
 use Rattle.dx_case.specs.declared.case.Case.{Case}
 use Rattle.dx_case.specs.Cases.{open_of, time_of, IsBefore}
 use Rattle.dx_state.specs.Configured.{Rules}
-use Rattle.dx_state.specs.LawfulState.{is_open_case, are_engines, open_numbers, solved_numbers}
-use Rattle.dx_state.specs.LawfulState.{are_apart}
-use Rattle.dx_state.proofs.Lists.{all_other, strict_of, ascends_of}
-use Rattle.dx_state.proofs.Facts.{case_is, case_back}
-use Rattle.dx_step.specs.Turns.{configuration_of, begin_at, turn_cases, with_cases}
+use Rattle.dx_state.specs.LawfulState.{solved_numbers}
+use Rattle.dx_state.proofs.Lists.{ascends_of}
+use Rattle.dx_step.specs.Turns.{begin_at, turn_cases, with_cases}
 use Rattle.dx_step.specs.Turns.{settle_all}
 use Rattle.dx_step.specs.Lawful.{is_lawful}
-use Rattle.dx_step.proofs.Parts.{lacks, lacks_is}
-use Rattle.dx_step.proofs.Sound.{IsTurn, turn_with}
+use Rattle.dx_step.proofs.Sound.{turn_with}
 use Rattle.dx_step.proofs.Settling.{settled_each}
-use Rattle.dx_step.proofs.Stepping.{IsLawfulState, lawful_is}
+use Rattle.dx_step.proofs.Stepping.{lawful_is, begun}
 use Rattle.dx_turn.specs.Grounds.{AreRates}
 use Rattle.dx_turn.specs.Tracking.{opens_in, kept_of, IsCurrent}
 use Rattle.dx_turn.specs.Settling.{IsWaiting, IsBeforeTurn}
 use Rattle.dx_turn.specs.Standing.{still_of}
 
 -- later, what engines keep is still not past
-engines_later : (time later : ℕ) (es : List EngineSpec) (ks : List (List ℕ)) → time ≤ later
-    → IsTrue (are_engines time es ks) → IsTrue (are_engines later es ks)
-engines_later time later [] [] low h = refl
-engines_later time later [] (k ∷ ks) low h = absurd (false≢true h)
-engines_later time later (e ∷ es) [] low h = absurd (false≢true h)
-engines_later time later (e ∷ es) (k ∷ ks) low h =
-    let parts = and_parts (are_kept e.n e.t k && none_past time k) _ h in
-    let one = and_parts (are_kept e.n e.t k) _ parts.0 in
-    and_from (are_kept e.n e.t k && none_past later k) _
-    (and_from (are_kept e.n e.t k) _ one.0 (past_later time later k low one.1))
-    (engines_later time later es ks low parts.1)
-
 pub rates_later : (time later : ℕ) (es : List EngineSpec) (rs : List RateOf) → time ≤ later
     → AreRates time es rs → AreRates later es rs
 rates_later time later [] [] low h = h
@@ -58,48 +43,6 @@ rates_later time later (e ∷ es) (r ∷ rs) low h = (
     ),
   ),
 )
-
-apart_same : (xs ys : List ℕ) → are_apart xs ys ≡ list_all (lacks ys) xs
-apart_same xs ys = λ i. list_all (λ n. lacks_is ys n i) xs
-
--- a lawful state, as a turn begins
-begun : (r : Rules) (s : Diagnosis) (moment : ℕ) → moment < 2 ^ 62 → IsLawfulState r s
-    → IsTurn r s.open_cases (begin_at moment s)
-begun r s moment low h =
-    let x = configuration_of r s in
-    let later = max s.time moment in
-    let time = h.state.time in
-    let after : s.time ≤ later = omega arith in
-    record {
-      sound = record {
-        time = omega arith;
-        next = h.state.next;
-        cases = all_other (is_open_case x s.time s.next) (is_open_case x later s.next)
-            (λ c k. let one = case_is x s.time s.next c k in
-            let opened = one.opened in
-            case_back x later s.next c (record {
-              number = one.number;
-              opened = omega arith;
-              some = one.some;
-              ascend = one.ascend;
-              reports = one.reports;
-              many = one.many;
-              entries = one.entries;
-              links = one.links;
-              own = one.own;
-            })) s.open_cases h.state.cases;
-        solved = h.state.solved;
-        strict = strict_of (open_numbers s.open_cases) h.state.opens_ascend;
-        solved_strict = strict_of (solved_numbers s.solved) h.state.solved_ascend;
-        apart = sym (apart_same (open_numbers s.open_cases) (solved_numbers s.solved))
-            ∙ h.state.apart;
-        engines = engines_later s.time later x.graph.engines s.engines after h.state.engines;
-      };
-      formed = h.formed;
-      conf = h.conf;
-      words = tt;
-      fired = refl;
-    }
 
 -- once the open cases have settled, the last words ascend
 pub settled_ascend : (r : Rules) (s : Diagnosis) (moment : ℕ) → moment < 2 ^ 62

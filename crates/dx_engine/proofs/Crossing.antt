@@ -11,10 +11,10 @@ use Rattle.ev_tree.proofs.tree.Cond.TheLaws.TheKnot as knot
 use Rattle.ev_tree.specs.contracts.tree.Cond as cond
 use Rattle.ev_expr.proofs.settings.Bound.TheSendSync.{the_send as bound_send}
 use Rattle.ev_graph.proofs.graph.Graph.TheSendSync.{the_send as graph_send}
-use Rattle.ev_inst.specs.contracts.guards.Question as question
-use Rattle.ev_inst.specs.contracts.guards.Guard as guard
-use Rattle.ev_inst.specs.contracts.guards.GuardedNode as node
-use Rattle.ev_inst.specs.contracts.guards.Guards as guards
+use Rattle.ev_guards.specs.contracts.guards.Question as question
+use Rattle.ev_guards.specs.contracts.guards.Guard as guard
+use Rattle.ev_guards.specs.contracts.guards.GuardedNode as node
+use Rattle.ev_guards.specs.contracts.guards.Guards as guards
 use Rattle.dx_rules.proofs.classes.Classes.TheSendSync.{the_send as classes_send}
 use Rattle.dx_rules.proofs.report_index.ReportIndex.TheSendSync.{the_send as index_send}
 use Rattle.dx_rules.specs.contracts.ruled.Ruled as ruled

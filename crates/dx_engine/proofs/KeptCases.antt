@@ -15,7 +15,8 @@ first_kept : (o : Option Case) (xs ys : List Case)
 first_kept None xs ys = refl
 first_kept (Some c) xs ys = refl
 
-kept_append : (xs ys : List Tracked) → kept_of (xs ++ ys) ≡ kept_of xs ++ kept_of ys
+-- what is kept of two lists is kept of each
+pub kept_append : (xs ys : List Tracked) → kept_of (xs ++ ys) ≡ kept_of xs ++ kept_of ys
 kept_append [] ys = refl
 kept_append (x ∷ xs) ys =
     ap (cons_option x.kept) (kept_append xs ys) ∙ first_kept x.kept (kept_of xs) (kept_of ys)

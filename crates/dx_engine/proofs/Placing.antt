@@ -152,8 +152,8 @@ ended_ascend d p n e x old new few h k =
     (subst (λ (ws : List ListEvent). IsTrue (ascends (solved_numbers ws))) same
     lawful.state.solved_ascend))
 
--- what is put stands for what the turn left
-state_with : ℕ → ℕ → ℕ → List OpenCase → List ListEvent → List RateOf → Diagnosis
+-- a state by its parts, of its rates what is kept
+unfoldable pub state_with : ℕ → ℕ → ℕ → List OpenCase → List ListEvent → List RateOf → Diagnosis
 state_with conf time next cs ws rs = record {
   conf = conf;
   time = time;
@@ -167,6 +167,7 @@ opens_put : (ts : List Tracked)
     → map open_of (kept_of (map still_of (cases_of ts))) ≡ opens_in ts
 opens_put ts = ap (map open_of) (kept_still (cases_of ts)) ∙ sym (opens_cases ts)
 
+-- what is put stands for what the turn left
 put_state : (d : Ground) (p : StandingParts) (x : Option Reloaded) (w : Work) → p.conf ≡ d.conf
     → p.engines ≡ d.engines.now → p.solved ≡ d.last_words.now
     → stands_for (put_parts p d.time w x) ≡ (with_reload x (turn_of d w)).state

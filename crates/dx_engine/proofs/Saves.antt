@@ -2,9 +2,7 @@
 use Rattle.std.proofs.Common.{◌≡◌, ℕ, List, map, refl, sym, subst}
 use Rattle.std.specs.List.{All}
 use Rattle.std.proofs.lemmas.Bool.{false≢true}
-use Rattle.fm_entry.specs.declared.list_event.ListEvent.{ListEvent}
-use Rattle.fm_core.specs.Meaning.{OpenCase, Diagnosis, Counting, Diagnosing, Foreign, IsNoSave}
-use Rattle.dx_serd.specs.Rates.{RateOf}
+use Rattle.fm_core.specs.Meaning.{Counting, Diagnosing, Foreign, IsNoSave}
 use Rattle.dx_case.specs.Cases.{open_of}
 use Rattle.dx_meaning.specs.DiagnoserMeaning.{diagnoser_meaning}
 use Rattle.dx_state.specs.Configured.{Rules}
@@ -16,6 +14,7 @@ use Rattle.dx_restore.proofs.Short.{cases_short_in}
 use Rattle.dx_turn.specs.declared.tracked.Tracked.{Tracked}
 use Rattle.dx_turn.specs.Tracking.{kept_of}
 use Rattle.dx_engine.specs.Standing.{StandingParts, stands_for, AreStanding}
+use Rattle.dx_engine.proofs.Placing.{state_with}
 
 pub somewhere : (r : Rules) (p : StandingParts) → AreStanding r p → IsLawfulSomewhere (stands_for p)
 somewhere r p h = record { rules = r; lawful = h.lawful }
@@ -25,16 +24,6 @@ pub short_cases : (r : Rules) (p : StandingParts) (ts : List Tracked) → ts ≡
 short_cases r p ts same h =
     subst (λ (us : List Tracked). All IsShortCase (kept_of us)) (sym same)
     (cases_short_in (stands_for p) (kept_of p.cases) refl (somewhere r p h))
-
-state_saved : ℕ → ℕ → ℕ → List OpenCase → List ListEvent → List RateOf → Diagnosis
-state_saved conf time next cs ws rs = record {
-  conf = conf;
-  time = time;
-  next = next;
-  open_cases = cs;
-  solved = ws;
-  engines = map (λ (r : RateOf). r.kept) rs;
-}
 
 -- these are its parts, to be saved
 pub record ArePartsToSave (p : StandingParts) (q : Parts) : Type 0 where
@@ -47,9 +36,9 @@ pub record ArePartsToSave (p : StandingParts) (q : Parts) : Type 0 where
 
 pub saved_state : (p : StandingParts) (q : Parts) → ArePartsToSave p q
     → parts_state q ≡ stands_for p
-unfolding state_saved
+unfolding state_with
 saved_state p q h =
-    λ i. state_saved (h.conf i) (h.time i) (h.next i) (h.cases i) (h.solved i) (h.engines i)
+    λ i. state_with (h.conf i) (h.time i) (h.next i) (h.cases i) (h.solved i) (h.engines i)
 
 -- bytes that spell no lawful state save none
 pub no_save : (r : Rules) (bytes : List ℕ) → SpellsNone r bytes

@@ -1,7 +1,7 @@
 -- Diagnosis modules.
 use Rattle.std.specs.Prelude.{ℕ, map}
 use Rattle.ev_graph.specs.Lawful.{GraphValue}
-use Rattle.ev_inst.specs.Guards.{GuardsValue}
+use Rattle.ev_guards.specs.Guards.{GuardsValue}
 use Rattle.dx_rules.specs.Payloads.{guarding_of}
 use Rattle.dx_meaning.specs.DiagnoserMeaning.{diagnoser_meaning}
 use Rattle.dx_rules.specs.Rulebooks.{rules_in}

@@ -15,7 +15,7 @@ use Rattle.ev_graph.specs.Sets.{ascends, ascends_by}
 use Rattle.ev_graph.specs.declared.nodes.EngineSpec.{EngineSpec}
 use Rattle.fm_entry.specs.Words.{is_link_before}
 use Rattle.dx_serd.specs.Rates.{IsLimited, are_kept, none_past}
-use Rattle.dx_words.specs.Cases.{waits}
+use Rattle.dx_explain.specs.Cases.{waits}
 use Rattle.dx_state.specs.Configured.{Configuration}
 use Rattle.dx_state.specs.LawfulState.{are_engines, is_open_case, is_state}
 use Rattle.dx_state.proofs.Lists.{all_other}

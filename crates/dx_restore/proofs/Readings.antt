@@ -9,7 +9,7 @@ use Rattle.fm_bytes.specs.Numbers.{AllBytes}
 use Rattle.fm_bytes.specs.Reading.{whole}
 use Rattle.fm_core.specs.Meaning.{Diagnosis}
 use Rattle.ev_graph.specs.Lawful.{GraphValue}
-use Rattle.dx_words.specs.Cases.{waits}
+use Rattle.dx_explain.specs.Cases.{waits}
 use Rattle.dx_state.specs.Configured.{Rules, found_at, configuration_at}
 use Rattle.dx_state.specs.Fitting.{diagnosis_fits}
 use Rattle.dx_state.specs.LawfulState.{is_state}

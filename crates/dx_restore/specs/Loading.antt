@@ -3,7 +3,7 @@ use Rattle.std.specs.Prelude.{◌≡◌, ℕ, true, false, List, map, Option, So
 use Rattle.std.specs.List.{list_all, All}
 use Rattle.fm_core.specs.Meaning.{Diagnosis}
 use Rattle.ev_graph.specs.Lawful.{GraphValue}
-use Rattle.dx_words.specs.Cases.{waits}
+use Rattle.dx_explain.specs.Cases.{waits}
 use Rattle.dx_state.specs.Configured.{Rules, found_at, configuration_at}
 use Rattle.dx_state.specs.LawfulState.{is_state}
 use Rattle.dx_state.specs.StateBytes.{diagnosis_bytes}

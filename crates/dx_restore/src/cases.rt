@@ -2,7 +2,7 @@
 
 ghost use Rattle.std.specs.Prelude.{◌≡◌, true, false, map, IfOk, MatchOption};
 ghost use Rattle.std.specs.List.{list_all, All};
-ghost use Rattle.dx_words.specs.Cases.{waits};
+ghost use Rattle.dx_explain.specs.Cases.{waits};
 ghost use Rattle.dx_case.specs.Cases.{open_of};
 ghost use Rattle.dx_case.specs.Facts.{facts_fit};
 ghost use Rattle.dx_case.specs.Starts.{AreStartsOf};

@@ -5,7 +5,7 @@ ghost use Rattle.std.specs.List.{All, list_any};
 ghost use Rattle.fm_bytes.specs.Numbers.{counted_bytes};
 ghost use Rattle.fm_entry.specs.WordBytes.{has_links, word_bytes};
 ghost use Rattle.dx_state.specs.StateBytes.{diagnosis_bytes, open_case_bytes, moments_bytes};
-ghost use Rattle.dx_words.specs.Cases.{broken_of};
+ghost use Rattle.dx_explain.specs.Cases.{broken_of};
 ghost use Rattle.dx_case.specs.Cases.{open_of};
 ghost use Rattle.dx_restore.specs.Parts.{loaded_state, parts_state};
 ghost use Rattle.dx_restore.specs.Saving.{IsLawfulSomewhere, IsShortCase, IsShortWord};

@@ -7,7 +7,7 @@ use Rattle.std.specs.List.{list_all}
 use Rattle.fm_nv.specs.Data.{Pairs}
 use Rattle.ev_graph.specs.Cutting.{is_cut}
 use Rattle.ev_graph.specs.declared.instances.Link.{Link}
-use Rattle.ev_inst.specs.Guards.{GuardAlike, GuardsValue}
+use Rattle.ev_guards.specs.Guards.{GuardAlike, GuardsValue}
 use Rattle.dx_state.specs.Configured.{Guarding, unguarded}
 use Rattle.dx_rules.specs.Payloads.{guarding_of, props_of}
 

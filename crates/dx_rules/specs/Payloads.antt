@@ -5,8 +5,8 @@ use Rattle.fm_topo.specs.declared.values.TopoValue.{TopoValue}
 use Rattle.fm_topo.specs.declared.values.TopoValue.TheVariants.{Number, Text}
 use Rattle.ev_expr.specs.declared.settings.Prop.{Prop}
 use Rattle.ev_graph.specs.declared.instances.Link.{Link}
-use Rattle.ev_inst.specs.Guards.{GuardsValue, guarded_links, broken_by}
-use Rattle.ev_inst.proofs.GuardedLinks.{only_cut}
+use Rattle.ev_guards.specs.Guards.{GuardsValue, guarded_links, broken_by}
+use Rattle.ev_guards.proofs.GuardedLinks.{only_cut}
 use Rattle.dx_state.specs.Configured.{Guarding}
 
 -- the value of a pair, where a condition can ask it: a number from 0 or a text

@@ -1,6 +1,6 @@
 -- What a rulebook says.
 use Rattle.std.specs.Prelude.{map, Option, Some, None}
-use Rattle.ev_inst.specs.Guards.{GuardsValue}
+use Rattle.ev_guards.specs.Guards.{GuardsValue}
 use Rattle.dx_state.specs.Configured.{Configuration, Configurations, Guarding, Single, Listed}
 use Rattle.dx_state.specs.Configured.{Rules, unguarded}
 use Rattle.dx_rules.specs.Payloads.{guarding_of}

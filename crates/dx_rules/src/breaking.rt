@@ -5,7 +5,7 @@ ghost use Rattle.dx_rules.specs.Payloads.{guarding_of, links_to_node};
 
 use crate::pairs::props_of;
 use ev_graph::{Link, NoMemory};
-use ev_inst::Guards;
+use ev_guards::Guards;
 use fm_nv::Nv;
 use std::alloc::Global;
 

@@ -6,7 +6,7 @@
 //!
 //! A configuration has guards of the links that payloads can break, or none where they can break
 //! no link; and it keeps the [`Classes`] of its graph's reports and a [`ReportIndex`] of them, which
-//! its meaning leaves out. Contracts see the `Guards` of a graph as a `GuardsValue` (ev_inst) and a
+//! its meaning leaves out. Contracts see the `Guards` of a graph as a `GuardsValue` (ev_guards) and a
 //! payload as its `Pairs` (fm_nv): `guarding_of` makes of the guards what dx_state says of a
 //! configuration, which links payloads can break and which of them a payload breaks
 //! (`specs/Payloads`).
@@ -27,7 +27,7 @@ mod ruled;
 
 pub use classes::Classes;
 pub use ev_graph::NoMemory;
-pub use ev_inst::Guards;
+pub use ev_guards::Guards;
 pub use report_index::ReportIndex;
 pub use rulebook::{Configs, Rulebook};
 pub use ruled::Ruled;

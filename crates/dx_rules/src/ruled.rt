@@ -9,7 +9,7 @@ use crate::breaking::broken_links;
 use crate::classes::Classes;
 use crate::report_index::ReportIndex;
 use ev_graph::{CutTest, Graph, Link, NoMemory};
-use ev_inst::Guards;
+use ev_guards::Guards;
 use fm_name::{Class, Fmri};
 use fm_nv::Nv;
 use std::alloc::Global;

@@ -1,5 +1,5 @@
 -- The place of a word by its number.
-use Rattle.std.proofs.Common.{◌≡◌, ◌≢◌, ℕ, zero, suc, ◌<◌, ◌≤◌, ◌==◌, Bool, true, false}
+use Rattle.std.proofs.Common.{◌≡◌, ◌≢◌, ℕ, zero, suc, ◌<◌, ◌≤◌, Bool, true, false}
 use Rattle.std.proofs.Common.{nat_lt, IsTrue, List, [], ◌∷◌, length, get_or, refl, sym}
 use Rattle.std.proofs.Common.{ap}
 use Rattle.std.proofs.Common.{◌∙◌, arith, if◌then◌else◌}
@@ -8,9 +8,8 @@ use Rattle.std.specs.List.{AllWithin, list_all}
 use Rattle.std.specs.List.Sorted.{IsPartitionedBy}
 use Rattle.std.proofs.lemmas.Bool.{and_parts}
 use Rattle.std.proofs.lemmas.Bool.Decides.{nat_tests}
-use Rattle.fm_bytes.proofs.Booleans.{or_parts}
 use Rattle.fm_entry.specs.declared.list_event.ListEvent.{ListEvent}
-use Rattle.ev_graph.specs.Sets.{ascends, is_member}
+use Rattle.ev_graph.specs.Sets.{ascends}
 use Rattle.dx_state.specs.LawfulState.{solved_numbers}
 use Rattle.dx_state.proofs.Lists.{is_strict, strict_of, ascends_of}
 use Rattle.dx_step.proofs.Parts.{inserted_strict}
@@ -49,27 +48,6 @@ put_step x y ys low =
     let two : nat_lt y.case.case x.case.case ≡ true = grind (arith, nat_tests) in
     (λ i. if one i then x ∷ y ∷ ys
     else (if two i then y ∷ with_last_word x ys else y ∷ ys))
-
-pub put_at : (x : ListEvent) (ws : List ListEvent) (at : ℕ) → at ≤ length ws
-    → AllWithin (λ w. is_before x.case.case w ≡ true) ws 0 at
-    → AllWithin (λ w. is_before x.case.case w ≡ false) ws at (length ws)
-    → is_member (solved_numbers ws) x.case.case ≡ false
-    → insert ws at x ≡ with_last_word x ws
-put_at x [] zero l a b other = refl
-put_at x [] (suc at) l a b other = absurd (omega arith)
-put_at x (y ∷ ys) zero l a b other =
-    let here : nat_lt y.case.case x.case.case ≡ false = b 0 x (omega arith) (omega arith) in
-    let apart = (or_parts (y.case.case == x.case.case) _ other).0 in
-    let first : nat_lt x.case.case y.case.case ≡ true = grind (arith, nat_tests) in
-    sym (ap (λ (t : Bool). if t then x ∷ y ∷ ys
-    else (if nat_lt y.case.case x.case.case then y ∷ with_last_word x ys else y ∷ ys)) first)
-put_at x (y ∷ ys) (suc at) l a b other =
-    let here : nat_lt y.case.case x.case.case ≡ true = a 0 x (omega arith) (omega arith) in
-    let low : y.case.case < x.case.case = grind (arith, nat_tests) in
-    let rest = put_at x ys at (omega arith) (λ k d p q. a (suc k) d (omega arith) (omega arith))
-    (λ k d p q. b (suc k) d (omega arith) (omega arith))
-    (or_parts (y.case.case == x.case.case) _ other).1 in
-    ap (λ ws. y ∷ ws) rest ∙ sym (put_step x y ys low)
 
 -- a word whose case has none at its place
 pub put_new : (x : ListEvent) (ws : List ListEvent) (at : ℕ) (e : ListEvent) → at ≤ length ws

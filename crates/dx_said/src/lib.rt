@@ -21,5 +21,5 @@ pub use fm_bytes::NoMemory;
 pub use marked::{AfterMarks, mark_words, marks_any};
 pub use marking::{AtPath, Choice, OfCase, UnderPath, mark_word};
 pub use naming::names;
-pub use places::{put_word, put_words};
+pub use places::put_words;
 pub use suspecting::{suspects, upsets};

@@ -19,8 +19,8 @@ use Rattle.fm_entry.specs.Entries.{moment_of}
 use Rattle.fm_core.specs.Meaning.{OpenCase, Diagnosis}
 use Rattle.fm_core.specs.Configurations.{NamesKnown}
 use Rattle.ev_graph.specs.declared.instances.Link.{Link}
-use Rattle.dx_words.specs.Cases.{Verdict, Solving, Upsetting, Unexplained, verdict_of, waits}
-use Rattle.dx_words.specs.Cases.{takes_report, case_opened, case_joined}
+use Rattle.dx_explain.specs.Cases.{Verdict, Solving, Upsetting, Unexplained, verdict_of, waits}
+use Rattle.dx_explain.specs.Cases.{takes_report, case_opened, case_joined}
 use Rattle.dx_state.specs.Configured.{Rules, Configuration, or_none, known_of}
 use Rattle.dx_state.specs.Configured.{configuration_at}
 use Rattle.dx_step.specs.Said.{nodes_of, suspects_of, upsets_named, word_on, with_last_word}

@@ -12,9 +12,9 @@ use Rattle.ev_graph.specs.Kinds.{has_kind}
 use Rattle.ev_graph.specs.Lawful.{GraphValue}
 use Rattle.ev_graph.specs.declared.nodes.NodeKind.{NodeKind}
 use Rattle.fm_core.specs.Meaning.{OpenCase}
-use Rattle.dx_words.specs.Search.{numbers_below}
-use Rattle.dx_words.specs.Stories.{explains}
-use Rattle.dx_words.specs.Cases.{blamed, cuts_of}
+use Rattle.dx_explain.specs.Search.{numbers_below}
+use Rattle.dx_explain.specs.Stories.{explains}
+use Rattle.dx_explain.specs.Cases.{blamed, cuts_of}
 use Rattle.dx_state.proofs.Lists.{all_other, is_strict, ascends_of}
 use Rattle.dx_state.proofs.Spelled.{kind_below}
 

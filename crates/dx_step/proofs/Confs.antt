@@ -15,8 +15,8 @@ use Rattle.ev_graph.specs.declared.nodes.EngineSpec.{EngineSpec}
 use Rattle.ev_graph.specs.declared.nodes.NodeKind.{NodeKind}
 use Rattle.ev_graph.specs.declared.nodes.NodeKind.TheVariants.{Fault, Defect, Upset, Inner, Report}
 use Rattle.ev_graph.specs.declared.instances.Link.{Link}
-use Rattle.dx_words.specs.Cases.{Verdict, Solving, Upsetting, Unexplained, verdict_of, waits}
-use Rattle.dx_words.specs.Cases.{case_opened, case_joined}
+use Rattle.dx_explain.specs.Cases.{Verdict, Solving, Upsetting, Unexplained, verdict_of, waits}
+use Rattle.dx_explain.specs.Cases.{case_opened, case_joined}
 use Rattle.dx_state.specs.Configured.{Rules}
 use Rattle.dx_step.specs.Said.{nodes_of}
 use Rattle.dx_step.specs.Turns.{Turn, configuration_of, graph_of, turn_cases, with_cases, keep, say}

@@ -16,8 +16,8 @@ use Rattle.ev_graph.specs.Lawful.{GraphValue}
 use Rattle.ev_graph.specs.declared.nodes.Node.{Node}
 use Rattle.ev_graph.specs.declared.nodes.NodeKind.{NodeKind}
 use Rattle.ev_graph.specs.declared.nodes.NodeKind.TheVariants.{Fault, Defect, Upset, Inner, Report}
-use Rattle.dx_words.specs.Cases.{faults_of, upsets_of, verdict}
-use Rattle.dx_words.specs.Cases.{is_solving_kind}
+use Rattle.dx_explain.specs.Cases.{faults_of, upsets_of, verdict}
+use Rattle.dx_explain.specs.Cases.{is_solving_kind}
 use Rattle.dx_state.specs.Configured.{Rules}
 use Rattle.dx_state.specs.LawfulState.{is_last_word, events_ascend}
 use Rattle.dx_state.specs.LawfulState.{open_numbers, solved_numbers}

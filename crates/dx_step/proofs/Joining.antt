@@ -20,8 +20,8 @@ use Rattle.ev_graph.specs.Kinds.{is_report_node, is_report_kind, has_kind}
 use Rattle.ev_graph.specs.Cutting.{is_cut}
 use Rattle.ev_graph.specs.declared.nodes.Node.{Node}
 use Rattle.ev_graph.specs.declared.instances.Link.{Link}
-use Rattle.dx_words.specs.Cases.{waits, case_opened, case_joined, inserted, with_links}
-use Rattle.dx_words.specs.Cases.{broken_of}
+use Rattle.dx_explain.specs.Cases.{waits, case_opened, case_joined, inserted, with_links}
+use Rattle.dx_explain.specs.Cases.{broken_of}
 use Rattle.dx_state.specs.Configured.{Rules, Configuration, configuration_at}
 use Rattle.dx_state.specs.LawfulState.{is_open_case, is_last_word, is_own_link, open_numbers}
 use Rattle.dx_state.specs.LawfulState.{solved_numbers}

@@ -30,9 +30,9 @@ use Rattle.fm_core.specs.Meaning.{OpenCase}
 use Rattle.ev_graph.specs.Kinds.{is_root_kind, is_upset_kind}
 use Rattle.ev_graph.specs.Lawful.{GraphValue, IsGraph}
 use Rattle.ev_graph.specs.declared.nodes.NodeKind.{NodeKind}
-use Rattle.dx_words.specs.Cases.{cuts_of, waits, is_solving_kind}
-use Rattle.dx_words.specs.Laws.{HasPending}
-use Rattle.dx_words.proofs.Meaning.{explaining, waiting}
+use Rattle.dx_explain.specs.Cases.{cuts_of, waits, is_solving_kind}
+use Rattle.dx_explain.specs.CaseLaws.{HasPending}
+use Rattle.dx_explain.proofs.Meaning.{explaining, waiting}
 use Rattle.dx_step.specs.Exact.{Explaining, ByTest, ByStories, AreAll, HasNone, IsExactFor, IsExact}
 use Rattle.dx_step.specs.Exact.{HaveGraphs}
 use Rattle.dx_step.specs.Turns.{Turn, configuration_of, graph_of, begin_at, settle_all, decide_all}

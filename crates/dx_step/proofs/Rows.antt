@@ -1,8 +1,8 @@
 -- The small module, computed.
 use Rattle.std.proofs.Common.{refl}
-use Rattle.dx_words.specs.Search.{some_below, every_below, numbers_below, some_set}
-use Rattle.dx_words.specs.Stories.{is_story, explains, comes_from}
-use Rattle.dx_words.specs.Cases.{waits, blamed}
+use Rattle.dx_explain.specs.Search.{some_below, every_below, numbers_below, some_set}
+use Rattle.dx_explain.specs.Stories.{is_story, explains, comes_from}
+use Rattle.dx_explain.specs.Cases.{waits, blamed}
 use Rattle.dx_step.specs.Certainty.{certainties}
 use Rattle.dx_step.specs.Turns.{decide, settle}
 use Rattle.dx_step.specs.Reports.{declares, join, report}

@@ -2,7 +2,7 @@
 use Rattle.std.proofs.Common.{◌≡◌, Bool, true, false, IsTrue, List, [], ◌∷◌, ◌++◌, refl, sym, ap}
 use Rattle.std.proofs.Common.{◌∙◌, subst, append_assoc, if◌then◌else◌}
 use Rattle.fm_core.specs.Meaning.{OpenCase}
-use Rattle.dx_words.specs.Cases.{waits}
+use Rattle.dx_explain.specs.Cases.{waits}
 use Rattle.dx_state.specs.Configured.{Rules}
 use Rattle.dx_step.specs.Turns.{Turn, graph_of, turn_cases, keep, decide, settle}
 use Rattle.dx_step.specs.Turns.{settle_each, decide_each}

@@ -8,7 +8,7 @@ use Rattle.fm_entry.specs.Words.{word_fits}
 use Rattle.fm_entry.specs.declared.list_event.ListEvent.{ListEvent}
 use Rattle.fm_core.specs.Meaning.{OpenCase, Diagnosis}
 use Rattle.ev_graph.specs.Kinds.{is_report_node}
-use Rattle.dx_words.specs.Cases.{waits}
+use Rattle.dx_explain.specs.Cases.{waits}
 use Rattle.dx_state.specs.Configured.{Rules, configuration_at}
 use Rattle.dx_state.specs.LawfulState.{is_open_case, is_last_word, are_engines, open_numbers}
 use Rattle.dx_state.specs.LawfulState.{solved_numbers}

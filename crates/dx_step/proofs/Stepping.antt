@@ -18,7 +18,7 @@ use Rattle.fm_core.specs.Meaning.{OpenCase, Diagnosis}
 use Rattle.ev_graph.specs.declared.nodes.EngineSpec.{EngineSpec}
 use Rattle.dx_serd.specs.Rates.{are_kept, none_past}
 use Rattle.dx_serd.proofs.Moments.{past_later}
-use Rattle.dx_words.specs.Cases.{waits}
+use Rattle.dx_explain.specs.Cases.{waits}
 use Rattle.dx_state.specs.Configured.{Rules, Configuration, Configurations, Single, Listed}
 use Rattle.dx_state.specs.Configured.{found_at}
 use Rattle.dx_state.specs.Configured.{known_of, configuration_at, or_none}
@@ -139,7 +139,8 @@ engines_later time later (e ∷ es) (k ∷ ks) low h =
     (and_from (are_kept e.n e.t k) _ one.0 (past_later time later k low one.1))
     (engines_later time later es ks low parts.1)
 
-begun : (r : Rules) (s : Diagnosis) (moment : ℕ) → moment < 2 ^ 62 → IsLawfulState r s
+-- a lawful state, as a turn begins
+pub begun : (r : Rules) (s : Diagnosis) (moment : ℕ) → moment < 2 ^ 62 → IsLawfulState r s
     → IsTurn r s.open_cases (begin_at moment s)
 begun r s moment low h =
     let x = configuration_of r s in

@@ -14,8 +14,8 @@ use Rattle.ev_graph.specs.Kinds.{has_kind, is_report_node, is_root_kind, is_upse
 use Rattle.ev_graph.specs.Lawful.{GraphValue, IsGraph}
 use Rattle.ev_graph.specs.declared.nodes.NodeKind.{NodeKind}
 use Rattle.dx_explain.specs.Laws.{Explains}
-use Rattle.dx_words.specs.Stories.{explains}
-use Rattle.dx_words.specs.Cases.{cuts_of, is_solving_kind}
+use Rattle.dx_explain.specs.Stories.{explains}
+use Rattle.dx_explain.specs.Cases.{cuts_of, is_solving_kind}
 use Rattle.dx_state.specs.Configured.{Rules, configuration_at}
 use Rattle.dx_step.specs.Said.{nodes_of, event_names, suspects_of, upsets_named}
 use Rattle.dx_step.specs.Reports.{report_named}

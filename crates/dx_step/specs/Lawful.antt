@@ -3,7 +3,7 @@ use Rattle.std.specs.Prelude.{◌^◌, ◌&&◌, Bool, true, false, nat_lt, nat_
 use Rattle.std.specs.Prelude.{None}
 use Rattle.std.specs.List.{list_all}
 use Rattle.fm_core.specs.Meaning.{Diagnosis}
-use Rattle.dx_words.specs.Cases.{waits}
+use Rattle.dx_explain.specs.Cases.{waits}
 use Rattle.dx_state.specs.Configured.{Configuration, Configurations, Single, Listed, Rules}
 use Rattle.dx_state.specs.Configured.{found_at}
 use Rattle.dx_state.specs.LawfulState.{is_formed_configuration, is_state}

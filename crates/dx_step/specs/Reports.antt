@@ -12,7 +12,7 @@ use Rattle.fm_core.specs.Meaning.{OpenCase, Diagnosis}
 use Rattle.ev_graph.specs.Kinds.{is_report_kind}
 use Rattle.ev_graph.specs.Lawful.{GraphValue}
 use Rattle.ev_graph.specs.declared.instances.Link.{Link}
-use Rattle.dx_words.specs.Cases.{takes_report, waits, case_opened, case_joined}
+use Rattle.dx_explain.specs.Cases.{takes_report, waits, case_opened, case_joined}
 use Rattle.dx_state.specs.Configured.{Rules, Configuration}
 use Rattle.dx_step.specs.Turns.{Turn, configuration_of, graph_of, turn_cases, with_cases, say}
 use Rattle.dx_step.specs.Turns.{decide, settle}

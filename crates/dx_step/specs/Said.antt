@@ -12,7 +12,7 @@ use Rattle.ev_graph.specs.Lawful.{GraphValue}
 use Rattle.ev_graph.specs.declared.nodes.Node.{Node}
 use Rattle.ev_graph.specs.declared.nodes.NodeKind.{NodeKind}
 use Rattle.ev_graph.specs.declared.nodes.NodeKind.TheVariants.{Fault, Defect}
-use Rattle.dx_words.specs.Cases.{inserted}
+use Rattle.dx_explain.specs.Cases.{inserted}
 use Rattle.dx_step.specs.Certainty.{certainties}
 
 -- the nodes of these numbers

@@ -12,7 +12,7 @@ use Rattle.ev_graph.specs.declared.nodes.EngineSpec.{EngineSpec}
 use Rattle.ev_graph.specs.declared.nodes.NodeKind.{NodeKind}
 use Rattle.ev_graph.specs.declared.nodes.NodeKind.TheVariants.{Upset}
 use Rattle.dx_serd.specs.Rates.{fires, kept_after}
-use Rattle.dx_words.specs.Cases.{Verdict, Solving, Upsetting, Unexplained, verdict_of, waits}
+use Rattle.dx_explain.specs.Cases.{Verdict, Solving, Upsetting, Unexplained, verdict_of, waits}
 use Rattle.dx_state.specs.Configured.{Rules, Configuration, configuration_at}
 use Rattle.dx_step.specs.Said.{nodes_of, suspects_of, upsets_named, word_on, with_last_word}
 

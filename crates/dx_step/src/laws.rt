@@ -6,7 +6,7 @@ ghost use Rattle.fm_entry.specs.declared.entry.Entry.TheVariants.{Report, Tick};
 ghost use Rattle.fm_entry.specs.Entries.{IsSpelled};
 ghost use Rattle.fm_entry.specs.Words.{IsWordOf};
 ghost use Rattle.fm_core.specs.Meaning.{State, Diagnosis, conf_after};
-ghost use Rattle.dx_words.specs.Laws.{HasPending};
+ghost use Rattle.dx_explain.specs.CaseLaws.{HasPending};
 ghost use Rattle.dx_state.specs.Configured.{Rules, known_of};
 ghost use Rattle.dx_step.specs.Certainty.{certainties};
 ghost use Rattle.dx_step.specs.Turns.{graph_of};

@@ -8,7 +8,7 @@ use Rattle.std.specs.List.{All, list_any}
 use Rattle.std.proofs.lemmas.Bool.{false≢true}
 use Rattle.fm_core.specs.Meaning.{OpenCase}
 use Rattle.ev_graph.specs.Lawful.{GraphValue}
-use Rattle.dx_words.specs.Cases.{takes_report, case_joined, case_opened}
+use Rattle.dx_explain.specs.Cases.{takes_report, case_joined, case_opened}
 use Rattle.dx_case.specs.declared.case.Case.{Case}
 use Rattle.dx_case.specs.Cases.{open_of}
 use Rattle.dx_turn.specs.declared.ground.Ground.{Ground}

@@ -7,7 +7,7 @@ use Rattle.std.proofs.lemmas.Bool.{lt-ltb}
 use Rattle.std.proofs.lemmas.Bool.Decides.{nat_tests}
 use Rattle.fm_core.specs.Meaning.{OpenCase}
 use Rattle.ev_graph.specs.Lawful.{GraphValue}
-use Rattle.dx_words.specs.Cases.{waits, takes_report, case_joined, case_opened}
+use Rattle.dx_explain.specs.Cases.{waits, takes_report, case_joined, case_opened}
 use Rattle.dx_step.specs.Turns.{Turn, decide, settle}
 use Rattle.dx_step.specs.Reports.{open_case, join_case, join_or_open}
 use Rattle.dx_turn.specs.declared.ground.Ground.{Ground}

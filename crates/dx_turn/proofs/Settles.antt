@@ -3,7 +3,7 @@ use Rattle.std.proofs.Common.{◌≡◌, ℕ, Bool, true, false, List, [], ◌�
 use Rattle.std.proofs.Common.{subst, append_assoc, append-nil, if◌then◌else◌}
 use Rattle.fm_core.specs.Meaning.{OpenCase}
 use Rattle.ev_graph.specs.Lawful.{GraphValue}
-use Rattle.dx_words.specs.Cases.{waits}
+use Rattle.dx_explain.specs.Cases.{waits}
 use Rattle.dx_state.specs.Configured.{Rules}
 use Rattle.dx_step.specs.Turns.{Turn, decide, settle, settle_each}
 use Rattle.dx_turn.specs.declared.ground.Ground.{Ground}

@@ -8,8 +8,8 @@ use Rattle.fm_entry.specs.declared.list_event.ListEvent.{ListEvent}
 use Rattle.fm_core.specs.Meaning.{OpenCase}
 use Rattle.ev_graph.specs.Lawful.{GraphValue, IsGraph}
 use Rattle.ev_graph.specs.declared.nodes.Node.{Node}
-use Rattle.dx_words.specs.Cases.{Verdict, Solving, verdict, verdict_of}
-use Rattle.dx_words.specs.Cases.{faults_of, upsets_of, is_solving_kind}
+use Rattle.dx_explain.specs.Cases.{Verdict, Solving, verdict, verdict_of}
+use Rattle.dx_explain.specs.Cases.{faults_of, upsets_of, is_solving_kind}
 use Rattle.dx_step.proofs.Blamed.{are_blamed}
 use Rattle.dx_state.proofs.Lists.{strict_few, all_pass}
 use Rattle.std.specs.List.{list_all}

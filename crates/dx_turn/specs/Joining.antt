@@ -3,7 +3,7 @@ use Rattle.std.specs.Prelude.{◌≡◌, ◌<◌, ℕ, Bool, true, false}
 use Rattle.std.specs.Prelude.{List, length, Option, Some, None, take}
 use Rattle.std.specs.List.{All, HoldsAt, list_any}
 use Rattle.fm_core.specs.Meaning.{OpenCase}
-use Rattle.dx_words.specs.Cases.{takes_report}
+use Rattle.dx_explain.specs.Cases.{takes_report}
 use Rattle.dx_case.specs.Starts.{AreStartsOf}
 use Rattle.dx_step.specs.Turns.{Turn}
 use Rattle.dx_step.specs.Reports.{join_or_open, place_of_report}

@@ -4,7 +4,7 @@ use Rattle.std.specs.Prelude.{None, if◌then◌else◌}
 use Rattle.std.specs.List.{cons_option}
 use Rattle.fm_core.specs.Meaning.{OpenCase}
 use Rattle.ev_graph.specs.Lawful.{GraphValue}
-use Rattle.dx_words.specs.Cases.{waits, takes_report}
+use Rattle.dx_explain.specs.Cases.{waits, takes_report}
 use Rattle.dx_case.specs.declared.case.Case.{Case}
 use Rattle.dx_case.specs.Cases.{open_of, time_of, waits_at, takes_at, IsCaseOf, IsBefore}
 use Rattle.dx_turn.specs.declared.tracked.Tracked.{Tracked}

@@ -6,7 +6,7 @@ use Rattle.fm_entry.specs.declared.list_event.ListEvent.{ListEvent}
 use Rattle.fm_core.specs.Meaning.{OpenCase}
 use Rattle.ev_graph.specs.Kinds.{is_report_node}
 use Rattle.dx_serd.specs.Rates.{RateOf}
-use Rattle.dx_words.specs.Cases.{waits}
+use Rattle.dx_explain.specs.Cases.{waits}
 use Rattle.dx_said.specs.Making.{with_words}
 use Rattle.dx_step.specs.Turns.{Turn, noted_at, decide}
 use Rattle.dx_turn.specs.declared.ground.Ground.{Ground}

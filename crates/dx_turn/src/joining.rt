@@ -4,7 +4,7 @@ ghost use Rattle.std.specs.Prelude.{◌≡◌, ◌∷◌, [], Some, None, true, 
 ghost use Rattle.std.specs.List.{All, list_all};
 ghost use Rattle.ev_graph.specs.Kinds.{is_report_node};
 ghost use Rattle.fm_core.specs.Meaning.{OpenCase};
-ghost use Rattle.dx_words.specs.Cases.{case_joined};
+ghost use Rattle.dx_explain.specs.Cases.{case_joined};
 ghost use Rattle.dx_case.specs.Cases.{open_of, time_of, IsCaseOf};
 ghost use Rattle.dx_case.specs.Starts.{AreStartsOf};
 ghost use Rattle.dx_step.specs.Reports.{join_each, trips};

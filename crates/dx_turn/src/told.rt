@@ -1,7 +1,7 @@
 //! What a turn has said so far.
 
 ghost use Rattle.std.specs.Prelude.{◌≡◌, ◌++◌, ◌∷◌, [], map, IfOk, OnOk};
-ghost use Rattle.dx_words.specs.Cases.{broken_of};
+ghost use Rattle.dx_explain.specs.Cases.{broken_of};
 ghost use Rattle.dx_case.specs.Cases.{open_of};
 ghost use Rattle.dx_step.specs.Said.{word_on};
 ghost use Rattle.dx_step.specs.Reports.{unknown_word};

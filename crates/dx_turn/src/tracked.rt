@@ -3,7 +3,7 @@
 ghost use Rattle.std.specs.Prelude.{◌≡◌, ◌∷◌, ℕ, [], Some, None, true, false, option_copied};
 ghost use Rattle.std.specs.List.{list_any};
 ghost use Rattle.ev_graph.specs.Lawful.{GraphValue};
-ghost use Rattle.dx_words.specs.Cases.{takes_report};
+ghost use Rattle.dx_explain.specs.Cases.{takes_report};
 ghost use Rattle.dx_turn.specs.Tracking.{now_of, opens_of, IsTrackedAt, HasOpen};
 ghost use Rattle.dx_turn.specs.Standing.{after_turn, before_turn, has_kept, is_still};
 

@@ -4,7 +4,7 @@ use Rattle.std.proofs.Common.{map}
 use Rattle.std.proofs.Common.{get_or, slice_get, Option, Some, None, refl, sym, ap, ◌∙◌, arith}
 use Rattle.std.proofs.Common.{append_assoc, append-nil, Bor, option_copied}
 use Rattle.ev_expr.specs.declared.settings.Bound.{Bound}
-use Rattle.ev_fit.proofs.Places.{none_is_not, some_is}
+use Rattle.ev_events.proofs.Places.{none_is_not, some_is}
 use Rattle.ev_events.specs.Asking.{names_down}
 
 step : (vs : List (List ℕ)) (b : List ℕ) (i : ℕ) (v : List ℕ) → slice_get vs i ≡ Some v

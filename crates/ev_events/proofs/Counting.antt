@@ -14,8 +14,8 @@ use Rattle.std.proofs.lemmas.List.Sums.{sum_by-cons}
 use Rattle.std.proofs.lemmas.List.Sorted.{ranks_by, sorted_far, sum_by-IsPermutation}
 use Rattle.std.proofs.lemmas.Option.{get_or_from_slice_get, slice_get_within}
 use Rattle.fm_topo.specs.Topology.{Topology}
-use Rattle.ev_fit.specs.Fits.{places_with}
-use Rattle.ev_fit.proofs.Places.{none_is_not}
+use Rattle.ev_events.specs.Fits.{places_with}
+use Rattle.ev_events.proofs.Places.{none_is_not}
 
 -- how often a number stands in a list
 abbrev pub often : ℕ → List ℕ → ℕ

@@ -20,7 +20,7 @@ use Rattle.ev_graph.specs.Lawful.{is_before_node, is_before_engine}
 use Rattle.ev_graph.specs.Sets.{ascends_by, starts_above}
 use Rattle.ev_graph.specs.declared.nodes.Node.{Node}
 use Rattle.ev_graph.specs.declared.nodes.EngineSpec.{EngineSpec}
-use Rattle.ev_fit.proofs.Places.{none_is_not, some_is, there_is, within_is}
+use Rattle.ev_events.proofs.Places.{none_is_not, some_is, there_is, within_is}
 use Rattle.ev_events.specs.Placed.{ArePlaced, IsAmongNames, IsAt, IsPlaced, is_before_name}
 use Rattle.ev_events.specs.Nodes.{AreEngines, AreEnginesAt, AreEnginesThere, AreNodes, AreNodesAt}
 use Rattle.ev_events.specs.Nodes.{AreNodesThere, ArePlacedEvents, EngineIsThere, HasEngine}

@@ -30,9 +30,9 @@ use Rattle.ev_tree.specs.declared.tree.Declared.{Declared}
 use Rattle.ev_graph.specs.Sets.{ascends_by}
 use Rattle.ev_graph.proofs.Ascending.{ascends_passes}
 use Rattle.ev_words.specs.Iterators.{same_name}
-use Rattle.ev_fit.proofs.Places.{some_is, none_is_not, any_found, within_is}
-use Rattle.ev_fit.proofs.Agreeing.{same_from}
-use Rattle.ev_fit.proofs.Grouped.{names_all, text_of_names}
+use Rattle.ev_events.proofs.Places.{some_is, none_is_not, any_found, within_is}
+use Rattle.ev_events.proofs.Agreeing.{same_from}
+use Rattle.ev_events.proofs.Grouped.{names_all, text_of_names}
 use Rattle.ev_events.specs.Placed.{AreKept, AreMore, ArePlaced, IsAmongNames, IsAt, IsPlaced}
 use Rattle.ev_events.specs.Placed.{event_at, is_before_name, is_name_at, is_that_name, names_joined}
 use Rattle.ev_events.specs.Placed.{number_of_name}

@@ -6,3 +6,10 @@ pub mod Keeping
 pub mod Finding
 pub mod Declaring
 pub mod BoundNames
+pub mod Places
+pub mod Columns
+pub mod Agreeing
+pub mod Grouped
+pub mod Known
+pub mod Joining
+pub mod Turning

@@ -11,9 +11,9 @@ use Rattle.fm_topo.specs.Topology.{Topology}
 use Rattle.ev_tree.specs.Pattern.{Pattern}
 use Rattle.ev_join.specs.Tables.{TableValue, rows_at}
 use Rattle.ev_join.specs.declared.table.Row.{Row}
-use Rattle.ev_fit.specs.Fits.{fits, fitting, places_with}
-use Rattle.ev_fit.specs.Sheets.{IsTableOf}
-use Rattle.ev_fit.proofs.Grouped.{count_numbers}
+use Rattle.ev_events.specs.Fits.{fits, fitting, places_with}
+use Rattle.ev_events.specs.Sheets.{IsTableOf}
+use Rattle.ev_events.proofs.Grouped.{count_numbers}
 use Rattle.ev_events.specs.Giving.{gives, giving, passes, passes_at, passes_if}
 use Rattle.ev_events.proofs.Counting.{often, rising_same, sorted_rise, places_rise, often_passing}
 use Rattle.ev_events.proofs.Counting.{often_moved}

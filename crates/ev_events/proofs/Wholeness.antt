@@ -50,9 +50,9 @@ use Rattle.ev_check.specs.declared.checked.DeclKind.{DeclKind}
 use Rattle.ev_check.specs.declared.checked.DeclKind.TheVariants as kinds
 use Rattle.ev_check.specs.declared.checked.EventSpec.{EventSpec}
 use Rattle.ev_check.specs.declared.checked.SerdSpec.{SerdSpec}
-use Rattle.ev_fit.proofs.Places.{some_is, none_is_not, first_found, first_item, any_found}
-use Rattle.ev_fit.proofs.Agreeing.{names_same}
-use Rattle.ev_fit.proofs.Grouped.{names_all}
+use Rattle.ev_events.proofs.Places.{some_is, none_is_not, first_found, first_item, any_found}
+use Rattle.ev_events.proofs.Agreeing.{names_same}
+use Rattle.ev_events.proofs.Grouped.{names_all}
 use Rattle.ev_events.specs.Whole.{category_for, is_limited, IsWholeEvent, IsWholeEngine}
 use Rattle.ev_events.specs.Whole.{IsWholeFile}
 use Rattle.ev_events.specs.Whole.{needs_cause}

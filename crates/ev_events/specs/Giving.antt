@@ -6,7 +6,7 @@ use Rattle.fm_topo.specs.Topology.{Topology}
 use Rattle.ev_tree.specs.Condition.{Condition}
 use Rattle.ev_tree.specs.Pattern.{Pattern}
 use Rattle.ev_expr.specs.Conditions.{holds}
-use Rattle.ev_fit.specs.Fits.{fits, places_with}
+use Rattle.ev_events.specs.Fits.{fits, places_with}
 use Rattle.ev_events.specs.Asking.{condition_names, asks_payload}
 
 -- the condition holds at a path, or asks the payload; none holds everywhere

@@ -3,3 +3,9 @@ pub mod Giving
 pub mod Placed
 pub mod Nodes
 pub mod Whole
+pub mod Names
+pub mod Fits
+pub mod Bindings
+pub mod Slots
+pub mod Sheets
+pub mod Turned

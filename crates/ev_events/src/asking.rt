@@ -8,8 +8,8 @@ ghost use Rattle.ev_words.specs.Words.{is_payload};
 ghost use Rattle.fm_name.specs.Path.{instances_of};
 ghost use Rattle.ev_events.specs.Asking as asking;
 
+use crate::names::Iterators;
 use ev_expr::Bound;
-use ev_fit::Iterators;
 use ev_tree::{At, Cond, Operand, Part};
 use fm_bytes::{Copies, NoMemory, Text};
 use fm_name::Fmri;

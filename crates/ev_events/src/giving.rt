@@ -2,12 +2,12 @@
 
 ghost use Rattle.std.specs.Prelude.{◌≡◌, filter, length, map, IfOk};
 ghost use Rattle.ev_tree.specs.Pattern.{view_pattern, view_option};
-ghost use Rattle.ev_fit.specs.Sheets.{IsTableOf};
+ghost use Rattle.ev_events.specs.Sheets.{IsTableOf};
 ghost use Rattle.ev_events.specs.Giving as giving;
 
 use crate::asking::{asks_payload, condition_names};
+use crate::names::Iterators;
 use ev_expr::holds;
-use ev_fit::Iterators;
 use ev_join::{Row, Table};
 use ev_tree::SidePattern;
 use fm_bytes::NoMemory;

@@ -39,11 +39,11 @@ use Rattle.ev_graph.specs.Wiring.{effects_if_any, wiring}
 use Rattle.ev_graph.specs.declared.instances.Instance.{Instance}
 use Rattle.ev_graph.specs.declared.nodes.EngineSpec.{EngineSpec}
 use Rattle.ev_graph.specs.declared.nodes.Node.{Node}
-use Rattle.ev_fit.specs.Fits.{fits, has_names}
-use Rattle.ev_fit.specs.Names.{iterators}
-use Rattle.ev_fit.proofs.Agreeing.{names_same, same_from}
-use Rattle.ev_fit.proofs.Grouped.{names_all}
-use Rattle.ev_fit.proofs.Places.{any_found, first_found, none_is_not, some_is, within_is}
+use Rattle.ev_events.specs.Fits.{fits, has_names}
+use Rattle.ev_events.specs.Names.{iterators}
+use Rattle.ev_events.proofs.Agreeing.{names_same, same_from}
+use Rattle.ev_events.proofs.Grouped.{names_all}
+use Rattle.ev_events.proofs.Places.{any_found, first_found, none_is_not, some_is, within_is}
 use Rattle.ev_events.specs.Nodes.{ArePlacedEvents, engine_name}
 use Rattle.ev_events.specs.Nodes.{node_name}
 use Rattle.ev_events.specs.Whole.{IsWholeFile, needs_cause}

@@ -15,19 +15,21 @@ use Rattle.ev_check.specs.declared.checked.PropSpec.{PropSpec}
 use Rattle.ev_join.specs.Tables.{RisesFrom}
 use Rattle.ev_graph.specs.Sets.{is_member}
 use Rattle.ev_graph.specs.declared.nodes.Node.{Node}
-use Rattle.ev_fit.specs.Bindings.{AreAllBindings}
-use Rattle.ev_fit.specs.Names.{iterators}
-use Rattle.ev_fit.proofs.Places.{none_is_not, some_is, within_is}
+use Rattle.ev_events.specs.Bindings.{AreAllBindings}
+use Rattle.ev_events.specs.Names.{iterators}
+use Rattle.ev_events.proofs.Places.{none_is_not, some_is, within_is}
 use Rattle.ev_inst.specs.Asked.{AddsDerivations, AddsGuard, AddsGuards, AreAllGuards, AreBare}
-use Rattle.ev_inst.specs.Asked.{AreGuardsTo, Guarded, asked_of, guard_if, guards_to}
-use Rattle.ev_inst.specs.Asked.{made_of, side_events, side_guards, side_patterns, view_guard}
-use Rattle.ev_inst.specs.Asked.{view_question}
+use Rattle.ev_inst.specs.Asked.{AreGuardsTo, asked_of, guard_if, guards_to}
+use Rattle.ev_guards.specs.Watched.{Guarded}
+use Rattle.ev_inst.specs.Asked.{made_of, side_events, side_guards, side_patterns}
+use Rattle.ev_guards.specs.Watched.{view_guard}
+use Rattle.ev_guards.specs.Watched.{view_question}
 use Rattle.ev_inst.specs.Gathering.{is_given}
 use Rattle.ev_inst.specs.Guarding.{Derivation, are_guards, asks_if, derivation, derivations}
 use Rattle.ev_inst.specs.Outcomes.{is_complete, is_dropped, is_event_among, is_made}
 use Rattle.ev_inst.specs.Outcomes.{instance_of, is_skipped}
-use Rattle.ev_inst.specs.declared.guards.Guard.{Guard}
-use Rattle.ev_inst.specs.declared.guards.GuardedNode.{GuardedNode}
+use Rattle.ev_guards.specs.declared.guards.Guard.{Guard}
+use Rattle.ev_guards.specs.declared.guards.GuardedNode.{GuardedNode}
 use Rattle.ev_inst.specs.declared.guarding.AllGuards.{AllGuards}
 use Rattle.ev_inst.specs.declared.guarding.RightSide.{RightSide}
 use Rattle.ev_inst.proofs.Buildable.{node_of}

@@ -9,8 +9,8 @@ use Rattle.ev_join.specs.Candidates.{IsAmong}
 use Rattle.ev_join.proofs.Ordering.{not_before_itself}
 use Rattle.ev_graph.specs.declared.instances.Instance.{Instance}
 use Rattle.ev_graph.specs.declared.nodes.Node.{Node}
-use Rattle.ev_fit.specs.Bindings.{AreAllBindings}
-use Rattle.ev_fit.proofs.Places.{none_is_not, some_is}
+use Rattle.ev_events.specs.Bindings.{AreAllBindings}
+use Rattle.ev_events.proofs.Places.{none_is_not, some_is}
 use Rattle.ev_inst.specs.Guarding.{Derivation, derivation, derivations}
 use Rattle.ev_inst.specs.Instances.{AreCandidatesOf, instances_of_all}
 use Rattle.ev_inst.specs.Outcomes.{instance_of, is_made}

@@ -21,12 +21,12 @@ use Rattle.ev_graph.specs.Lawful.{links, links_of}
 use Rattle.ev_graph.specs.Sets.{is_member}
 use Rattle.ev_graph.specs.declared.instances.Instance.{Instance}
 use Rattle.ev_graph.specs.declared.nodes.Node.{Node}
-use Rattle.ev_fit.specs.Bindings.{AreAllBindings, AreBindings, candidate_links, patterns_of}
-use Rattle.ev_fit.specs.Fits.{fitting}
-use Rattle.ev_fit.specs.Names.{iterators}
-use Rattle.ev_fit.specs.Sheets.{AreTablesOf, IsTableOf}
-use Rattle.ev_fit.proofs.Joining.{pattern_there, table_at}
-use Rattle.ev_fit.proofs.Places.{none_is_not, some_is}
+use Rattle.ev_events.specs.Bindings.{AreAllBindings, AreBindings, candidate_links, patterns_of}
+use Rattle.ev_events.specs.Fits.{fitting}
+use Rattle.ev_events.specs.Names.{iterators}
+use Rattle.ev_events.specs.Sheets.{AreTablesOf, IsTableOf}
+use Rattle.ev_events.proofs.Joining.{pattern_there, table_at}
+use Rattle.ev_events.proofs.Places.{none_is_not, some_is}
 use Rattle.ev_events.specs.Giving.{giving}
 use Rattle.ev_inst.specs.Gathering.{AddsCandidates, AddsOutcome, AreEventNumbers, AreOrderedNodes}
 use Rattle.ev_inst.specs.Gathering.{IsGatheredTo, IsOutcome, IsReady}

@@ -11,7 +11,6 @@ use Rattle.fm_topo.specs.Topology.{Topology}
 use Rattle.ev_tree.specs.Condition.{Condition}
 use Rattle.ev_tree.specs.Pattern.{Pattern}
 use Rattle.ev_check.specs.CheckedFile.{CheckedFile, view_prop}
-use Rattle.ev_expr.specs.Conditions.{holds}
 use Rattle.ev_expr.specs.declared.settings.Prop.{Prop}
 use Rattle.ev_graph.specs.Lawful.{GraphValue, links, links_of}
 use Rattle.ev_graph.specs.Sets.{is_member}
@@ -19,99 +18,30 @@ use Rattle.ev_graph.specs.Wiring.{effects_if_any, wiring}
 use Rattle.ev_graph.specs.declared.instances.Instance.{Instance}
 use Rattle.ev_graph.specs.declared.instances.Link.{Link}
 use Rattle.ev_graph.specs.declared.nodes.Node.{Node}
-use Rattle.ev_fit.specs.Names.{iterators}
+use Rattle.ev_events.specs.Names.{iterators}
 use Rattle.ev_events.specs.Asking.{condition_names}
-use Rattle.ev_fit.proofs.Places.{none_is_not, some_is, there_is, within_is}
-use Rattle.ev_inst.specs.Asked.{AreAllGuards, AreGuardsTo, Asked, Guarded}
-use Rattle.ev_inst.specs.Asked.{asked_if, asked_of, guard_if, guards_to, view_guard}
-use Rattle.ev_inst.specs.Asked.{view_question}
+use Rattle.ev_events.proofs.Places.{none_is_not, some_is, there_is, within_is}
+use Rattle.ev_inst.specs.Asked.{AreAllGuards, AreGuardsTo}
+use Rattle.ev_guards.specs.Watched.{Asked, Guarded}
+use Rattle.ev_inst.specs.Asked.{asked_if, asked_of, guard_if, guards_to}
+use Rattle.ev_guards.specs.Watched.{view_guard}
 use Rattle.ev_inst.specs.Gathering.{is_given}
 use Rattle.ev_inst.specs.Guarding.{Derivation, are_guards, asks_if, breaks, broken_at, derivations}
 use Rattle.ev_inst.specs.Guarding.{guarded_at, guards, holds_with, link_of, links_guarded}
 use Rattle.ev_inst.specs.Guarding.{shows_with}
-use Rattle.ev_inst.specs.Guards.{AreGuardsOf, GuardsValue, IsInstantiated, broken_by}
-use Rattle.ev_inst.specs.Guards.{broken_of, guard_instance, guarded_links, guards_if_any}
-use Rattle.ev_inst.specs.Guards.{is_broken, is_guard_of, is_guarded, is_met, link_to, links_to}
+use Rattle.ev_inst.specs.GuardsOf.{AreGuardsOf, IsInstantiated}
+use Rattle.ev_guards.specs.Guards.{GuardsValue, broken_by, broken_of, guard_instance, guarded_links}
+use Rattle.ev_guards.specs.Guards.{guards_if_any, is_broken, is_guard_of, is_guarded, link_to}
+use Rattle.ev_guards.specs.Guards.{links_to}
 use Rattle.ev_inst.specs.Instances.{instances_of_all}
-use Rattle.ev_inst.specs.Outcomes.{events_of, is_event_among, is_event_of}
-use Rattle.ev_inst.specs.Outcomes.{numbers_with}
-use Rattle.ev_inst.specs.declared.guards.Question.{Question}
-use Rattle.ev_inst.specs.declared.guards.Guard.{Guard}
-use Rattle.ev_inst.specs.declared.guards.GuardedNode.{GuardedNode}
+use Rattle.ev_inst.specs.Outcomes.{events_of, is_event_among, is_event_of, numbers_with}
+use Rattle.ev_guards.specs.declared.guards.Guard.{Guard}
+use Rattle.ev_guards.specs.declared.guards.GuardedNode.{GuardedNode}
 use Rattle.ev_inst.specs.declared.guarding.AllGuards.{AllGuards}
+use Rattle.ev_guards.proofs.Watching.{answer, is_of_instance, guard_any, guarded_instance, is_unmet}
+use Rattle.ev_guards.proofs.Watching.{broken_map, watched_link, links_here}
 use Rattle.ev_inst.proofs.Deriving.{all_derived, derived, same_candidates}
 use Rattle.ev_inst.proofs.NodeSets.{numbers_member}
-
--- ---- what is asked, without where it lies in memory
-abbrev pub answer : Topology → List ℕ → List Prop → Asked → Bool
-answer topology path props a = holds (record {
-  names = a.names;
-  topology = topology;
-  path = path;
-  props = props;
-}) a.condition
-
-pub met_any : (topology : Topology) (path : List ℕ) (props : List Prop) (qs : List Question)
-    → list_any (is_met topology path props) qs
-    ≡ list_any (answer topology path props) (map view_question qs)
-met_any topology path props [] = refl
-met_any topology path props (q ∷ qs) =
-    ap (λ (b : Bool). is_met topology path props q || b) (met_any topology path props qs)
-
-abbrev is_of_instance : ℕ → Guarded → Bool
-is_of_instance i v = v.instance == i
-
-guard_any : (i : ℕ) (gs : List Guard)
-    → list_any (is_guard_of i) gs ≡ list_any (is_of_instance i) (map view_guard gs)
-guard_any i [] = refl
-guard_any i (g ∷ gs) = ap (λ (b : Bool). is_guard_of i g || b) (guard_any i gs)
-
-abbrev pub guarded_instance : Guarded → ℕ
-guarded_instance v = v.instance
-
-abbrev pub is_unmet : Topology → List ℕ → List Prop → List Asked → Bool
-is_unmet topology path props asked = not (list_any (answer topology path props) asked)
-
-pub broken_map : (topology : Topology) (path : List ℕ) (props : List Prop) (gs : List Guard)
-    → map guard_instance (filter (is_broken topology path props) gs)
-    ≡ map guarded_instance
-    (filter (λ v. is_unmet topology path props v.asked) (map view_guard gs))
-broken_map topology path props [] = refl
-broken_map topology path props (g ∷ gs) =
-    by (is_broken topology path props g) refl (broken_map topology path props gs) where
-      seen : is_broken topology path props g
-          ≡ is_unmet topology path props (map view_question g.questions.items)
-      seen = ap not (met_any topology path props g.questions.items)
-
-      by : (b : Bool) → is_broken topology path props g ≡ b
-          → map guard_instance (filter (is_broken topology path props) gs)
-          ≡ map guarded_instance
-          (filter (λ v. is_unmet topology path props v.asked) (map view_guard gs))
-          → map guard_instance (filter (is_broken topology path props) (g ∷ gs))
-          ≡ map guarded_instance
-          (filter (λ v. is_unmet topology path props v.asked) (map view_guard (g ∷ gs)))
-      by b is rest =
-          step (is_broken topology path props g)
-          (is_unmet topology path props (map view_question g.questions.items)) seen where
-            step : (x y : Bool) → x ≡ y
-                → map guard_instance (cond x (g ∷ filter (is_broken topology path props) gs)
-                (filter (is_broken topology path props) gs))
-                ≡ map guarded_instance (cond y (view_guard g
-                ∷ filter (λ v. is_unmet topology path props v.asked) (map view_guard gs))
-                (filter (λ v. is_unmet topology path props v.asked) (map view_guard gs)))
-            step true true e = ap (λ (xs : List ℕ). g.instance ∷ xs) rest
-            step false false e = rest
-            step true false e = absurd (false≢true (sym e))
-            step false true e = absurd (false≢true e)
-
--- ---- the links
-abbrev pub watched_link : ℕ → Guarded → Link
-watched_link e g = record { instance = g.instance; effect = e }
-
-pub links_here : (e : ℕ) (gs : List Guard)
-    → map (link_to e) gs ≡ map (watched_link e) (map view_guard gs)
-links_here e [] = refl
-links_here e (g ∷ gs) = ap (λ (ls : List Link). link_to e g ∷ ls) (links_here e gs)
 
 -- ---- patterns that ask: what shows with a payload is what is answered
 module _ {P A : Type 0} (event : P → Bool) (asks : P → Bool) (ask : P → Option A)

@@ -14,7 +14,7 @@ use Rattle.ev_graph.specs.Kinds.{is_upset_kind}
 use Rattle.ev_graph.specs.declared.nodes.NodeKind.{NodeKind}
 use Rattle.ev_graph.specs.declared.nodes.NodeKind.TheVariants as nodes
 use Rattle.ev_file.specs.Files.{is_category_for}
-use Rattle.ev_fit.proofs.Places.{within_is}
+use Rattle.ev_events.proofs.Places.{within_is}
 use Rattle.ev_events.specs.Nodes.{IsKindAt}
 use Rattle.ev_events.specs.Whole.{category_for, is_limited}
 

@@ -8,5 +8,4 @@ pub mod Deriving
 pub mod GuardLaws
 pub mod Questioning
 pub mod Collected
-pub mod GuardedLinks
-pub mod GuardsAlike
+pub mod OneGuards

@@ -26,10 +26,10 @@ use Rattle.ev_graph.specs.Lawful.{name_in}
 use Rattle.ev_graph.specs.Sets.{ascends_by, is_member}
 use Rattle.ev_graph.specs.declared.nodes.Node.{Node}
 use Rattle.ev_graph.proofs.Ascending.{rises_by}
-use Rattle.ev_fit.specs.Fits.{fits, fitting, has_names, places_with}
-use Rattle.ev_fit.proofs.Places.{any_found, none_is_not, same_tests, some_is, within_is}
-use Rattle.ev_fit.proofs.Agreeing.{names_same, same_from}
-use Rattle.ev_fit.proofs.Grouped.{names_all}
+use Rattle.ev_events.specs.Fits.{fits, fitting, has_names, places_with}
+use Rattle.ev_events.proofs.Places.{any_found, none_is_not, same_tests, some_is, within_is}
+use Rattle.ev_events.proofs.Agreeing.{names_same, same_from}
+use Rattle.ev_events.proofs.Grouped.{names_all}
 use Rattle.ev_events.specs.Nodes.{node_name}
 use Rattle.ev_events.specs.Giving.{gives, giving, passes}
 use Rattle.ev_events.specs.Placed.{is_before_name}

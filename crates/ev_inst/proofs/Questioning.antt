@@ -15,18 +15,20 @@ use Rattle.ev_check.specs.Declarations.{name_of}
 use Rattle.ev_join.specs.Tables.{RisesFrom, TableValue}
 use Rattle.ev_graph.specs.Sets.{is_member}
 use Rattle.ev_graph.specs.declared.nodes.Node.{Node}
-use Rattle.ev_fit.proofs.Joining.{pattern_there}
-use Rattle.ev_fit.proofs.Places.{none_is_not, some_is}
+use Rattle.ev_events.proofs.Joining.{pattern_there}
+use Rattle.ev_events.proofs.Places.{none_is_not, some_is}
 use Rattle.ev_events.specs.Giving.{giving}
 use Rattle.ev_events.specs.Nodes.{node_name}
 use Rattle.ev_events.specs.Placed.{IsAmongNames}
-use Rattle.ev_inst.specs.Asked.{AreEventsOf, AreEventsOfAll, AreGivenAt, Asked, asked_by, asked_if}
-use Rattle.ev_inst.specs.Asked.{Guarded, asked_of, guard_if, view_question}
+use Rattle.ev_inst.specs.Asked.{AreEventsOf, AreEventsOfAll, AreGivenAt, asked_by, asked_if}
+use Rattle.ev_guards.specs.Watched.{Asked}
+use Rattle.ev_guards.specs.Watched.{Guarded, view_question}
+use Rattle.ev_inst.specs.Asked.{asked_of, guard_if}
 use Rattle.ev_inst.specs.Gathering.{AreOrderedNodes, IsSideReady, is_given}
 use Rattle.ev_inst.specs.Gathering.{is_node_on}
 use Rattle.ev_inst.specs.Guarding.{asks_if, is_guard}
 use Rattle.ev_inst.specs.Outcomes.{is_event_of}
-use Rattle.ev_inst.specs.declared.guards.Question.{Question}
+use Rattle.ev_guards.specs.declared.guards.Question.{Question}
 use Rattle.ev_inst.proofs.Buildable.{rising_ascends}
 use Rattle.ev_inst.proofs.Gathering.{table_there, taken}
 use Rattle.ev_inst.proofs.Numbering.{event_on}

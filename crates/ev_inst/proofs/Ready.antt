@@ -14,8 +14,8 @@ use Rattle.ev_check.specs.Lawful.{file_events, IsLawfulFile, IsLawfulLinking, Is
 use Rattle.ev_check.specs.Lawful.{is_vertical_of, pattern_subject, spec_event}
 use Rattle.ev_graph.specs.declared.nodes.EngineSpec.{EngineSpec}
 use Rattle.ev_graph.specs.declared.nodes.Node.{Node}
-use Rattle.ev_fit.specs.Bindings.{patterns_of}
-use Rattle.ev_fit.proofs.Places.{any_found}
+use Rattle.ev_events.specs.Bindings.{patterns_of}
+use Rattle.ev_events.proofs.Places.{any_found}
 use Rattle.ev_events.specs.Nodes.{ArePlacedEvents, AreNodes}
 use Rattle.ev_events.proofs.Wholeness.{alike_class, alike_names, map_at}
 use Rattle.ev_inst.specs.Gathering.{AreOrderedNodes, ArePatternsKnown, ArePropsKnown, IsGathered}

@@ -1,15 +1,13 @@
 -- How guards are gathered, effect by effect and instance by instance.
-use Rattle.std.specs.Prelude.{◌≡◌, ◌+◌, ◌++◌, ℕ, suc, true, List, [], ◌∷◌, length}
-use Rattle.std.specs.Prelude.{Option, Some, None, slice_get, map, filter, filter_map, ⊤}
-use Rattle.std.specs.Prelude.{if◌then◌else◌}
+use Rattle.std.specs.Prelude.{◌≡◌, ◌+◌, ◌++◌, ℕ, suc, true, List, [], ◌∷◌, length, Option, Some}
+use Rattle.std.specs.Prelude.{None, slice_get, map, filter, filter_map, ⊤, if◌then◌else◌}
 use Rattle.fm_topo.specs.Topology.{Topology}
-use Rattle.ev_tree.specs.Condition.{Condition, view_cond}
+use Rattle.ev_tree.specs.Condition.{Condition}
 use Rattle.ev_tree.specs.Pattern.{Pattern, view_pattern}
 use Rattle.ev_check.specs.CheckedFile.{Linking}
-use Rattle.ev_expr.specs.declared.settings.Bound.{Bound}
 use Rattle.ev_graph.specs.Sets.{ascends, is_member}
 use Rattle.ev_graph.specs.declared.nodes.Node.{Node}
-use Rattle.ev_fit.specs.Names.{iterators}
+use Rattle.ev_events.specs.Names.{iterators}
 use Rattle.ev_events.specs.Asking.{condition_names}
 use Rattle.ev_inst.specs.Gathering.{is_given}
 use Rattle.ev_inst.specs.Guarding.{Derivation, derivation, derivations, is_guarded_by}
@@ -17,17 +15,8 @@ use Rattle.ev_inst.specs.Instances.{AreCandidatesOf}
 use Rattle.ev_inst.specs.Outcomes.{events_of, is_event_of, is_made}
 use Rattle.ev_inst.specs.declared.guarding.AllGuards.{AllGuards}
 use Rattle.ev_inst.specs.declared.guarding.RightSide.{RightSide}
-use Rattle.ev_inst.specs.declared.guards.Question.{Question}
-use Rattle.ev_inst.specs.declared.guards.Guard.{Guard}
-use Rattle.ev_inst.specs.declared.guards.GuardedNode.{GuardedNode}
-
--- what a pattern asks at a node, without where its condition lies in memory
-pub record Asked : Type 0 where
-  pub names : List Bound
-  pub condition : Condition
-
-abbrev pub view_question : Question → Asked
-view_question q = record { names = q.names.items; condition = view_cond q.cond }
+use Rattle.ev_guards.specs.Watched.{Asked, Guarded, view_guard}
+use Rattle.ev_guards.specs.declared.guards.GuardedNode.{GuardedNode}
 
 abbrev pub asked_if : List (List ℕ) → List ℕ → Node → Pattern → Option Condition → Option Asked
 asked_if vs b node q None = None
@@ -41,22 +30,6 @@ asked_by topology vs b node q =
 
 abbrev pub asked_of : Topology → List (List ℕ) → List ℕ → Node → List Pattern → List Asked
 asked_of topology vs b node qs = filter_map (asked_by topology vs b node) qs
-
--- a guard, without where its conditions lie in memory: an instance, and what is asked
-pub record Guarded : Type 0 where
-  pub instance : ℕ
-  pub asked : List Asked
-
-abbrev pub view_guard : Guard → Guarded
-view_guard g = record { instance = g.instance; asked = map view_question g.questions.items }
-
--- a node with its guards, without where their conditions lie in memory
-pub record Watched : Type 0 where
-  pub path : List ℕ
-  pub guards : List Guarded
-
-abbrev pub view_node : GuardedNode → Watched
-view_node n = record { path = n.path; guards = map view_guard n.guards.items }
 
 -- numbers that ascend are those of the nodes that a pattern gives; the same of several patterns
 pub record AreEventsOf (topology : Topology) (nodes : List Node) (vs : List (List ℕ))

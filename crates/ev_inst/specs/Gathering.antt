@@ -15,10 +15,10 @@ use Rattle.ev_join.specs.Tables.{TableValue}
 use Rattle.ev_graph.specs.Lawful.{is_before_node, links}
 use Rattle.ev_graph.specs.Sets.{ascends_by}
 use Rattle.ev_graph.specs.declared.nodes.Node.{Node}
-use Rattle.ev_fit.specs.Names.{iterators}
-use Rattle.ev_fit.specs.Fits.{fitting}
-use Rattle.ev_fit.specs.Bindings.{candidate_links, patterns_of}
-use Rattle.ev_fit.specs.Sheets.{AreTablesOf}
+use Rattle.ev_events.specs.Names.{iterators}
+use Rattle.ev_events.specs.Fits.{fitting}
+use Rattle.ev_events.specs.Bindings.{candidate_links, patterns_of}
+use Rattle.ev_events.specs.Sheets.{AreTablesOf}
 use Rattle.ev_events.specs.Nodes.{node_name}
 use Rattle.ev_events.specs.Placed.{IsAmongNames}
 use Rattle.ev_inst.specs.Instances.{AreCandidatesOf, instances_of_all, skipped_of_all}

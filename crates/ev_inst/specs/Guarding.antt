@@ -10,7 +10,7 @@ use Rattle.ev_expr.specs.Conditions.{holds}
 use Rattle.ev_expr.specs.declared.settings.Prop.{Prop}
 use Rattle.ev_graph.specs.declared.instances.Link.{Link}
 use Rattle.ev_graph.specs.declared.nodes.Node.{Node}
-use Rattle.ev_fit.specs.Names.{iterators}
+use Rattle.ev_events.specs.Names.{iterators}
 use Rattle.ev_events.specs.Asking.{condition_names, asks_payload}
 use Rattle.ev_inst.specs.Outcomes.{is_event_among, is_event_of, is_made, numbers_with}
 

@@ -7,7 +7,7 @@ use Rattle.ev_graph.specs.Lawful.{GraphValue, IsCountedGraph}
 use Rattle.ev_graph.specs.Wiring.{ReachesItself, wiring}
 use Rattle.ev_graph.specs.declared.nodes.Node.{Node}
 use Rattle.ev_graph.specs.declared.instances.Instance.{Instance}
-use Rattle.ev_fit.specs.Bindings.{AreAllBindings, AreBindings, candidate_links}
+use Rattle.ev_events.specs.Bindings.{AreAllBindings, AreBindings, candidate_links}
 use Rattle.ev_events.specs.Nodes.{AreNodes, AreEngines}
 use Rattle.ev_events.specs.Placed.{AreMore}
 use Rattle.ev_check.specs.Lawful.{file_events}

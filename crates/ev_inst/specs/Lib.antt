@@ -3,4 +3,4 @@ pub mod Instances
 pub mod Gathering
 pub mod Guarding
 pub mod Asked
-pub mod Guards
+pub mod GuardsOf

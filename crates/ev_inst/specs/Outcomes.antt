@@ -15,8 +15,8 @@ use Rattle.ev_check.specs.CheckedFile.{Linking}
 use Rattle.ev_words.specs.Iterators.{same_name}
 use Rattle.ev_graph.specs.declared.nodes.Node.{Node}
 use Rattle.ev_graph.specs.declared.instances.Instance.{Instance}
-use Rattle.ev_fit.specs.Names.{iterators}
-use Rattle.ev_fit.specs.Bindings.{patterns_of}
+use Rattle.ev_events.specs.Names.{iterators}
+use Rattle.ev_events.specs.Bindings.{patterns_of}
 use Rattle.ev_events.specs.Giving.{gives, giving}
 
 -- a node is an event of a pattern under a binding, of one of some patterns

@@ -4,19 +4,20 @@ ghost use Rattle.std.specs.Prelude.{◌≡◌, ◌++◌, ◌∷◌, [], ◌<◌,
 ghost use Rattle.std.specs.Prelude.{filter_map, slice_get, IfOk, MatchOption, OnOk};
 ghost use Rattle.std.specs.List.{list_any};
 ghost use Rattle.ev_tree.specs.Pattern.{view_option, view_pattern};
-ghost use Rattle.ev_fit.specs.Sheets.{IsTableOf};
+ghost use Rattle.ev_events.specs.Sheets.{IsTableOf};
 ghost use Rattle.ev_graph.specs.Sets.{is_member, ascends};
 ghost use Rattle.ev_inst.specs.Asked.{AreEventsOf, AreEventsOfAll, AreGivenAt, asked_by, asked_if};
-ghost use Rattle.ev_inst.specs.Asked.{asked_of, view_question};
+ghost use Rattle.ev_inst.specs.Asked.{asked_of};
+ghost use Rattle.ev_guards.specs.Watched.{view_question};
 ghost use Rattle.ev_inst.specs.Gathering.{AreOrderedNodes, ArePatternsKnown, IsSideReady};
 ghost use Rattle.ev_inst.specs.Guarding as guarding;
 ghost use Rattle.ev_inst.specs.Outcomes.{is_event_of};
 
-use crate::guards::Question;
 use crate::index::NodeIndex;
 use crate::numbers::{add_numbers, set_of};
 use ev_events::{Binding, asks_payload, condition_names, places_of};
 use ev_graph::{Node, contains};
+use ev_guards::Question;
 use ev_join::Table;
 use ev_tree::SidePattern;
 use fm_bytes::{Items, NoMemory};

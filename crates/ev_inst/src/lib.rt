@@ -6,8 +6,8 @@
 //! dropped, skipped or an instance (`specs/Outcomes.antt`), told by sets and counts over the nodes
 //! and the topology, never by the way in which they are found.
 //!
-//! **Work.** `ev_events` places what is declared, `ev_fit` answers the candidates of each
-//! propagation with a table of each pattern, and the candidates become outcomes one by one
+//! **Work.** `ev_events` places what is declared, and answers the candidates of each propagation
+//! with a table of each pattern; and the candidates become outcomes one by one
 //! (`specs/Gathering.antt`). The limit on links goes from statement to statement: each one's
 //! candidates may have what those before it leave.
 //!
@@ -18,12 +18,9 @@
 #![tactic(auto)]
 
 mod asked;
-mod copying;
 mod fault;
-mod few;
 mod gathered;
 mod guarding;
-mod guards;
 mod index;
 mod making;
 mod numbers;
@@ -33,5 +30,4 @@ pub use ev_file::Made;
 pub use fault::InstFault;
 pub use fm_bytes::NoMemory;
 pub use guarding::make_guards;
-pub use guards::{Guard, GuardedNode, Guards, Question};
 pub use making::instantiate;

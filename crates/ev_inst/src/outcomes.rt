@@ -3,8 +3,8 @@
 ghost use Rattle.std.specs.Prelude.{◌≡◌, ◌≤◌, ◌+◌, ℕ, true, false, length, map, IfOk, MatchOption};
 ghost use Rattle.ev_tree.specs.Pattern.{view_pattern};
 ghost use Rattle.ev_check.specs.CheckedFile.{view_prop};
-ghost use Rattle.ev_fit.specs.Names.{iterators};
-ghost use Rattle.ev_fit.specs.Bindings.{candidate_links};
+ghost use Rattle.ev_events.specs.Names.{iterators};
+ghost use Rattle.ev_events.specs.Bindings.{candidate_links};
 ghost use Rattle.ev_inst.specs.Gathering.{IsOutcome, IsReady, outcome_links};
 ghost use Rattle.ev_inst.specs.Outcomes as made;
 

@@ -18,8 +18,8 @@ use Rattle.ev_check.specs.Declarations.{is_declared, twice_after}
 use Rattle.ev_check.specs.Faults.{Passes}
 use Rattle.ev_check.specs.Lawful.{file_events, spec_event}
 use Rattle.ev_check.specs.Sound.{IsSound}
-use Rattle.ev_fit.proofs.Agreeing.{same_from}
-use Rattle.ev_fit.proofs.Places.{none_is_not, some_is}
+use Rattle.ev_events.proofs.Agreeing.{same_from}
+use Rattle.ev_events.proofs.Places.{none_is_not, some_is}
 use Rattle.ev_events.specs.Nodes.{file_engines, spec_engine}
 use Rattle.ev_events.proofs.Keeping.{all_names}
 use Rattle.ev_events.proofs.Wholeness.{given_at}

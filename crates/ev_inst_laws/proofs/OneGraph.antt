@@ -22,7 +22,7 @@ use Rattle.ev_graph.specs.declared.nodes.Node.{Node}
 use Rattle.ev_graph.specs.declared.nodes.NodeKind.{NodeKind}
 use Rattle.ev_graph.specs.declared.nodes.NodeKind.TheVariants as nodes
 use Rattle.ev_graph.specs.declared.nodes.EngineSpec.{EngineSpec}
-use Rattle.ev_fit.proofs.Places.{some_is}
+use Rattle.ev_events.proofs.Places.{some_is}
 use Rattle.ev_events.specs.Placed.{IsAmongNames, IsAt, is_before_name}
 use Rattle.ev_events.specs.Nodes.{AreEngines, AreNodes, IsEngineAt, IsKindAt, engine_name}
 use Rattle.ev_events.specs.Nodes.{node_name, spec_engine}

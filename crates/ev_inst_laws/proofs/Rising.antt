@@ -3,7 +3,7 @@ use Rattle.std.proofs.Common.{◌≡◌, ℕ, zero, suc, Bool, true, List, [], �
 use Rattle.std.proofs.Common.{Some, refl, sym, subst, arith}
 use Rattle.std.proofs.lemmas.Bool.{and_parts}
 use Rattle.ev_graph.specs.Sets.{ascends_by}
-use Rattle.ev_fit.proofs.Places.{none_is_not, some_is}
+use Rattle.ev_events.proofs.Places.{none_is_not, some_is}
 
 -- each item of the one stands in the other
 abbrev pub AreWithin : {X : Type 0} → List X → List X → Type 0

@@ -3,7 +3,7 @@
 ghost use Rattle.std.specs.Prelude.{◌≡◌, ◌++◌, ℕ, List, length, map, flat_map, OnOk, OnErr, IfOk};
 ghost use Rattle.std.specs.List.{filter};
 ghost use Rattle.std.specs.List.Sorted.{IsPermutation};
-ghost use Rattle.fm_status.specs.Wanted.{is_solved};
+ghost use Rattle.fm_status.specs.Wanted.{is_solved, IsWantedOf};
 ghost use Rattle.fm_adm.specs.Summary.{has_standing, rows_so, entries_line, standing_part};
 ghost use Rattle.fm_adm.specs.Summary.{unsolved_part, repaired_part};
 ghost use Rattle.fm_adm.specs.Summary.{ended_part, counts_text, standing_lines, open_line};
@@ -14,7 +14,7 @@ use crate::config::put_named_count;
 use fm_bytes::NoMemory;
 use fm_entry::{CaseName, ListEvent, ListKind};
 use fm_name::Fmri;
-use fm_status::{Status, is_solved, put_case, put_number, put_text};
+use fm_status::{Status, Wanted, is_solved, put_case, put_number, put_text};
 use std::alloc::Global;
 
 /// A case that is open, and the number of its reports.
@@ -241,17 +241,18 @@ fn put_retire_lines(paths: &[Fmri], out: &mut Vec<u8>) -> Result<(), NoMemory>
 
 /// Writes the summary of a run behind what `out` holds: how many entries were ever accepted, how
 /// many cases are open and how many rows there are of each kind, a line for each open or solved
-/// case in case order, and a line for each resource that is wanted out of use, in path order. After
-/// `NoMemory` the buffer holds what it held.
+/// case in case order, and a line for each resource that is wanted out of use, in path order. It
+/// answers those resources. After `NoMemory` the buffer holds what it held.
 pub fn write_summary(
     alloc: Global,
     entries: u64,
     open_cases: &[OpenReports],
     status: &Status,
     out: &mut Vec<u8>,
-) -> Result<(), NoMemory>
+) -> Result<Wanted, NoMemory>
     ensures ok { OnOk result ((text : List ℕ) × IsSummary entries open_cases.now status.now text
         × (out.new.items ≡ out.old.items ++ text)) }
+    ensures wanted { IfOk result (IsWantedOf status.now) }
     ensures err { OnErr result (out.new.items ≡ out.old.items) }
 {
     let rows = status.rows(alloc)?;
@@ -262,5 +263,5 @@ pub fn write_summary(
     put_case_lines(&lines, &mut text)?;
     put_retire_lines(wanted.paths(), &mut text)?;
     out.extend_from_slice(&text)?;
-    Ok(())
+    Ok(wanted)
 }

@@ -7,7 +7,7 @@ use Rattle.fm_entry.specs.declared.list_event.ListEvent.{ListEvent}
 use Rattle.fm_logs.specs.StoreBook.{StoreBook, force_along, force_now}
 use Rattle.fm_outer.specs.declared.disk.Disk.{Ghosts}
 use Rattle.fm_saved.specs.declared.conf.Conf.{Conf}
-use Rattle.fm_settled.specs.CaseStatus.{IsStatusOf}
+use Rattle.fm_drain.specs.CaseStatus.{IsStatusOf}
 use Rattle.fm_store.specs.StoreOf.{StoreOf, StoreStandsFor, force_at}
 use Rattle.fm_admin.specs.Explaining.{IsExplanationOf, IsTextOfFound}
 use Rattle.fm_admin.specs.Rows.{row_with}

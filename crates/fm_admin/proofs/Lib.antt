@@ -1,4 +1,3 @@
-pub mod Left
 pub mod Counts
 pub mod Tellings
 pub mod Rotations

@@ -30,12 +30,12 @@ use Rattle.fm_logs.specs.declared.disks.DiskName.TheVariants.{Flt}
 use Rattle.fm_logs.specs.declared.fault.StoreFault.{StoreFault}
 use Rattle.fm_logs.specs.declared.fault.StoreFault.TheVariants.{Disk, Full, Closed, NoMemory}
 use Rattle.fm_logs.specs.declared.fault.StoreFault.TheVariants.{Damaged, Exists}
-use Rattle.fm_settled.specs.CaseStatus.{IsStatusOf}
+use Rattle.fm_drain.specs.CaseStatus.{IsStatusOf}
 use Rattle.fm_store.specs.StoreCalls.{HandsAreDone}
 use Rattle.fm_store.specs.StoreLeft.{ReadsLike, ReadsLikeEither, store_disk, with_content}
 use Rattle.fm_store.specs.StoreOf.{StoreOf, StoreStandsFor}
 use Rattle.fm_store.proofs.StoreReads.{like_through}
-use Rattle.fm_summary.specs.DrainedSummary.{AreWantedOf}
+use Rattle.fm_drain.specs.Wanting.{AreWantedOf}
 use Rattle.fm_admin.specs.Limits.{RepairLimit, TakeLimit}
 use Rattle.fm_admin.specs.Marking.{IsEntryBy, entry_by, marks_drained, marks_hands, marks_in}
 use Rattle.fm_admin.specs.Repairing.{AreHandsAndEntry, IsRepairedBy, RepairDid, RepairRefused}

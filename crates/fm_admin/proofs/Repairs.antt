@@ -27,7 +27,7 @@ use Rattle.fm_logs.specs.declared.fault.StoreFault.{StoreFault}
 use Rattle.fm_logs.specs.declared.fault.StoreFault.TheVariants.{Disk, Full, Closed, NoMemory}
 use Rattle.fm_logs.specs.declared.fault.StoreFault.TheVariants.{Damaged, Exists}
 use Rattle.fm_looks.proofs.Reloads.{rise_push}
-use Rattle.fm_settled.specs.CaseStatus.{IsStatusOf}
+use Rattle.fm_drain.specs.CaseStatus.{IsStatusOf}
 use Rattle.fm_store.specs.StoreCalls.{AcceptsOnBook}
 use Rattle.fm_store.specs.StoreOf.{StoreOf, StoreStandsFor}
 use Rattle.fm_store.specs.StoreReading.{IsNoDamage}

@@ -23,9 +23,9 @@ use Rattle.fm_logs.specs.declared.fault.StoreFault.{StoreFault}
 use Rattle.fm_logs.specs.declared.fault.StoreFault.TheVariants.{Disk, Full, Closed, NoMemory}
 use Rattle.fm_logs.specs.declared.fault.StoreFault.TheVariants.{Damaged, Exists}
 use Rattle.fm_looks.specs.Opening.{slot_name}
-use Rattle.fm_settled.specs.BaseLimits.{figures_of}
-use Rattle.fm_settled.proofs.BaseLimitLaws.{next_full}
-use Rattle.fm_settled.proofs.BasedBooks.{based_of}
+use Rattle.fm_drain.specs.BaseLimits.{figures_of}
+use Rattle.fm_drain.proofs.BaseLimitLaws.{next_full}
+use Rattle.fm_drain.proofs.BasedBooks.{based_of}
 use Rattle.fm_store.specs.Rotating.{ClosesAtSpare, RotateDoes, RotateRefused, Rotates}
 use Rattle.fm_store.specs.Rotating.{RotatesOnBook, with_spare}
 use Rattle.fm_store.specs.Slots.{next_slot}
@@ -39,7 +39,7 @@ use Rattle.fm_store.proofs.StoreMoves.{done_at_end}
 use Rattle.fm_store.proofs.StoreReads.{like_through}
 use Rattle.fm_admin.specs.Limits.{DrainOrRotation}
 use Rattle.fm_admin.specs.Rotation.{IsRotated, RotatesDrained, RotationRefused, StandsRotated}
-use Rattle.fm_admin.proofs.Left.{moments_still}
+use Rattle.fm_drain.proofs.Left.{moments_still}
 use Rattle.fm_admin.proofs.Tellings.{closed_why, drain_undamaged, open_before}
 
 -- a limit at which no rotation is made

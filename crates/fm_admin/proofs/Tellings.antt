@@ -36,7 +36,7 @@ use Rattle.fm_logs.specs.declared.disks.DiskName.TheVariants.{Flt}
 use Rattle.fm_logs.specs.declared.fault.StoreFault.{StoreFault}
 use Rattle.fm_logs.specs.declared.fault.StoreFault.TheVariants.{Disk, Full, Closed, NoMemory}
 use Rattle.fm_logs.specs.declared.fault.StoreFault.TheVariants.{Damaged, Exists}
-use Rattle.fm_settled.specs.CaseStatus.{IsStatusOf}
+use Rattle.fm_drain.specs.CaseStatus.{IsStatusOf}
 use Rattle.fm_store.specs.StoreCalls.{AreAtEnd, HandsAreDone, next_entry}
 use Rattle.fm_store.specs.StoreLeft.{ReadsLike, store_disk}
 use Rattle.fm_store.specs.StoreOf.{StoreOf, StoreStandsFor}
@@ -45,7 +45,7 @@ use Rattle.fm_store.proofs.StoreMoves.{done_at_end}
 use Rattle.fm_store.proofs.StoreReads.{like_through, store_reads}
 use Rattle.fm_admin.specs.Telling.{IsDrainedOf, IsFaultyOf, StandsTold}
 use Rattle.fm_admin.specs.Telling.{TellRefused, TellsBook, WasDrained}
-use Rattle.fm_admin.proofs.Left.{moments_read, moments_still}
+use Rattle.fm_drain.proofs.Left.{moments_read, moments_still}
 
 none_some : {X : Type 0} {x : X} {o : Option X} → o ≡ None → o ≡ Some x → ⊥
 none_some {x = x} none some =

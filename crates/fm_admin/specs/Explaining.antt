@@ -9,7 +9,7 @@ use Rattle.fm_core.specs.Drained.{Drained}
 use Rattle.fm_entry.specs.declared.list_event.ListEvent.{ListEvent}
 use Rattle.fm_explain.specs.Explained.{IsExplained}
 use Rattle.fm_saved.specs.declared.conf.Conf.{Conf}
-use Rattle.fm_settled.specs.CaseStatus.{IsStatusOf}
+use Rattle.fm_drain.specs.CaseStatus.{IsStatusOf}
 use Rattle.fm_sources.specs.Rules.{IsRuleFile}
 use Rattle.fm_topo.specs.Fault.{IsClean}
 use Rattle.fm_topo.specs.Topology.{topology_of}

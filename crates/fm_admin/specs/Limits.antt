@@ -11,7 +11,7 @@ use Rattle.fm_logs.specs.LogsOf.{CannotTake}
 use Rattle.fm_logs.specs.StoreBook.{StoreBook, store_accepted}
 use Rattle.fm_logs.specs.declared.fault.StoreFault.{StoreFault}
 use Rattle.fm_logs.specs.declared.fault.StoreFault.TheVariants.{Full}
-use Rattle.fm_settled.specs.BaseLimits.{CheckpointIsFull, Figures}
+use Rattle.fm_drain.specs.BaseLimits.{CheckpointIsFull, Figures}
 use Rattle.fm_store.specs.StoreOf.{StoreOf}
 use Rattle.fm_admin.specs.Marking.{IsEntryBy}
 use Rattle.fm_admin.specs.Telling.{IsDrainedOf}

@@ -13,7 +13,7 @@ use Rattle.fm_entry.specs.declared.case_name.CaseName.{CaseName}
 use Rattle.fm_entry.specs.declared.entry.Entry.{Entry}
 use Rattle.fm_entry.specs.declared.entry.Entry.TheVariants as entry
 use Rattle.fm_entry.specs.declared.list_event.ListEvent.{ListEvent}
-use Rattle.fm_settled.specs.CaseStatus.{IsStatusOf}
+use Rattle.fm_drain.specs.CaseStatus.{IsStatusOf}
 use Rattle.fm_admin.specs.Rows.{row_with}
 use Rattle.fm_command.specs.declared.request.Repair.{Repair}
 use Rattle.fm_command.specs.declared.request.Repair.TheVariants.{Repaired, Replaced, Acquit}

@@ -16,7 +16,7 @@ use Rattle.fm_store.specs.StoreCalls.{HandsAreDone}
 use Rattle.fm_store.specs.StoreLeft.{MomentsOn, EachLeft, ReadsLikeEither}
 use Rattle.fm_store.specs.StoreOf.{StoreOf}
 use Rattle.fm_store.specs.StoreReading.{IsNoDamage}
-use Rattle.fm_summary.specs.DrainedSummary.{AreWantedOf}
+use Rattle.fm_drain.specs.Wanting.{AreWantedOf}
 use Rattle.fm_admin.specs.Limits.{RepairLimit}
 use Rattle.fm_admin.specs.Marking.{IsEntryBy}
 use Rattle.fm_admin.specs.Telling.{TellRefused, TellsBook, WasDrained}

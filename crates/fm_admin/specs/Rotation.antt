@@ -17,8 +17,8 @@ use Rattle.fm_logs.specs.declared.disks.DiskName.TheVariants.{Flt}
 use Rattle.fm_logs.specs.declared.fault.StoreFault.{StoreFault}
 use Rattle.fm_logs.specs.declared.fault.StoreFault.TheVariants.{Disk, Full, Closed, NoMemory}
 use Rattle.fm_looks.specs.Opening.{slot_name}
-use Rattle.fm_settled.specs.BaseLimits.{figures_of}
-use Rattle.fm_settled.specs.ToBase.{IsBasedOf}
+use Rattle.fm_drain.specs.BaseLimits.{figures_of}
+use Rattle.fm_drain.specs.ToBase.{IsBasedOf}
 use Rattle.fm_store.specs.Rotating.{RotateRefused}
 use Rattle.fm_store.specs.StoreCalls.{AreAtEnd, next_entry, saves_of}
 use Rattle.fm_store.specs.StoreLeft.{MomentsOn, EachLeft, ReadsLike, store_disk}

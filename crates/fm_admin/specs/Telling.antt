@@ -19,7 +19,7 @@ use Rattle.fm_logs.specs.declared.disks.DiskName.TheVariants.{Flt}
 use Rattle.fm_logs.specs.declared.fault.StoreFault.{StoreFault}
 use Rattle.fm_logs.specs.declared.fault.StoreFault.TheVariants.{Disk, Full, Closed, Damaged}
 use Rattle.fm_logs.specs.declared.fault.StoreFault.TheVariants.{NoMemory}
-use Rattle.fm_settled.specs.CaseStatus.{IsStatusOf}
+use Rattle.fm_drain.specs.CaseStatus.{IsStatusOf}
 use Rattle.fm_store.specs.StoreCalls.{AreAtEnd, HandsAreDone}
 use Rattle.fm_store.specs.StoreLeft.{MomentsOn, EachLeft, ReadsLike, store_disk}
 use Rattle.fm_store.specs.StoreOf.{StoreOf, StoreStandsFor}

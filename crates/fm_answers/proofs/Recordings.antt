@@ -22,7 +22,7 @@ use Rattle.fm_outer.specs.Failures.{Rose}
 use Rattle.fm_outer.specs.declared.disk.Disk.{Ghosts}
 use Rattle.fm_store.specs.StoreCalls.{AcceptsOnBook}
 use Rattle.fm_store.specs.StoreLeft.{store_disk, EachLeft, ReadsLikeEither}
-use Rattle.fm_settled.specs.BaseLimits.{figures_of}
+use Rattle.fm_drain.specs.BaseLimits.{figures_of}
 use Rattle.fm_store.specs.StoreOf.{newest_sequence, StoreOf, StoreBaseOf, StoreStandsFor, of_two}
 use Rattle.fm_store.proofs.StoreAccepts.{active_disk}
 use Rattle.fm_answers.specs.Recording.{Recorded}

@@ -17,7 +17,7 @@ use Rattle.fm_logs.specs.StoreBook.{StoreBook, with_book}
 use Rattle.fm_logs.specs.declared.disks.DiskName.{DiskName}
 use Rattle.fm_outer.specs.Failures.{Rose}
 use Rattle.fm_outer.specs.declared.disk.Disk.{Ghosts}
-use Rattle.fm_settled.specs.BaseLimits.{figures_of}
+use Rattle.fm_drain.specs.BaseLimits.{figures_of}
 use Rattle.fm_store.specs.StoreLeft.{store_disk, EachLeft, ReadsLikeEither}
 use Rattle.fm_store.specs.StoreOf.{StoreOf, StoreStandsFor}
 

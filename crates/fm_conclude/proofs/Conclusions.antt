@@ -1,11 +1,11 @@
 -- What a drained store and a reading of its records come to.
-use Rattle.std.proofs.Common.{◌≡◌, inl, inr, ℕ, ◌≤◌, ◌^◌, List, [], ◌∷◌, length}
-use Rattle.std.proofs.Common.{Option, Some, None, Result, Ok, Err, IfOk, IfErr, OnOk, IsTrue}
-use Rattle.std.proofs.Common.{sym, ◌∙◌, ap, subst, arith}
+use Rattle.std.proofs.Common.{◌≡◌, inl, inr, ℕ, ◌≤◌, ◌^◌, List, [], ◌∷◌, length, Option, Some, None}
+use Rattle.std.proofs.Common.{Result, Ok, Err, IfOk, IfErr, OnOk, IsTrue, sym, ◌∙◌, ap, subst}
+use Rattle.std.proofs.Common.{arith}
 use Rattle.std.proofs.lemmas.Result.{IfOk-weaker, IfErr-weaker}
 use Rattle.fm_outer.specs.Failures.{Rose}
 use Rattle.fm_outer.specs.declared.disk.Disk.{Ghosts}
-use Rattle.fm_outer.proofs.Moments.{OnlyNow, leaves-still, leaves-weaker}
+use Rattle.fm_outer.proofs.Moments.{OnlyNow}
 use Rattle.fm_core.specs.Book.{Book, ModuleState, is_done, next_number}
 use Rattle.fm_core.specs.Drained.{Drained, drained}
 use Rattle.fm_core.specs.Hands.{HandOf}
@@ -24,15 +24,15 @@ use Rattle.fm_logs.specs.declared.fault.StoreFault.{StoreFault}
 use Rattle.fm_logs.specs.declared.fault.StoreFault.TheVariants.{Disk, Full, Closed, NoMemory}
 use Rattle.fm_logs.specs.declared.fault.StoreFault.TheVariants.{Damaged, Exists}
 use Rattle.fm_store.specs.StoreCalls.{next_entry, saves_of, AreAtEnd, HandsAreDone, NextRefused}
-use Rattle.fm_store.specs.StoreLeft.{EachLeft, MomentsOn, OthersAreLeft, ReadsLike, StoreIsLeft}
-use Rattle.fm_store.specs.StoreLeft.{store_based, store_disk, with_content}
+use Rattle.fm_store.specs.StoreLeft.{ReadsLike, StoreIsLeft, store_based}
 use Rattle.fm_store.specs.StoreOf.{StoreOf, StoreStandsFor}
 use Rattle.fm_store.specs.StoreReading.{IsNoDamage}
 use Rattle.fm_store.proofs.StoreMoves.{done_at_end}
 use Rattle.fm_drain.specs.DrainCalls.{DrainDoes, store_after}
-use Rattle.fm_settled.specs.BaseLimits.{BaseLimit, figures_of}
-use Rattle.fm_settled.specs.ToBase.{CheckpointFollows, IsAtBase, ToBaseBy, ToBaseOnBook}
-use Rattle.fm_settled.specs.ToBase.{ToBaseRefused, IsBasedOf}
+use Rattle.fm_drain.proofs.Left.{moments_read, moments_still}
+use Rattle.fm_drain.specs.BaseLimits.{BaseLimit, figures_of}
+use Rattle.fm_drain.specs.ToBase.{CheckpointFollows, IsAtBase, ToBaseBy, ToBaseOnBook}
+use Rattle.fm_drain.specs.ToBase.{ToBaseRefused, IsBasedOf}
 use Rattle.fm_conclude.specs.Concluding.{ConcludeRefused, ConcludesBook, FullAtLimit, IsConcluded}
 use Rattle.fm_conclude.specs.Concluding.{NoDiskFailed, StandsConcluded, TellsOf}
 use Rattle.fm_conclude.specs.declared.concluding.Conclusion.{Conclusion}
@@ -104,17 +104,6 @@ module _ {D M : Type 0} (g : Ghosts D) where
 
   -- ---- what is left
 
-  -- the image of the fault log's disk, and what is left of the others, are left of all
-  flt_left : (store : StoreOf D M) (image : List ℕ) (c : Contents)
-      → g.images (store_disk Flt store) image → OthersAreLeft g store Flt c
-      → StoreIsLeft g store (with_content Flt image c)
-  flt_left store image c here left ConfDisk = left ConfDisk (λ same. cc same)
-  flt_left store image c here left ErrA = left ErrA (λ same. cc same)
-  flt_left store image c here left ErrB = left ErrB (λ same. cc same)
-  flt_left store image c here left SlotA = left SlotA (λ same. cc same)
-  flt_left store image c here left SlotB = left SlotB (λ same. cc same)
-  flt_left store image c here left Flt = here
-
   -- what is left after a reading was left before it
   left_before : (old new : StoreOf D M) (c : Contents) → ReadsSpoken g old.logs new.logs
       → new.base ≡ old.base → StoreIsLeft g new c → StoreIsLeft g old c
@@ -134,19 +123,6 @@ module _ {D M : Type 0} (g : Ghosts D) where
       subst (λ (d : D). g.images d c.slot_b)
       (others_read g old new reads same SlotB (λ is. cc is)) (left SlotB)
   left_before old new c reads same left Flt = reads.still.no_more c.flt (left Flt)
-
-  moments_read : (old new : StoreOf D M) (P : Contents → Type 0) → ReadsSpoken g old.logs new.logs
-      → EachLeft g old P → MomentsOn g Flt old new P
-  moments_read old new P reads left =
-      leaves-weaker g (store_disk Flt old) (store_disk Flt new) (g.images (store_disk Flt old)) _
-      reads.still.any_moment (λ image here c others.
-      left (with_content Flt image c) (flt_left old image c here others))
-
-  moments_still : OnlyNow g → (store : StoreOf D M) (P : Contents → Type 0) → EachLeft g store P
-      → MomentsOn g Flt store store P
-  moments_still only_now store P left =
-      leaves-still g only_now (store_disk Flt store) _ (λ image here c others.
-      left (with_content Flt image c) (flt_left store image c here others))
 
 module _ {D M : Type 0} (g : Ghosts D) (m : ModuleGhosts M) where
   -- ---- limits
@@ -245,7 +221,7 @@ module _ {D M : Type 0} (g : Ghosts D) (m : ModuleGhosts M) where
     after_base = new;
     any_moment = book.any_moment;
     any_later = book.any_later;
-    any_reading = moments_still g only_now new (ReadsLike fresh k) book.left;
+    any_reading = moments_still g only_now Flt new (ReadsLike fresh k) book.left;
     left = book.left;
   }
 
@@ -293,6 +269,6 @@ module _ {D M : Type 0} (g : Ghosts D) (m : ModuleGhosts M) where
         after_base = mid;
         any_moment = book.any_moment;
         any_later = book.any_later;
-        any_reading = moments_read g mid new (ReadsLike fresh k) reads book.left;
+        any_reading = moments_read g Flt mid new (ReadsLike fresh k) reads.still book.left;
         left = λ c left. book.left c (left_before g mid new c reads same left);
       }

@@ -14,7 +14,7 @@ use Rattle.fm_store.specs.StoreCalls.{saves_of, Checkpoints}
 use Rattle.fm_store.specs.StoreLeft.{store_disk}
 use Rattle.fm_store.specs.StoreOf.{StoreOf, fills_second, of_two}
 use Rattle.fm_drain.specs.DrainCalls.{DrainDoes, OnlyCommitted, StaysOpen}
-use Rattle.fm_settled.specs.ToBase.{CheckpointFollows, ToBaseBy}
+use Rattle.fm_drain.specs.ToBase.{CheckpointFollows, ToBaseBy}
 use Rattle.fm_conclude.specs.Concluding.{NoDiskFailed}
 
 ok_err : {X Y : Type 0} {x : X} {y : Y} → Ok x ≡ Err y → ⊥

@@ -20,9 +20,10 @@ use Rattle.fm_store.specs.StoreLeft.{MomentsOn, EachLeft, ReadsLike, store_disk}
 use Rattle.fm_store.specs.StoreOf.{StoreOf, StoreStandsFor, fills_second}
 use Rattle.fm_store.specs.StoreReading.{IsNoDamage}
 use Rattle.fm_drain.specs.DrainCalls.{DrainDoes}
-use Rattle.fm_settled.specs.BaseLimits.{BaseLimit, figures_of}
-use Rattle.fm_settled.specs.ToBase.{IsBasedOf}
-use Rattle.fm_summary.specs.DrainedSummary.{IsSummaryOf, AreWantedOf}
+use Rattle.fm_drain.specs.BaseLimits.{BaseLimit, figures_of}
+use Rattle.fm_drain.specs.ToBase.{IsBasedOf}
+use Rattle.fm_drain.specs.Wanting.{AreWantedOf}
+use Rattle.fm_conclude.specs.DrainedSummary.{IsSummaryOf}
 use Rattle.fm_conclude.specs.declared.concluding.Conclusion.{Conclusion}
 
 -- no disk's count of failures changed

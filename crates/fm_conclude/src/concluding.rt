@@ -7,7 +7,7 @@ ghost use Rattle.fm_drain.specs.DrainCalls.{AllFollow, AreAtCursors};
 ghost use Rattle.fm_logs.specs.LogReads.{ReadsSpoken, UnreadLog};
 ghost use Rattle.fm_logs.specs.StoreBook.{StoreBook};
 ghost use Rattle.fm_logs.specs.declared.disks.DiskName.TheVariants.{Flt};
-ghost use Rattle.fm_settled.specs.CaseStatus.{IsStatusOf};
+ghost use Rattle.fm_drain.specs.CaseStatus.{IsStatusOf};
 ghost use Rattle.fm_store.specs.StoreCalls.{HandsAreDone, next_entry};
 ghost use Rattle.fm_store.specs.StoreLeft.{AreSameStore};
 ghost use Rattle.fm_store.specs.StoreOf.{StoreStandsFor};
@@ -16,14 +16,14 @@ ghost use Rattle.dx_engine.specs.Diagnosers.{diagnosers};
 ghost use Rattle.fm_conclude.specs.Concluding.{ConcludeRefused, ConcludesBook, FullAtLimit};
 ghost use Rattle.fm_conclude.specs.Concluding.{IsConcluded, NoDiskFailed, TellsOf};
 
+use crate::summing::write_drained;
 use dx_engine::Diagnoser;
 use fm_bytes::NoMemory;
 use fm_core::Hand;
+use fm_drain::{drain_to_base, read_status};
 use fm_outer::Disk;
-use fm_settled::{drain_to_base, read_status};
 use fm_status::{Status, Wanted};
 use fm_store::{Store, StoreFault};
-use fm_summary::write_drained;
 use std::alloc::Global;
 
 /// What is told of a drained book: the text of its summary, and what it wants out of use.
@@ -45,8 +45,7 @@ fn conclusion_of(
         → TellsOf (drained k) told) }
 {
     let mut summary = Vec::new(alloc);
-    write_drained(alloc, entries, hands, status, &mut summary)?;
-    let wanted = status.wanted(alloc)?;
+    let wanted = write_drained(alloc, entries, hands, status, &mut summary)?;
     Ok(Conclusion { summary, wanted })
 }
 

@@ -5,3 +5,11 @@ pub mod StepLaws
 pub mod StepLimits
 pub mod HandLaws
 pub mod DrainLaws
+pub mod OrderedRecords
+pub mod CaseWords
+pub mod RecordRows
+pub mod BasedBooks
+pub mod BaseLimitLaws
+pub mod ToBaseLaws
+pub mod WantedOnce
+pub mod Left

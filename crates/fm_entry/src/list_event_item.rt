@@ -19,7 +19,7 @@ use crate::parts::{case, moment};
 use crate::suspect::Suspect;
 use crate::suspect_item::SuspectCodec;
 use fm_bytes::{Input, Items, NoMemory, ReadFault, put_u8, put_u32, put_u64};
-use fm_items::{put_counted, take_counted};
+use fm_items::{put_counted, room_for, take_counted};
 use fm_name::EventName;
 use std::alloc::Global;
 
@@ -202,7 +202,7 @@ fn each_word(
     ensures err { IfErr result
         (λ f. IsMisspelled f → items_from (word_from own) count input.old ≡ None) }
 {
-    let mut items = Vec::new(alloc);
+    let mut items = room_for(alloc, count)?;
     'items: for at in 0..count {
         let _at = at;
         items.push(take_list_event(input, alloc, own)?)?;

@@ -1,6 +1,6 @@
 //! Codecs, and lists of values behind their number in four bytes or by themselves.
 
-ghost use Rattle.std.specs.Prelude.{◌≡◌, ◌++◌, ◌<◌, ◌^◌, All, Some, None, length, flat_map};
+ghost use Rattle.std.specs.Prelude.{◌≡◌, ◌++◌, ◌<◌, ◌^◌, All, Some, None, [], length, flat_map};
 ghost use Rattle.std.specs.Prelude.{IfOk, IfErr, OnOk};
 ghost use Rattle.fm_bytes.specs.Numbers.{u32_bytes, counted_bytes};
 ghost use Rattle.fm_bytes.specs.Reading.{IsMisspelled, number_from, items_from, counted_from};
@@ -78,6 +78,17 @@ pub fn put_counted<T, C: Codec<T>>(items: &[T], out: &mut Vec<u8>) -> Result<(),
     put_items::<T, C>(items, out)
 }
 
+/// The most items that memory is taken for before they are read.
+const FEW: u32 = 4;
+
+/// No items, with memory for so many, but for few at first: a number that was read may be larger
+/// than what follows it.
+pub fn room_for<T>(alloc: Global, count: u32) -> Result<Vec<T>, NoMemory>
+    ensures { IfOk result (λ v. v.items ≡ []) }
+{
+    Ok(Vec::with_capacity(alloc, count.min(FEW) as usize)?)
+}
+
 /// Reads so many items. It takes memory for those that are there, whatever the number is.
 pub fn take_items<T: Drop, C: Codec<T>>(
     input: &mut Input,
@@ -88,7 +99,7 @@ pub fn take_items<T: Drop, C: Codec<T>>(
         (λ v. items_from C.reading count input.old ≡ Some (v.items, input.new)) }
     ensures err { IfErr result (λ f. IsMisspelled f → items_from C.reading count input.old ≡ None) }
 {
-    let mut items = Vec::new(alloc);
+    let mut items = room_for(alloc, count)?;
     'items: for at in 0..count {
         let _at = at;
         items.push(C::take(input, alloc)?)?;

@@ -14,4 +14,4 @@
 
 mod codec;
 
-pub use codec::{Codec, NumberCodec, put_counted, put_items, take_counted, take_items};
+pub use codec::{Codec, NumberCodec, put_counted, put_items, room_for, take_counted, take_items};

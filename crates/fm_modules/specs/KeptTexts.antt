@@ -11,7 +11,8 @@ use Rattle.fm_sources.specs.declared.faults.RulesKind.{RulesKind}
 use Rattle.ev_check.specs.CheckedFile.{CheckedFile}
 use Rattle.ev_file.specs.declared.made.Made.{Made}
 use Rattle.ev_graph.specs.Lawful.{GraphValue, IsGraph}
-use Rattle.ev_inst.specs.Guards.{AreGuardsOf, GuardsValue}
+use Rattle.ev_inst.specs.GuardsOf.{AreGuardsOf}
+use Rattle.ev_guards.specs.Guards.{GuardsValue}
 use Rattle.ev_inst.specs.Instances.{IsInstFault, IsMadeOf}
 use Rattle.ev_inst.specs.declared.fault.InstFault.TheVariants.{Nodes, Links}
 use Rattle.dx_rules.specs.Rulebooks.{ruled_of}

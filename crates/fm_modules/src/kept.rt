@@ -3,7 +3,7 @@
 ghost use Rattle.std.specs.Prelude.{◌≡◌, ◌≤◌, length, IfOk, IfErr};
 ghost use Rattle.dx_rules.specs.Rulebooks.{guarding_if_any, ruled_of};
 ghost use Rattle.ev_graph.specs.Lawful.{IsGraph};
-ghost use Rattle.ev_inst.specs.Guards.{IsInstantiated};
+ghost use Rattle.ev_inst.specs.GuardsOf.{IsInstantiated};
 ghost use Rattle.ev_inst.specs.Instances.{IsInstFault};
 ghost use Rattle.fm_modules.specs.KeptTexts.{AreRefusedTexts, ConfMakes, EachHas, IsFirstRefused};
 ghost use Rattle.fm_modules.specs.KeptTexts.{IsRefusedConf, IsRefusedText, KeptCause};
@@ -15,7 +15,8 @@ use crate::fault::{KeptFault, ModulesFault};
 use dx_rules::Ruled;
 use ev_check::Checked;
 use ev_graph::Graph;
-use ev_inst::{Guards, InstFault, instantiate, make_guards};
+use ev_guards::Guards;
+use ev_inst::{InstFault, instantiate, make_guards};
 use fm_bytes::NoMemory;
 use fm_saved::{Conf, ConfText};
 use fm_sources::{RulesFault, read_rules};

@@ -5,7 +5,8 @@ use Rattle.ev_check.specs.CheckedFile.{CheckedFile, IsCopyOf, Linking}
 use Rattle.ev_graph.specs.Lawful.{GraphValue}
 use Rattle.ev_graph.specs.Sets.{is_member}
 use Rattle.ev_inst.specs.Guarding.{broken_at, derivations, guarded_at, links_guarded}
-use Rattle.ev_inst.specs.Guards.{AreGuardsOf, GuardsValue}
+use Rattle.ev_inst.specs.GuardsOf.{AreGuardsOf}
+use Rattle.ev_guards.specs.Guards.{GuardsValue}
 use Rattle.ev_inst.specs.Instances.{AreCandidatesOf, instances_of_all}
 
 pub guards_of_copy : (f copy : CheckedFile) (topology : Topology) (g : GraphValue)

@@ -9,9 +9,9 @@ use Rattle.fm_topo.specs.Topology.{Topology, topology_of}
 use Rattle.ev_check.specs.CheckedFile.{CheckedFile}
 use Rattle.ev_check.specs.Sound.{IsSound}
 use Rattle.ev_graph.specs.Lawful.{GraphValue}
-use Rattle.ev_inst.specs.Guards.{AreGuardsOf}
+use Rattle.ev_inst.specs.GuardsOf.{AreGuardsOf}
 use Rattle.ev_inst.specs.Instances.{IsGraphOf}
-use Rattle.ev_inst.proofs.GuardsAlike.{guards_alike}
+use Rattle.ev_inst.proofs.OneGuards.{guards_alike}
 use Rattle.ev_inst_laws.proofs.OneGraph.{graphs_one}
 use Rattle.dx_rules.proofs.Alike.{same_guarding}
 use Rattle.dx_state.specs.Configured.{Configuration}

@@ -18,7 +18,7 @@ use Rattle.fm_saved.specs.declared.conf.Conf.{Conf}
 use Rattle.fm_store.specs.StoreOf.{StoreOf, StoreStandsFor}
 use Rattle.fm_store.specs.StoreReading.{IsNoDamage}
 use Rattle.fm_store.proofs.StoreMoves.{done_at_end}
-use Rattle.fm_settled.specs.BaseLimits.{figures_of}
+use Rattle.fm_drain.specs.BaseLimits.{figures_of}
 use Rattle.fm_top.specs.Admin.{AdminDone, AdminRefused}
 use Rattle.fm_top.specs.Limits.{DrainLimit}
 use Rattle.fm_top.proofs.Fmds.{reads_floored}

@@ -47,8 +47,8 @@ use Rattle.fm_outer.specs.Failures.{Rose}
 use Rattle.fm_outer.specs.Moments.{OnlyRead}
 use Rattle.fm_outer.specs.declared.disk.Disk.{Ghosts}
 use Rattle.fm_saved.specs.declared.conf.Conf.{Conf}
-use Rattle.fm_settled.specs.BaseLimits.{BaseIsFull, Figures, figures_of}
-use Rattle.fm_settled.specs.ToBase.{IsBasedOf}
+use Rattle.fm_drain.specs.BaseLimits.{BaseIsFull, Figures, figures_of}
+use Rattle.fm_drain.specs.ToBase.{IsBasedOf}
 use Rattle.fm_sources.specs.declared.sources.Sources.{Sources}
 use Rattle.fm_store.specs.Opened.{NoneFailed, RoseOnAny}
 use Rattle.fm_store.specs.StoreCalls.{next_entry}

@@ -37,7 +37,7 @@ use Rattle.fm_outer.specs.Failures.{Rose}
 use Rattle.fm_outer.specs.Moments.{OnlyRead}
 use Rattle.fm_outer.specs.declared.disk.Disk.{Ghosts}
 use Rattle.fm_saved.specs.declared.conf.Conf.{Conf}
-use Rattle.fm_settled.specs.BaseLimits.{figures_of}
+use Rattle.fm_drain.specs.BaseLimits.{figures_of}
 use Rattle.fm_store.specs.StoreLeft.{store_disk, AreDisksOf, EachLeft, ReadsLike}
 use Rattle.fm_store.specs.StoreOf.{StoreOf, StoreStandsFor}
 use Rattle.fm_store.proofs.StoreAccepts.{active_disk}

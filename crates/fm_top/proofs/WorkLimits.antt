@@ -10,7 +10,7 @@ use Rattle.fm_logs.specs.declared.disks.DiskName.TheVariants.{Conf as ConfDisk, 
 use Rattle.fm_logs.specs.declared.disks.Disks.{Disks}
 use Rattle.fm_outer.specs.Moments.{OnlyRead}
 use Rattle.fm_outer.specs.declared.disk.Disk.{Ghosts}
-use Rattle.fm_settled.specs.BaseLimits.{figures_of}
+use Rattle.fm_drain.specs.BaseLimits.{figures_of}
 use Rattle.fm_store.specs.StoreLeft.{store_disk, StoreIsLeft}
 use Rattle.fm_store.specs.StoreOf.{StoreOf, StoreStandsFor, fills_second, newest_sequence}
 use Rattle.fm_store.proofs.StoreReads.{in_force_of, says_left}

@@ -24,8 +24,8 @@ use Rattle.fm_logs.specs.declared.fault.StoreFault.TheVariants.{Disk, Full, Clos
 use Rattle.fm_logs.specs.declared.fault.StoreFault.TheVariants.{NoMemory}
 use Rattle.fm_outer.specs.declared.disk.Disk.{Ghosts}
 use Rattle.fm_saved.specs.declared.conf.Conf.{Conf}
-use Rattle.fm_settled.specs.BaseLimits.{Figures, figures_of}
-use Rattle.fm_settled.specs.ToBase.{IsBasedOf}
+use Rattle.fm_drain.specs.BaseLimits.{Figures, figures_of}
+use Rattle.fm_drain.specs.ToBase.{IsBasedOf}
 use Rattle.fm_store.specs.StoreLeft.{EachLeft, ReadsLike}
 use Rattle.fm_store.specs.StoreOf.{StoreOf, StoreStandsFor}
 use Rattle.fm_store.specs.StoreReading.{IsNoDamage}

@@ -21,7 +21,7 @@ use Rattle.fm_logs.specs.StoreBook.{StoreBook, force_now}
 use Rattle.fm_logs.specs.declared.fault.StoreFault.{StoreFault}
 use Rattle.fm_outer.specs.declared.disk.Disk.{Ghosts}
 use Rattle.fm_saved.specs.declared.conf.Conf.{Conf}
-use Rattle.fm_settled.specs.BaseLimits.{Figures, figures_of}
+use Rattle.fm_drain.specs.BaseLimits.{Figures, figures_of}
 use Rattle.fm_store.specs.StoreLeft.{EachLeft, ReadsLike}
 use Rattle.fm_store.specs.StoreOf.{StoreOf, StoreStandsFor}
 use Rattle.fm_store.specs.StoreReading.{IsNoDamage}

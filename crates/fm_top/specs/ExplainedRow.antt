@@ -10,7 +10,7 @@ use Rattle.fm_explain.specs.Explained.{IsExplained}
 use Rattle.fm_logs.specs.Contents.{Contents}
 use Rattle.fm_logs.specs.StoreBook.{force_now}
 use Rattle.fm_saved.specs.declared.conf.Conf.{Conf}
-use Rattle.fm_settled.specs.CaseStatus.{IsStatusOf}
+use Rattle.fm_drain.specs.CaseStatus.{IsStatusOf}
 use Rattle.fm_top.specs.Kept.{BookAt}
 
 -- THE GRAPH OF A ROW, by what the rule files make in each configuration: that of the row's module

@@ -25,10 +25,11 @@ use Rattle.fm_line.specs.Lines.{lines_of}
 use Rattle.fm_logs.specs.Contents.{Contents}
 use Rattle.fm_logs.specs.ReadsAsBook.{ReadsAsBook}
 use Rattle.fm_logs.specs.StoreBook.{StoreBook}
-use Rattle.fm_settled.specs.ToBase.{IsBasedOf}
+use Rattle.fm_drain.specs.ToBase.{IsBasedOf}
 use Rattle.fm_sources.specs.Sources.{ReadsSources}
 use Rattle.fm_sources.specs.declared.sources.Sources.{Sources}
-use Rattle.fm_summary.specs.DrainedSummary.{AreWantedOf, IsSummaryOf}
+use Rattle.fm_drain.specs.Wanting.{AreWantedOf}
+use Rattle.fm_conclude.specs.DrainedSummary.{IsSummaryOf}
 use Rattle.fm_top.specs.Accepting.{AcceptedAll, AcceptedUntil, DisksAccount, Grew, NotOpened}
 use Rattle.fm_top.specs.Esc.{PutText}
 use Rattle.fm_top.specs.Exact.{IsExactWith}

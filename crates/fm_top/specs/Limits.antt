@@ -12,7 +12,7 @@ use Rattle.fm_logs.specs.ReadsAsBook.{IsLog, SaysBook, SpellsSpoken}
 use Rattle.fm_logs.specs.StoreBook.{StoreBook}
 use Rattle.fm_logs.specs.declared.fault.StoreFault.{StoreFault}
 use Rattle.fm_logs.specs.declared.fault.StoreFault.TheVariants.{Full}
-use Rattle.fm_settled.specs.BaseLimits.{BaseIsFull, Figures}
+use Rattle.fm_drain.specs.BaseLimits.{BaseIsFull, Figures}
 use Rattle.fm_slots.specs.Format.{SlotOf}
 use Rattle.fm_slots.specs.InForce.{InForce}
 use Rattle.fm_store.specs.StoreOf.{newest_sequence}

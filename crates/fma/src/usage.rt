@@ -49,7 +49,7 @@ const COMMANDS: [CommandHelp; 17] = [
     },
     CommandHelp {
         words: "fmdump [-e] [-V] [-c PATTERN] [-u UUID] [-t TIME] [-T TIME]",
-        does: "tells what was said of cases, or with -e the reports since the last rotation",
+        does: "tells what was said of cases, or with -e the entries since the last rotation",
     },
     CommandHelp {
         words: "explain UUID",

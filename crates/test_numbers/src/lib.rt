@@ -1,6 +1,5 @@
 //! Tests of calls whose answers were worked out by hand: entries made of a number (`fm_gen`), rate
-//! engines (`dx_serd`), the bindings with which each of some tables has a row (`ev_join`), and a word
-//! that is put in its place (`dx_said`).
+//! engines (`dx_serd`), and the bindings with which each of some tables has a row (`ev_join`).
 #![tactic(auto)]
 
 #[cfg(test)]
@@ -9,5 +8,3 @@ mod generated;
 mod joined;
 #[cfg(test)]
 mod rates;
-#[cfg(test)]
-mod worded;

@@ -6,7 +6,7 @@ use Rattle.fm_entry.specs.declared.entry.Entry.{Entry}
 use Rattle.fm_logs.specs.declared.disks.DiskName.{DiskName}
 use Rattle.fm_logs.specs.declared.fault.StoreFault.{StoreFault}
 use Rattle.fm_outer.specs.declared.disk.Disk.{Ghosts}
-use Rattle.fm_settled.specs.ToBase.{ToBaseBy}
+use Rattle.fm_drain.specs.ToBase.{ToBaseBy}
 use Rattle.fm_store.specs.StoreOf.{StoreOf}
 
 module _ {D M : Type 0} (g : Ghosts D) (m : ModuleGhosts M) where

@@ -2,11 +2,11 @@
 use crate::commands::number_in;
 use crate::fault::ScriptFault;
 use crate::told::{closed_text, fault_text, records_text, rows_text};
+use fm_drain::read_status;
 use fm_entry::{CaseName, Entry, ListKind, Spoken};
 use fm_journal::Frame;
 use fm_logs::{Committed, DiskName, StoreFault};
 use fm_outer::Disk;
-use fm_settled::read_status;
 use fm_status::Status;
 use fm_store::Store;
 use std::alloc::Global;

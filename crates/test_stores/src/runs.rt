@@ -4,9 +4,9 @@ ghost use Rattle.test_small_store.specs.Small.{HasHandsAtCursors};
 
 use crate::steps::Step;
 use crate::store_bytes::{CallCounts, FailingCalls, StoreBytes, bytes_left, disks_with};
+use fm_drain::drain_to_base;
 use fm_logs::{DiskName, Disks, StoreFault};
 use fm_outer::{Image, MemDisk, NoMemory};
-use fm_settled::drain_to_base;
 use std::alloc::Global;
 use test_small_store::{SmallStore, Stopped, Told, opened};
 

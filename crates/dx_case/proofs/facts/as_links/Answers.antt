@@ -1,7 +1,7 @@
 use Rattle.std.proofs.Common.{get_or, map, refl, ap, ◌∙◌}
 use Rattle.std.proofs.lemmas.List.{take_all}
 use Rattle.fm_entry.specs.declared.broken.Broken.{Broken}
-use Rattle.dx_words.specs.Cases.{broken_of}
+use Rattle.dx_explain.specs.Cases.{broken_of}
 use Rattle.dx_case.proofs.Fitting.{link_more}
 use Rattle.dx_case.proofs.facts.as_links.Goals as goal
 

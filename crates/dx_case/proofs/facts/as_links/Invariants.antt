@@ -1,5 +1,5 @@
 use Rattle.std.proofs.Common.{◌≡◌, take, map}
-use Rattle.dx_words.specs.Cases.{broken_of}
+use Rattle.dx_explain.specs.Cases.{broken_of}
 use Rattle.dx_case.proofs.facts.as_links.Given as goal
 
 abbrev pub invariant-loop-link : goal.invariant-loop-link

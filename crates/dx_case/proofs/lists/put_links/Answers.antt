@@ -2,7 +2,7 @@ use Rattle.std.proofs.Common.{List, map, get_or, refl, sym, ap, ◌∙◌}
 use Rattle.std.proofs.lemmas.List.{take_all}
 use Rattle.ev_graph.specs.declared.instances.Link.{Link}
 use Rattle.fm_entry.specs.Words.{is_link_before}
-use Rattle.dx_words.specs.Cases.{inserted, broken_of, with_links}
+use Rattle.dx_explain.specs.Cases.{inserted, broken_of, with_links}
 use Rattle.dx_case.proofs.Inserting.{map_inserted, with_more}
 use Rattle.dx_case.proofs.lists.put_links.Goals as goal
 

@@ -1,6 +1,6 @@
 use Rattle.std.proofs.Common.{◌≡◌, sym, ap, subst, ◌∙◌, List, ℕ}
 use Rattle.std.proofs.lemmas.Result.{on_ok_weaker}
-use Rattle.dx_words.specs.Cases.{Solving, Upsetting, Unexplained, verdict_of}
+use Rattle.dx_explain.specs.Cases.{Solving, Upsetting, Unexplained, verdict_of}
 use Rattle.dx_case.specs.Cases.{open_of, told}
 use Rattle.dx_step.specs.Said.{nodes_of}
 use Rattle.dx_step.specs.Turns.{solve, upset}

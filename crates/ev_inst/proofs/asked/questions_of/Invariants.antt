@@ -1,7 +1,8 @@
 -- What is asked so far, with what the patterns ask that are left, is all.
 use Rattle.std.proofs.Common.{◌≡◌, ◌++◌, length, map}
 use Rattle.ev_tree.specs.Pattern.{view_pattern}
-use Rattle.ev_inst.specs.Asked.{AreGivenAt, asked_of, view_question}
+use Rattle.ev_inst.specs.Asked.{AreGivenAt, asked_of}
+use Rattle.ev_guards.specs.Watched.{view_question}
 use Rattle.ev_inst.specs.Guarding.{are_guards}
 use Rattle.ev_inst.proofs.asked.questions_of.Given as goal
 

@@ -3,7 +3,7 @@ use Rattle.std.proofs.Common.{◌≡◌, List, length, map, drop, refl, sym, ap,
 use Rattle.ev_tree.specs.Pattern.{view_pattern}
 use Rattle.ev_check.specs.CheckedFile.{view_prop}
 use Rattle.ev_inst.specs.Outcomes.{events_of}
-use Rattle.ev_inst.specs.declared.guards.GuardedNode.{GuardedNode}
+use Rattle.ev_guards.specs.declared.guards.GuardedNode.{GuardedNode}
 use Rattle.ev_inst.proofs.Collected.{front_only, instance_added, instance_counted}
 use Rattle.ev_inst.proofs.Gathering.{left_within, side_right}
 use Rattle.ev_inst.proofs.guarding.add_instance.Goals as goal

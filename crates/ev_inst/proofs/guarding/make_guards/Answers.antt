@@ -4,7 +4,7 @@ use Rattle.ev_check.specs.CheckedFile.{Linking, view_prop}
 use Rattle.ev_graph.specs.declared.nodes.Node.{Node}
 use Rattle.ev_inst.specs.Asked.{AreAllGuards}
 use Rattle.ev_inst.specs.Gathering.{AreOrderedNodes, ArePropsKnown}
-use Rattle.ev_inst.specs.Guards.{AreGuardsOf}
+use Rattle.ev_inst.specs.GuardsOf.{AreGuardsOf}
 use Rattle.ev_inst.proofs.GuardLaws.{guards_of}
 use Rattle.ev_inst.proofs.Ready.{nodes_known, nodes_ordered}
 use Rattle.ev_inst.proofs.guarding.make_guards.Goals as goal

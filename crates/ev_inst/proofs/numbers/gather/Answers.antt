@@ -2,7 +2,7 @@
 use Rattle.std.proofs.Common.{◌&&◌, ◌==◌, List, ℕ, not, length, map, sym, ap, ◌∙◌, subst}
 use Rattle.std.proofs.Common.{arith}
 use Rattle.ev_tree.specs.Pattern.{view_pattern}
-use Rattle.ev_fit.proofs.Joining.{pattern_there}
+use Rattle.ev_events.proofs.Joining.{pattern_there}
 use Rattle.ev_inst.specs.Gathering.{AreOnPaths}
 use Rattle.ev_inst.specs.Outcomes.{has_across}
 use Rattle.ev_inst.proofs.Gathering.{bare_at, bare_more, gathered_step, table_there, tables_long}

@@ -2,7 +2,7 @@
 use denote.Param.Send.{sendable}
 use Rattle.std.proofs.Common.{OnOk, IfErr, sym, subst}
 use Rattle.fm_store.specs.StoreCalls.{HandsAreDone}
-use Rattle.fm_settled.specs.ToBase.{IsAtBase, ToBaseDoes, ToBaseOnBook, ToBaseRefused}
+use Rattle.fm_drain.specs.ToBase.{IsAtBase, ToBaseDoes, ToBaseOnBook, ToBaseRefused}
 use Rattle.dx_engine.specs.Diagnosers.{diagnosers}
 use Rattle.dx_engine.proofs.Crossing.{diagnoser_send}
 use Rattle.fm_conclude.proofs.Counts.{base_counts, told_counts}

@@ -1,7 +1,7 @@
 -- Guards that guard no link are none.
 use Rattle.std.proofs.Common.{refl, subst, sym, ◌∙◌}
 use Rattle.fm_topo.specs.Topology.{Topology}
-use Rattle.ev_inst.specs.Guards.{AreGuardsOf}
+use Rattle.ev_inst.specs.GuardsOf.{AreGuardsOf}
 use Rattle.dx_rules.specs.Payloads.{guarding_of}
 use Rattle.dx_rules.proofs.Alike.{none_guarded}
 use Rattle.fm_modules.proofs.Guarding.{none_long}

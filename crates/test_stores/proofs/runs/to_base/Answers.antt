@@ -1,7 +1,7 @@
 -- The hands are at their cursors once the store is drained with its base at its end.
 use Rattle.std.proofs.Common.{◌∙◌, OnOk, subst}
 use Rattle.fm_core.specs.Counter.{counters}
-use Rattle.fm_settled.specs.ToBase.{IsAtBase}
+use Rattle.fm_drain.specs.ToBase.{IsAtBase}
 use Rattle.test_stores.proofs.BaseHands.{base_hands}
 use Rattle.test_stores.proofs.runs.to_base.Goals as goal
 

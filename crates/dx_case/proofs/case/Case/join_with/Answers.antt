@@ -1,7 +1,7 @@
 use Rattle.std.proofs.Common.{List, ltb, map, refl, ap, ◌∙◌}
 use Rattle.ev_graph.specs.Sets.{is_member}
 use Rattle.ev_graph.specs.declared.instances.Link.{Link}
-use Rattle.dx_words.specs.Cases.{cuts_of, inserted, broken_of, with_links}
+use Rattle.dx_explain.specs.Cases.{cuts_of, inserted, broken_of, with_links}
 use Rattle.dx_case.specs.Cases.{case_parts, open_case, allowed_at}
 use Rattle.dx_case.proofs.Standing.{taken_allowed, taken_report}
 use Rattle.dx_case.proofs.Steps.{lives_of, joined_case}

@@ -1,6 +1,6 @@
 use Rattle.std.proofs.Common.{ℕ, List, eqb, length, sym, ap, ◌∙◌}
 use Rattle.ev_graph.specs.Kinds.{is_upset_kind}
-use Rattle.dx_words.specs.Cases.{is_solving_kind, faults_of, upsets_of, verdict}
+use Rattle.dx_explain.specs.Cases.{is_solving_kind, faults_of, upsets_of, verdict}
 use Rattle.dx_case.specs.Cases.{open_of}
 use Rattle.dx_case.proofs.Standing.{blamed_is}
 use Rattle.dx_case.proofs.Verdicts.{solving, upsetting, unexplained}

@@ -1,6 +1,6 @@
 use Rattle.std.proofs.Common.{List, map, refl, ap, ◌∙◌}
 use Rattle.ev_graph.specs.declared.instances.Link.{Link}
-use Rattle.dx_words.specs.Cases.{broken_of, with_links}
+use Rattle.dx_explain.specs.Cases.{broken_of, with_links}
 use Rattle.dx_case.proofs.case.Case.start_with.Goals as goal
 
 pub returns : goal.returns

@@ -1,7 +1,7 @@
 use Rattle.std.proofs.Common.{Option, sym, ap, ◌∙◌}
 use Rattle.ev_graph.specs.Cutting.{is_cut}
-use Rattle.ev_inst.specs.Guards.{GuardsValue}
-use Rattle.ev_inst.proofs.GuardedLinks.{cut_same}
+use Rattle.ev_guards.specs.Guards.{GuardsValue}
+use Rattle.ev_guards.proofs.GuardedLinks.{cut_same}
 use Rattle.dx_rules.specs.Rulebooks.{guarding_if_any}
 use Rattle.dx_rules.proofs.ruled.RuledCutTest.has.Goals as goal
 

@@ -1,4 +1,0 @@
-pub mod Searches
-pub mod Telling
-pub mod Meaning
-pub mod Blaming

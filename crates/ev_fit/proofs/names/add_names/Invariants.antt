@@ -1,8 +1,0 @@
--- The names so far with those that are left are all names.
-use Rattle.std.proofs.Common.{◌≡◌, drop}
-use Rattle.ev_fit.specs.Turned.{with_names}
-use Rattle.ev_fit.proofs.names.add_names.Given as goal
-
-abbrev pub invariant-loop-known : goal.invariant-loop-known
-invariant-loop-known l =
-    with_names l.names (drop l.known-index l.others) ≡ with_names l.initial.names l.others

@@ -1,8 +1,0 @@
--- The instances so far with those of the columns that are left are all.
-use Rattle.std.proofs.Common.{◌≡◌, ◌++◌, drop}
-use Rattle.ev_fit.specs.Slots.{values_at}
-use Rattle.ev_fit.proofs.slots.values_at.Given as goal
-
-abbrev pub invariant-loop-column : goal.invariant-loop-column
-invariant-loop-column l = l.values.items ++ values_at (drop l.column-index l.columns) l.instances
-    ≡ values_at l.columns l.instances

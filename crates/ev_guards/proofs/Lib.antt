@@ -1,0 +1,3 @@
+pub mod GuardedLinks
+pub mod Watching
+pub mod GuardsAlike

@@ -1,8 +1,0 @@
--- The rows are those of the records so far.
-use Rattle.std.specs.Vec.Iter.{into_iter_items}
-use Rattle.fm_settled.proofs.RecordRows.{AreRowsBefore}
-use Rattle.fm_settled.proofs.case_status.status_from.Given as goal
-
-abbrev pub invariant-records : goal.invariant-records
-invariant-records l =
-    AreRowsBefore l.fn.records.items (into_iter_items l.record-iterator) l.status

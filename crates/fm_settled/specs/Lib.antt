@@ -1,3 +1,0 @@
-pub mod BaseLimits
-pub mod ToBase
-pub mod CaseStatus

@@ -1,2 +1,0 @@
-pub mod OpenCases
-pub mod WantedOnce
