@@ -20,7 +20,8 @@ use Rattle.fm_top.specs.Headline.{Headline}
 use Rattle.fm_top.specs.Order.{Goes, looks, world_of}
 use Rattle.fm_top.specs.Outside.{Outside, counts_of}
 use Rattle.fm_top.proofs.Doing.{Rests, quiet_counts, rests_put, unopened}
-use Rattle.fm_top.proofs.Escs.{ok_no_err, text_caused}
+use Rattle.fm_top.proofs.Escs.{text_caused}
+use Rattle.fm_top.proofs.SourceFaults.{ok_no_err}
 use Rattle.fm_top.proofs.Going.{put_goes, unopened_goes, worked_goes}
 use Rattle.fm_top.proofs.Texts.{like_drained}
 

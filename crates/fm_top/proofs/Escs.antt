@@ -10,9 +10,8 @@ use Rattle.fm_answers.specs.declared.stops.Stop.{Stop}
 use Rattle.fm_answers.specs.declared.stops.Stop.TheVariants.{Write, Memory}
 use Rattle.fm_command.specs.declared.words.Command.TheVariants.{Esc, EscInput}
 use Rattle.fm_outer.specs.declared.source.Source.{Ghosts}
-use Rattle.fm_esc.specs.Compiling.{CompileCause, IsCompiled}
+use Rattle.fm_esc.specs.Compiling.{IsCompiled}
 use Rattle.fm_esc.specs.InputListing.{InputCause, IsListed}
-use Rattle.fm_esc.specs.declared.faults.CompileFault.{CompileFault}
 use Rattle.fm_esc.specs.declared.faults.CompileFault.TheVariants as compiling
 use Rattle.fm_esc.specs.declared.faults.InputFault.{InputFault}
 use Rattle.fm_esc.specs.declared.faults.InputFault.TheVariants as inputs
@@ -22,11 +21,12 @@ use Rattle.fm_top.specs.Calls.{IsCaused, Does}
 use Rattle.fm_top.specs.Esc.{EscEnds, EscInputEnds, TextEnds}
 use Rattle.fm_top.specs.Esc.{after_listing}
 use Rattle.fm_top.specs.Headline.{AreFromBefore}
-use Rattle.fm_top.specs.Order.{Goes, Look, at_rules, at_topology, at_graphs, looks, world_of}
+use Rattle.fm_top.specs.Order.{Goes, looks, world_of}
 use Rattle.fm_top.specs.Outside.{Outside, standing, given_of}
 use Rattle.fm_top.specs.Outside.{disk_counts, counts_of}
 use Rattle.fm_top.proofs.Going.{put_goes}
-use Rattle.fm_top.proofs.Inits.{refused_goes, refused_caused, done_quiet}
+use Rattle.fm_top.proofs.SourceFaults.{cause_goes, cause_caused, cause_standing, done_quiet}
+use Rattle.fm_top.proofs.SourceFaults.{ok_no_err}
 use Rattle.fm_top.proofs.Standing.{reads_standing, gave_text}
 
 -- ---- rule files and a topology
@@ -43,20 +43,6 @@ text_goes before after form text ran is =
         ((is.got, is.read, (is.mades, is.graphs)), tt),
       ),
     )
-
--- sources that come to nothing, of a command that looks at them first
-pub cause_goes : (before after : Outside) (more : List Look) (fault : CompileFault)
-    → CompileCause standing (given_of before) (given_of after) fault
-    → Goes (world_of before after) (at_rules ∷ at_topology ∷ at_graphs ∷ more)
-    (Err (of_compiling fault))
-cause_goes before after more (compiling.Sources fault) cause =
-    refused_goes (world_of before after) (at_graphs ∷ more) fault cause
-cause_goes before after more (compiling.Graph file limit) (got, read, past) =
-    inr (inl (inr (
-      (got.files.items, read.0),
-      inr ((got.topo_text.items, got.topo, read.1), inl (file, limit, refl, (got, read, past))),
-    )))
-cause_goes before after more compiling.NoMemory cause = inl tt
 
 esc_goes : (before after : Outside) (form : GraphForm) (ran : Result (Unit {0}) Stop)
     → EscEnds standing form (given_of before) (given_of after) before.out after.out ran
@@ -75,14 +61,6 @@ text_caused before after text (Err Write) cut = cut.0
 text_caused before after text (Err Memory) cut = tt
 text_caused before after text (Err _) cut = absurd cut
 
-pub cause_caused : (before after : Outside) (fault : CompileFault)
-    → CompileCause standing (given_of before) (given_of after) fault
-    → IsCaused before after (of_compiling fault)
-cause_caused before after (compiling.Sources fault) cause =
-    refused_caused before after fault cause
-cause_caused before after (compiling.Graph file limit) cause = tt
-cause_caused before after compiling.NoMemory cause = tt
-
 esc_caused : (before after : Outside) (form : GraphForm) (ran : Result (Unit {0}) Stop)
     → EscEnds standing form (given_of before) (given_of after) before.out after.out ran
     → IfErr ran (IsCaused before after)
@@ -90,9 +68,6 @@ esc_caused before after form ran (inl (text, is, put)) = text_caused before afte
 esc_caused before after form ran (inr (fault, cause, same, rest)) =
     subst (λ r. IfErr r (IsCaused before after)) (sym same)
     (cause_caused before after fault cause)
-
-pub ok_no_err : (done : Unit {0}) (stop : Stop) → Ok done ≡ Err stop → ⊥
-ok_no_err done stop e = cc
 
 esc_quiet : (before after : Outside) (form : GraphForm) (ran : Result (Unit {0}) Stop)
     → EscEnds standing form (given_of before) (given_of after) before.out after.out ran
@@ -141,17 +116,6 @@ module _ {S : Type 0} (g : Ghosts S) (olds news : List S) (old new : S) where
     text_is = is.text_is;
   }
 
-  pub cause_standing : (fault : CompileFault)
-      → CompileCause g (given olds old) (given news new) fault
-      → CompileCause standing (given (map (source_at g) olds) (source_at g old))
-      (given (map (source_at g) news) (source_at g new)) fault
-  cause_standing (compiling.Sources fault) cause =
-      reads_standing g olds news old new (Err fault) cause
-  cause_standing (compiling.Graph file limit) (got, read, past) =
-      (got, reads_standing g olds news old new (Ok got) read, past)
-  cause_standing compiling.NoMemory (got, read) =
-      (got, reads_standing g olds news old new (Ok got) read)
-
   pub esc_standing : (form : GraphForm) (out out_now : SinkAt) (ran : Result (Unit {0}) Stop)
       → EscEnds g form (given olds old) (given news new) out out_now ran
       → EscEnds standing form (given (map (source_at g) olds) (source_at g old))
@@ -159,7 +123,7 @@ module _ {S : Type 0} (g : Ghosts S) (olds news : List S) (old new : S) where
   esc_standing form out out_now ran (inl (text, is, put)) =
       inl (text, compiled_standing form text is, put)
   esc_standing form out out_now ran (inr (fault, cause, same, rest)) =
-      inr (fault, cause_standing fault cause, same, rest)
+      inr (fault, cause_standing g olds news old new fault cause, same, rest)
 
 -- ---- compiled files
 

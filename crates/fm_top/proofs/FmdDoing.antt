@@ -39,10 +39,10 @@ use Rattle.fm_top.specs.Outside.{Outside, Tells, Leaves, RoseAt, act_counts}
 use Rattle.fm_top.specs.Outside.{DisksAt, counts_of}
 use Rattle.fm_top.proofs.BookHeld.{HeldAfterOf, HeldOf, held_after_each}
 use Rattle.fm_top.proofs.Doing.{run_ends, unopened}
-use Rattle.fm_top.proofs.Escs.{cause_caused, cause_goes, cause_standing, ok_no_err}
+use Rattle.fm_top.proofs.SourceFaults.{cause_caused, cause_goes, cause_standing, ok_no_err}
+use Rattle.fm_top.proofs.SourceFaults.{rules_quiet}
 use Rattle.fm_top.proofs.Going.{settled_goes}
 use Rattle.fm_top.proofs.Headlines.{until_held, whole_answered}
-use Rattle.fm_top.proofs.Inits.{rules_quiet}
 
 -- what stands outside, part by part
 abbrev pub outside_with : SourceAt → List SourceAt → SourceAt → SinkAt → DisksAt

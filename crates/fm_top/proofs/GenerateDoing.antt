@@ -32,7 +32,8 @@ use Rattle.fm_top.specs.Order.{AllPass, Goes, at_early, at_store, world_of}
 use Rattle.fm_top.specs.Outside.{Outside, DisksAt, Tells, Leaves, counts_of}
 use Rattle.fm_top.proofs.BookHeld.{same_book}
 use Rattle.fm_top.proofs.Doing.{Rests, quiet_counts, rests_put, unopened}
-use Rattle.fm_top.proofs.Escs.{ok_no_err, text_caused}
+use Rattle.fm_top.proofs.Escs.{text_caused}
+use Rattle.fm_top.proofs.SourceFaults.{ok_no_err}
 use Rattle.fm_top.proofs.Going.{put_goes, settled_goes, unopened_goes, worked_goes}
 use Rattle.fm_top.proofs.FmdDoing.{acts_quiet, settled_caused}
 

@@ -23,6 +23,7 @@ pub mod Repairs
 pub mod Rotatings
 pub mod RowGraphs
 pub mod SixDisks
+pub mod SourceFaults
 pub mod WorkLimits
 pub mod Standing
 pub mod Taking

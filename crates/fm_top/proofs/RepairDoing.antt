@@ -26,7 +26,7 @@ use Rattle.fm_top.specs.Repair.{MayHaveRepair, RepairRan, RepairTried, RepairedO
 use Rattle.fm_top.specs.Repair.{StoreUnrepaired, repair_limit}
 use Rattle.fm_top.specs.RepairEntry.{HasRepair}
 use Rattle.fm_top.proofs.Doing.{unopened}
-use Rattle.fm_top.proofs.Escs.{ok_no_err}
+use Rattle.fm_top.proofs.SourceFaults.{ok_no_err}
 use Rattle.fm_top.proofs.FmdDoing.{acts_quiet, settled_caused}
 use Rattle.fm_top.proofs.Going.{settled_goes, unopened_goes, worked_goes}
 use Rattle.fm_top.proofs.Texts.{like_drained}

@@ -1,9 +1,11 @@
 -- What `init` does: to the sources of the rule files and the topology, and to the six disks.
 use Rattle.std.specs.Prelude.{◌≡◌, ◌⊎◌, ℕ, ◌<◌, ◌^◌, List, length, map, IfSome, Result, Ok, Err}
-use Rattle.std.specs.Prelude.{MatchResult}
-use Rattle.fm_answers.specs.Stops.{of_sources}
+use Rattle.ev_file.specs.declared.made.Made.{Made}
+use Rattle.fm_answers.specs.Stops.{of_compiling}
 use Rattle.fm_answers.specs.declared.stops.Stop.{Stop}
 use Rattle.fm_answers.specs.declared.stops.Stop.TheVariants.{Disk, Memory, Full, Exists}
+use Rattle.fm_esc.specs.Compiling.{AreGraphs, CompileCause}
+use Rattle.fm_esc.specs.declared.faults.CompileFault.{CompileFault}
 use Rattle.fm_journal.specs.Crash.{IsEmptyOrNone}
 use Rattle.fm_journal.specs.declared.fault.FullKind.TheVariants.{Payload}
 use Rattle.fm_logs.specs.Contents.{Contents}
@@ -12,7 +14,6 @@ use Rattle.fm_saved.specs.Confs.{conf_bytes}
 use Rattle.fm_saved.specs.declared.conf.Conf.{Conf}
 use Rattle.fm_outer.specs.declared.source.Source.{Ghosts}
 use Rattle.fm_sources.specs.Sources.{ReadsSources, Given}
-use Rattle.fm_sources.specs.declared.faults.SourceFault.{SourceFault}
 use Rattle.fm_sources.specs.declared.sources.Sources.{Sources}
 use Rattle.fm_init.specs.Making.{HasStore, IsNewStore}
 use Rattle.fm_top.specs.Outside.{Outside, DiskAt, DisksAt, disk_by_name, Tells, Leaves, disk_counts}
@@ -66,22 +67,30 @@ MakingEnds before after conf (Err Disk) =
     × (AreUnwritten before after ⊎ BeganStore before after conf)
 MakingEnds _ _ _ _ = ⊥
 
--- the sources were refused, and the disks not called
-pub record SourcesRefused (before after : DisksAt) (fault : SourceFault)
+-- The sources were read, each file comes to a graph, and a store was being made of them.
+pub record MakingTried {S : Type 0} (g : Ghosts S) (old new : Given S) (before after : DisksAt)
+    (namespace : List ℕ) (ran : Result (Unit {0}) Stop) : Type 0 where
+  pub got : Sources
+  pub read : ReadsSources g old new (Ok got)
+  pub mades : List Made
+  pub graphs : AreGraphs got.topo got.files.items mades
+  pub making : MakingEnds before after (conf_with namespace got) ran
+
+-- the sources were refused, or a file comes to more than a limit, and the disks were not called
+pub record MakingUntried {S : Type 0} (g : Ghosts S) (old new : Given S) (before after : DisksAt)
     (ran : Result (Unit {0}) Stop) : Type 0 where
-  pub told : ran ≡ Err (of_sources fault)
+  pub fault : CompileFault
+  pub cause : CompileCause g old new fault
+  pub told : ran ≡ Err (of_compiling fault)
   pub untouched : AreUnwritten before after
   pub uncalled : disk_counts after ≡ disk_counts before
 
--- What the command comes to: the sources were read, and where they are rule files and a topology a
--- store was made of them, or not.
-pub record InitEnds {S : Type 0} (g : Ghosts S) (old new : Given S) (before after : DisksAt)
-    (namespace : List ℕ) (ran : Result (Unit {0}) Stop) : Type 0 where
-  pub got : Result Sources SourceFault
-  pub read : ReadsSources g old new got
-  pub went : MatchResult got
-      (λ sources. MakingEnds before after (conf_with namespace sources) ran)
-      (λ fault. SourcesRefused before after fault ran)
+-- What the command comes to: the sources come to graphs and a store was made of them, or not; or
+-- they do not.
+abbrev pub InitEnds : {S : Type 0} → Ghosts S → Given S → Given S → DisksAt → DisksAt → List ℕ
+    → Result (Unit {0}) Stop → Type 0
+InitEnds g old new before after namespace ran =
+    MakingTried g old new before after namespace ran ⊎ MakingUntried g old new before after ran
 
 -- `init` ran. Nothing was put, and where there was a store each image is one from before.
 pub record InitRan (namespace : List ℕ) (before after : Outside) (ran : Result (Unit {0}) Stop)

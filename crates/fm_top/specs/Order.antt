@@ -82,7 +82,7 @@ abbrev pub looks : Command → List Look
 looks Accept = at_store ∷ []
 looks Fmd = at_rules ∷ at_topology ∷ at_graphs ∷ at_store ∷ at_same ∷ []
 looks Replay = []
-looks (Init namespace) = at_rules ∷ at_topology ∷ at_no_store ∷ []
+looks (Init namespace) = at_rules ∷ at_topology ∷ at_graphs ∷ at_no_store ∷ []
 looks (Esc form) = at_rules ∷ at_topology ∷ at_graphs ∷ []
 looks EscInput = at_files ∷ []
 looks (Admin asked) = at_store ∷ []

@@ -1,12 +1,9 @@
 // The command `fmd -1`.
-ghost use Rattle.std.specs.Prelude.{◌≡◌, ◌≤◌, List, Ok, None, length, map, IfOk, IfErr};
-ghost use Rattle.ev_file.specs.declared.made.Made.{Made};
+ghost use Rattle.std.specs.Prelude.{◌≡◌, ◌≤◌, None, length, map};
 ghost use Rattle.fm_act.specs.Reconciled.{actuator_state};
 ghost use Rattle.fm_answers.specs.Accounts.{Accounts};
 ghost use Rattle.fm_answers.specs.StreamsAt.{source_at, sink_at};
 ghost use Rattle.fm_drain.specs.DrainCalls.{AreAtCursors};
-ghost use Rattle.fm_esc.specs.Compiling.{AreGraphs, CompileCause};
-ghost use Rattle.fm_sources.specs.Sources.{ReadsSources, given};
 ghost use Rattle.fm_store.specs.StoreLeft.{AreSameStore};
 ghost use Rattle.dx_engine.specs.Diagnosers.{diagnosers};
 ghost use Rattle.fm_top.specs.Calls.{names_of};
@@ -15,49 +12,21 @@ ghost use Rattle.fm_top.specs.Outside.{Outside, disks_at};
 ghost use Rattle.fm_top.specs.Tasks.{TaskDoes};
 
 use crate::as_read::is_as_read;
+use crate::graphed::read_graphed;
 use crate::opened::work_store;
 use crate::settle::{Settlement, settle};
 use crate::tasks::{StoreTask, Streams, TaskDone};
 use dx_engine::Diagnoser;
-use ev_listing::GraphForm;
 use fm_act::ActCalls;
 use fm_answers::{Stop, run};
 use fm_conclude::conclude;
 use fm_core::Hand;
-use fm_esc::{CompileFault, put_graphs};
 use fm_init::Disks;
 use fm_outer::{Disk, Sink, Source};
 use fm_saved::Conf;
-use fm_sources::{Sources, read_sources};
+use fm_sources::Sources;
 use fm_store::Store;
 use std::alloc::Global;
-
-/// Reads the rule files and the topology, up to the first that is refused, and makes the graph of
-/// each rule file, up to the first that is past a limit.
-fn read_graphed<S: Source>(
-    alloc: Global,
-    rules: &mut [S],
-    topo: &mut S,
-) -> Result<Sources, CompileFault>
-    requires { length rules.old ≤ 8 }
-    ensures read { IfOk result (λ got. ReadsSources S.Source (given rules.old topo.old)
-        (given rules.new topo.new) (Ok got)) }
-    ensures graphs { IfOk result
-        (λ got. (mades : List Made) × AreGraphs got.topo got.files.items mades) }
-    ensures refused { IfErr result (CompileCause S.Source (given rules.old topo.old)
-        (given rules.new topo.new)) }
-{
-    let got = read_sources(alloc, rules, topo)?;
-    let mut listing = Vec::new(alloc);
-    put_graphs(
-        alloc,
-        got.files.as_slice(),
-        &got.topo,
-        GraphForm::Listed,
-        &mut listing,
-    )?;
-    Ok(got)
-}
 
 /// Has an open store take the entry of each line of the input, where its configuration in force is
 /// what was read, answers each line, and concludes the store.

@@ -3,18 +3,19 @@ ghost use Rattle.std.specs.Prelude.{◌≡◌, ◌≤◌, length, map, IfOk};
 ghost use Rattle.fm_answers.specs.Stops.{ran_store};
 ghost use Rattle.fm_logs.specs.Contents.{AreSameDisks};
 ghost use Rattle.fm_saved.specs.Confs.{IsSpelledConf};
-ghost use Rattle.fm_sources.specs.Sources.{ReadsSources, given};
+ghost use Rattle.fm_sources.specs.Sources.{given};
 ghost use Rattle.fm_top.specs.Calls.{names_of, six};
 ghost use Rattle.fm_top.specs.Init.{conf_with, MakingEnds, InitEnds};
 ghost use Rattle.fm_top.specs.Outside.{disk_at, disks_at};
 
+use crate::graphed::read_graphed;
 use fm_answers::Stop;
 use fm_bytes::{Items, NoMemory};
 use fm_init::{Disks, StoreFault};
 use fm_lent::Lent;
 use fm_outer::{Disk, Source};
 use fm_saved::{Conf, ConfText, RuleFiles};
-use fm_sources::{RuleFile, Sources, read_sources};
+use fm_sources::{RuleFile, Sources};
 use std::alloc::Global;
 
 /// The texts of rule files, copied.
@@ -150,7 +151,8 @@ fn make<'a, D: Disk>(
     back.answer()
 }
 
-/// Reads the rule files and the topology, and makes a store of them and of the namespace.
+/// Reads the rule files and the topology, looks at what each file comes to, and makes a store of
+/// them and of the namespace.
 pub(crate) fn init<S: Source, D: Disk>(
     alloc: Global,
     namespace: [u8; 16],
@@ -164,7 +166,7 @@ pub(crate) fn init<S: Source, D: Disk>(
     ensures same_disks { names_of D.name disks.new ≡ names_of D.name disks.old }
     ensures second_same { disks.new.err_b ≡ disks.old.err_b }
 {
-    let got = read_sources(alloc, rules, topo)?;
+    let got = read_graphed(alloc, rules, topo)?;
     let conf = conf_with(alloc, namespace, &got)?;
     let plan = StorePlan { alloc, conf: &conf };
     make(

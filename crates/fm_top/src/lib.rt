@@ -2,8 +2,9 @@
 //! disks and its actuators.
 //!
 //! `tool` finds the command in the words (fm_command) and runs it, and fm_answers' `end` puts its
-//! last line. `init` reads the rule files and the topology, and makes a store of them. `esc` puts
-//! what they come to, or lists what `esc -b` put; fm_esc makes its text. `accept` and `replay` read
+//! last line. `init` reads the rule files and the topology, and makes a store of them where each
+//! file comes to a graph (`graphed`). `esc` puts what they come to, or lists what `esc -b` put;
+//! fm_esc makes its text. `accept` and `replay` read
 //! the input by one loop, fm_answers' `run`: it answers each line once, after its entry was taken.
 //! What takes the entries is for `accept` the store on the six disks, which is opened first with
 //! the modules of what it keeps. Why a command stops before all is done is a `Stop`; it gives the
@@ -58,6 +59,7 @@ mod esc;
 mod explaining;
 mod fmd;
 mod generating;
+mod graphed;
 mod init;
 mod no_input;
 mod opened;

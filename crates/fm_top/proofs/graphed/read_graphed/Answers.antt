@@ -1,7 +1,7 @@
 use Rattle.std.proofs.lemmas.Result.{err_from_is_err_and}
 use Rattle.fm_sources.specs.Sources.{given}
 use Rattle.fm_esc.proofs.Reading.{few_files, files_cause}
-use Rattle.fm_top.proofs.fmd.read_graphed.Goals as goal
+use Rattle.fm_top.proofs.graphed.read_graphed.Goals as goal
 
 pub put_graphs-requires : goal.put_graphs-requires
 put_graphs-requires g c =
