@@ -2,14 +2,14 @@
 use Rattle.std.proofs.Common.{◌≡◌, ◌≢◌, ◌⊎◌, ◌+◌, ◌<◌, ◌≤◌, ◌&&◌, ◌||◌, ◌++◌}
 use Rattle.std.proofs.Common.{not, ℕ, zero, suc, Bool}
 use Rattle.std.proofs.Common.{true, false, List, [], ◌∷◌, eqb, length, get_or, take, refl}
-use Rattle.std.proofs.Common.{slice_get, sym, ap, subst, ◌∙◌, inl, inr, arith, Option, Some, None}
+use Rattle.std.proofs.Common.{slice_get, sym, ap, subst, ◌∙◌, inl, inr, arith, Option, Some}
 use Rattle.std.specs.Prelude.{slice_set}
 use Rattle.std.proofs.lemmas.Bool.{cases_eq, and_parts, and_from, or_cases}
 use Rattle.std.proofs.lemmas.Bool.{or_left, or_right, eq-eqb, eqb-true, false≢true}
 use Rattle.std.proofs.lemmas.Bool.{both_ways, not-true, not_from_false, false_from_ne_true}
 use Rattle.std.proofs.lemmas.List.{take_more, length-set}
 use Rattle.std.proofs.lemmas.List.Folds.{list_any-append}
-use Rattle.std.proofs.lemmas.Option.{slice_get_within}
+use Rattle.std.proofs.lemmas.Option.{slice_get_within, same_Some}
 use Rattle.ev_graph.specs.Sets.{NodeSet, is_member}
 use Rattle.ev_graph.specs.Cutting.{is_cut}
 use Rattle.ev_graph.specs.Lawful.{GraphValue}
@@ -225,12 +225,6 @@ get_set_other (y ∷ ys) (suc i) zero x ne = refl
 get_set_other (y ∷ ys) (suc i) (suc k) x ne =
     get_set_other ys i k x (λ e. ne (ap suc e))
 
-pub same_some : {A : Type 0} (x y : A) → Some x ≡ Some y → x ≡ y
-same_some {A} x y h = ap (λ (o : Option A). some_or o) h where
-  some_or : Option A → A
-  some_or None = x
-  some_or (Some z) = z
-
 module _ (g : GraphValue) (links : List Link) (gone : NodeSet) where
   pub below_none : (xs : List Candidate) → AreChangedBelow g links gone 0 xs xs
   below_none xs = record {
@@ -248,9 +242,9 @@ module _ (g : GraphValue) (links : List Link) (gone : NodeSet) where
     count = length-set mid i y ∙ h.count;
     roots = λ k a b k_in at_old at_new. elim (cases_eq k i) [
       | inl same ↦
-          let ax : a ≡ x = same_some a x (sym at_old ∙ (ap (slice_get old) same
+          let ax : a ≡ x = same_Some a x (sym at_old ∙ (ap (slice_get old) same
           ∙ (sym (h.left i (omega arith)) ∙ is))) in
-          let by : b ≡ y = same_some b y (sym at_new ∙ (ap (slice_get (slice_set mid i y)) same
+          let by : b ≡ y = same_Some b y (sym at_new ∙ (ap (slice_get (slice_set mid i y)) same
           ∙ get_set_same mid i y l)) in
           ap (λ (z : Candidate). z.root) by ∙ (root ∙ ap (λ (z : Candidate). z.root) (sym ax))
       | inr ne ↦ h.roots k a b (omega (arith, k_in, ne)) at_old
@@ -258,9 +252,9 @@ module _ (g : GraphValue) (links : List Link) (gone : NodeSet) where
     ];
     done = λ k a b k_in at_old at_new. elim (cases_eq k i) [
       | inl same ↦
-          let ax : x ≡ a = sym (same_some a x (sym at_old ∙ (ap (slice_get old) same
+          let ax : x ≡ a = sym (same_Some a x (sym at_old ∙ (ap (slice_get old) same
           ∙ (sym (h.left i (omega arith)) ∙ is)))) in
-          let by : y ≡ b = sym (same_some b y (sym at_new
+          let by : y ≡ b = sym (same_Some b y (sym at_new
           ∙ (ap (slice_get (slice_set mid i y)) same ∙ get_set_same mid i y l))) in
           let P : Candidate → Type 0 = λ z. IsChanged g links gone z.live b.live in
           let Q : Candidate → Type 0 = λ z. IsChanged g links gone x.live z.live in

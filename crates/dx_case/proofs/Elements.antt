@@ -8,10 +8,10 @@ use Rattle.std.proofs.lemmas.Bool.{eq-eqb, eqb-true, ltb-true, lt-ltb, false≢t
 use Rattle.std.proofs.lemmas.Bool.{cond-true, cond-false}
 use Rattle.std.proofs.lemmas.List.{take_more, take_all, length-map, get_or-map}
 use Rattle.std.proofs.lemmas.List.Elements.{filter-append}
+use Rattle.std.proofs.lemmas.Option.{same_Some}
 use Rattle.ev_graph.specs.Sets.{NodeSet, is_member, ascends}
 use Rattle.dx_case.specs.declared.candidate.Candidate.{Candidate}
 use Rattle.dx_case.specs.Candidates.{roots_in}
-use Rattle.dx_case.proofs.Changing.{same_some}
 
 append_nil : {A : Type 0} (xs : List A) → xs ++ [] ≡ xs
 append_nil [] = refl
@@ -49,7 +49,7 @@ module _ {A : Type 0} (p : A → Bool) where
       → (j : ℕ) × (slice_get ys j ≡ Some x) × (p x ≡ true))
       → slice_get (y ∷ filter p ys) i ≡ Some x → p y ≡ true
       → (j : ℕ) × (slice_get (y ∷ ys) j ≡ Some x) × (p x ≡ true)
-  kept_first y ys zero x rest h here = (0, h, ap p (sym (same_some y x h)) ∙ here)
+  kept_first y ys zero x rest h here = (0, h, ap p (sym (same_Some y x h)) ∙ here)
   kept_first y ys (suc i) x rest h here = let r = rest i x h in (suc r.0, r.1, r.2)
 
   -- items of a filtered list
@@ -71,7 +71,7 @@ module _ {A : Type 0} (p : A → Bool) where
   kept_at (y ∷ ys) zero x h t = (
     0,
     ap (λ (zs : List A). slice_get zs 0)
-        (yes y ys (ap p (same_some y x h) ∙ t)) ∙ h,
+        (yes y ys (ap p (same_Some y x h) ∙ t)) ∙ h,
   )
   kept_at (y ∷ ys) (suc j) x h t =
       let r = kept_at ys j x h t in
@@ -98,7 +98,7 @@ module _ {A : Type 0} (p : A → Bool) where
       → p x ≡ true
   all_at [] i x h s = absurd (let no_item : ⊥ = cc in no_item)
   all_at (y ∷ ys) zero x h s =
-      ap p (sym (same_some y x s)) ∙ (and_parts (p y) (list_all p ys) h).0
+      ap p (sym (same_Some y x s)) ∙ (and_parts (p y) (list_all p ys) h).0
   all_at (y ∷ ys) (suc i) x h s = all_at ys i x (and_parts (p y) (list_all p ys) h).1 s
 
   pub some_at : (xs : List A) → list_any p xs ≡ true
@@ -112,7 +112,7 @@ module _ {A : Type 0} (p : A → Bool) where
   pub at_some : (xs : List A) (i : ℕ) (x : A) → slice_get xs i ≡ Some x → p x ≡ true
       → list_any p xs ≡ true
   at_some [] i x s h = absurd (let no_item : ⊥ = cc in no_item)
-  at_some (y ∷ ys) zero x s h = or_left (p y) (list_any p ys) (ap p (same_some y x s) ∙ h)
+  at_some (y ∷ ys) zero x s h = or_left (p y) (list_any p ys) (ap p (same_Some y x s) ∙ h)
   at_some (y ∷ ys) (suc i) x s h = or_right (p y) (list_any p ys) (at_some ys i x s h)
 
 -- numbers that are made of items
@@ -130,7 +130,7 @@ module _ {A : Type 0} (f : A → ℕ) where
   made_at [] i x s = absurd (let no_item : ⊥ = cc in no_item)
   made_at (y ∷ ys) zero x s =
       or_left (eqb (f y) (f x)) (is_member (map f ys) (f x))
-      (eq-eqb (f y) (f x) (ap f (same_some y x s)))
+      (eq-eqb (f y) (f x) (ap f (same_Some y x s)))
   made_at (y ∷ ys) (suc i) x s =
       or_right (eqb (f y) (f x)) (is_member (map f ys) (f x)) (made_at ys i x s)
 

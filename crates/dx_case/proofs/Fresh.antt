@@ -5,6 +5,7 @@ use Rattle.std.proofs.Common.{false, Some, ◌≤◌, arith}
 use Rattle.std.specs.List.{list_all}
 use Rattle.std.proofs.lemmas.Bool.{or_left, eq-eqb, cases_lt, false≢true}
 use Rattle.std.proofs.lemmas.List.{take_more, map-append}
+use Rattle.std.proofs.lemmas.Option.{same_Some}
 use Rattle.ev_graph.specs.Sets.{is_member, ascends}
 use Rattle.ev_graph.specs.Kinds.{is_report_node}
 use Rattle.ev_graph.specs.Lawful.{GraphValue}
@@ -13,12 +14,11 @@ use Rattle.dx_live.specs.Live.{no_cut, all_allowed}
 use Rattle.dx_case.specs.declared.candidate.Candidate.{Candidate}
 use Rattle.dx_case.specs.Candidates.{IsCandidate, AreCovered, AreCandidates}
 use Rattle.dx_case.specs.Finding.{AreRootsOf, AreFresh}
-use Rattle.dx_case.proofs.Changing.{same_some}
 
 -- an item of a list with one more at its end
 pub get_push : {A : Type 0} (xs : List A) (y x : A) (i : ℕ) → slice_get (xs ++ y ∷ []) i ≡ Some x
     → (slice_get xs i ≡ Some x) ⊎ (y ≡ x)
-get_push [] y x zero h = inr (same_some y x h)
+get_push [] y x zero h = inr (same_Some y x h)
 get_push [] y x (suc i) h = absurd (let no_item : ⊥ = cc in no_item)
 get_push (z ∷ zs) y x zero h = inl h
 get_push (z ∷ zs) y x (suc i) h = get_push zs y x i h

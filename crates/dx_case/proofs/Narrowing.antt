@@ -4,7 +4,7 @@ use Rattle.std.proofs.Common.{List, [], ◌∷◌, length, slice_get, refl, sym,
 use Rattle.std.proofs.Common.{inl, inr, arith, Some}
 use Rattle.std.specs.List.{filter, list_all}
 use Rattle.std.proofs.lemmas.Bool.{and_parts, and_from, or_left}
-use Rattle.std.proofs.lemmas.Option.{slice_get_cases, slice_get_within}
+use Rattle.std.proofs.lemmas.Option.{slice_get_cases, slice_get_within, same_Some}
 use Rattle.ev_graph.specs.Sets.{NodeSet, is_member, ascends, IsSubset}
 use Rattle.ev_graph.specs.Kinds.{is_report_node}
 use Rattle.ev_graph.specs.Cutting.{is_cut}
@@ -19,7 +19,7 @@ use Rattle.dx_explain.proofs.Telling.{implied, implies}
 use Rattle.dx_case.specs.declared.candidate.Candidate.{Candidate}
 use Rattle.dx_case.specs.Changes.{cut_or, allowed_less, IsChanged, AreChanged}
 use Rattle.dx_case.specs.Candidates.{roots_in, IsCandidate, AreCandidates, keeps, Narrows}
-use Rattle.dx_case.proofs.Changing.{changed_none, same_some}
+use Rattle.dx_case.proofs.Changing.{changed_none}
 use Rattle.dx_case.proofs.Elements.{kept_from, kept_at, made_from, made_at, ascends_part}
 
 -- another list as long has an item at the same place
@@ -138,7 +138,7 @@ module _ (g : GraphValue) (cut : CutsOf) (links : List Link) (gone allowed fewer
       let b = at_same_place mid old r.0 r.1 ch.count r.2 in
       let a = b.0 in
       let f = from r.0 a b.1 in
-      let same : f.before ≡ r.1 = same_some f.before r.1 (sym f.stands ∙ r.2) in
+      let same : f.before ≡ r.1 = same_Some f.before r.1 (sym f.stands ∙ r.2) in
       let a_root : a.root ≡ root =
       f.root_same ∙ (ap (λ (c : Candidate). c.root) same ∙ r.3) in
       let here : live_root a.live ≡ root = root_is r.0 a f ∙ a_root in
@@ -182,10 +182,10 @@ pub unchanged : (g : GraphValue) (cut : CutsOf) (seen allowed : NodeSet) (old : 
     → AreChanged g [] (λ e. false) old old
 unchanged g cut seen allowed old reports h = record {
   count = refl;
-  roots = λ i a b s t. ap (λ (c : Candidate). c.root) (same_some b a (sym t ∙ s));
+  roots = λ i a b s t. ap (λ (c : Candidate). c.root) (same_Some b a (sym t ∙ s));
   each = λ i a b s t.
       let P : Candidate → Type 0 = λ c. IsChanged g [] (λ e. false) a.live c.live in
-      subst P (same_some a b (sym s ∙ t)) (changed_none g a.live (h.each i a s).live);
+      subst P (same_Some a b (sym s ∙ t)) (changed_none g a.live (h.each i a s).live);
 }
 
 pub equal_case : (g : GraphValue) (cut other : CutsOf) (seen allowed fewer : NodeSet)

@@ -8,11 +8,11 @@ use Rattle.std.specs.BTreeMap.{get, is_at, Updates, IsUnchanged}
 use Rattle.std.specs.Map.{lookup}
 use Rattle.std.proofs.lemmas.Bool.{cases_Bool, false≢true}
 use Rattle.std.proofs.lemmas.Map.Lookups.{exact_unsigned}
+use Rattle.std.proofs.lemmas.Option.{same_Some}
 use Rattle.ev_graph.specs.Lawful.{GraphValue}
 use Rattle.dx_case.specs.declared.finding.Fresh.{Fresh}
 use Rattle.dx_case.specs.declared.starts.Starts.{Starts}
 use Rattle.dx_case.specs.Starts.{IsFreshOf, AreStartsOf}
-use Rattle.dx_case.proofs.Changing.{same_some}
 
 equal_of : (o : Ordering) → is_eq o ≡ true → o ≡ Equal
 equal_of Less h = absurd (false≢true h)
@@ -39,7 +39,7 @@ one_more g old new node f up is h = record {
       let now = λ (b : Bool). cond b (Some f) (get nat_cmp old.found e) in
       elim (cases_Bool (is_eq (nat_cmp node e))) [
         | inl here ↦
-            let same : f ≡ k = same_some f k (sym (ap now here) ∙ (sym (up.0 e) ∙ there)) in
+            let same : f ≡ k = same_Some f k (sym (ap now here) ∙ (sym (up.0 e) ∙ there)) in
             let at : node ≡ e = exact_unsigned node e (equal_of (nat_cmp node e) here) in
             subst (λ (n : ℕ). IsFreshOf g n k) at (subst (IsFreshOf g node) same is)
         | inr away ↦ h.each e k (sym (ap now away) ∙ (sym (up.0 e) ∙ there))

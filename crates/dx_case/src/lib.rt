@@ -21,9 +21,9 @@
 //! payload breaks, [`Case::expire`] lets windows end, [`Case::finish`] all of them;
 //! [`Case::is_pending`] and [`Case::fits`] answer exactly, and [`Case::outcome`] gives all faults
 //! and defects that explain the case, else all such upsets, else says that nothing does. A case
-//! takes memory for what its candidates' roots reach. Moving in time takes none, and one comparison
-//! until a window ends. [`Case::restore`] makes a case again from what is kept of it
-//! ([`CaseFacts`]), whatever the order in which its reports had come.
+//! takes memory for what its candidates' roots reach, and none to move in time. [`Case::restore`]
+//! makes a case again from what is kept of it ([`CaseFacts`]), whatever the order in which its
+//! reports had come.
 //!
 //! **Starts.** The candidates of a report and the reports that their roots reach depend on its node
 //! and the graph alone. [`Starts`] keeps them for nodes that opened cases, within a bound, so that

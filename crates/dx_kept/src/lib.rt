@@ -1,8 +1,7 @@
-//! States of diagnosis modules as values, written to bytes, read from them, and tried for
-//! lawfulness.
+//! States of diagnosis modules as values, written to bytes and read from them.
 //!
 //! **Model.** A `KeptCase` is an open case and a `KeptState` a whole state, which contracts see as
-//! the records of fm_core. What bytes spell them, and which states are lawful, is said in dx_state.
+//! the records of fm_core. What bytes spell them is said in dx_state.
 //!
 //! **Promises.** What is written is the spelling. What is read is the state that all of the bytes
 //! spell, and a fault other than want of memory comes only where they spell none.

@@ -5,7 +5,7 @@ use Rattle.std.proofs.Common.{sym}
 use Rattle.std.proofs.Common.{◌∙◌, ap, arith, inl, inr}
 use Rattle.std.specs.List.{list_all, count_by, slice_get}
 use Rattle.std.proofs.lemmas.Bool.Decides.{nat_tests}
-use Rattle.std.proofs.lemmas.Bool.{cases_lt, and_parts, and_from}
+use Rattle.std.proofs.lemmas.Bool.{cases_lt, and_parts, and_from, and_right}
 use Rattle.std.proofs.lemmas.List.Sums.{count_by-le-length, sum_by-cons}
 use Rattle.std.proofs.lemmas.List.{drop-append-le, length-drop, drop-drop, length-append}
 use Rattle.circular_buffer.specs.Buffer.{keep_last}
@@ -104,15 +104,11 @@ all_high a m (x ∷ xs) h =
     (le_true x m (last_high x m xs parts.1)) (all_high x m xs parts.1)
 
 -- a list of which the last element fails does not pass
-and_fails : (a b : Bool) → b ≡ false → (a && b) ≡ false
-and_fails true b e = e
-and_fails false b e = refl
-
 pub last_fails : (p : ℕ → Bool) (m : ℕ) (xs : List ℕ) → p m ≡ false
     → list_all p (xs ++ m ∷ []) ≡ false
 last_fails p m [] h = ap (λ b. b && true) h
 last_fails p m (x ∷ xs) h =
-    and_fails (p x) (list_all p (xs ++ m ∷ [])) (last_fails p m xs h)
+    and_right (p x) (list_all p (xs ++ m ∷ [])) (last_fails p m xs h)
 
 -- one moment more, that lies within or doesn't
 pub count_yes : (p : ℕ → Bool) (x : ℕ) (xs : List ℕ) → p x ≡ true

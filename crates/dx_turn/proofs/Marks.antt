@@ -2,7 +2,7 @@
 use Rattle.std.proofs.Common.{◌≡◌, ℕ, Bool, true, false, ◌||◌, List, [], ◌∷◌, ◌++◌, refl, sym}
 use Rattle.std.proofs.Common.{ap, ◌∙◌, subst, nat_lt, IsTrue, append-nil, Some, if◌then◌else◌}
 use Rattle.std.specs.List.{list_any, list_all}
-use Rattle.std.proofs.lemmas.Bool.{false≢true, and_from, and_parts}
+use Rattle.std.proofs.lemmas.Bool.{false≢true, and_from, and_parts, or_from}
 use Rattle.fm_entry.specs.declared.suspect.Mark.{Mark}
 use Rattle.fm_entry.specs.declared.list_event.ListEvent.{ListEvent}
 use Rattle.ev_graph.specs.Sets.{ascends}
@@ -82,22 +82,18 @@ none_rest : (a b : Bool) → (a || b) ≡ false → b ≡ false
 none_rest true b h = absurd (false≢true (sym h))
 none_rest false b h = h
 
-none_from : (a b : Bool) → a ≡ false → b ≡ false → (a || b) ≡ false
-none_from true b h k = absurd (false≢true (sym h))
-none_from false b h k = k
-
 none_with : (p : ListEvent → Bool) (w : ListEvent) (ws : List ListEvent) → p w ≡ false
     → list_any p ws ≡ false → list_any p (with_last_word w ws) ≡ false
-none_with p w [] h k = none_from (p w) false h refl
+none_with p w [] h k = or_from (p w) false h refl
 none_with p w (y ∷ ys) h k =
     let here = none_first (p y) (list_any p ys) k in
     let rest = none_with p w ys h (none_rest (p y) (list_any p ys) k) in
     elim (nat_lt w.case.case y.case.case) as (λ (b : Bool). list_any p (if b then w ∷ y ∷ ys
     else (if nat_lt y.case.case w.case.case then y ∷ with_last_word w ys else y ∷ ys)) ≡ false) [
-      | true ↦ none_from (p w) (list_any p (y ∷ ys)) h k
+      | true ↦ or_from (p w) (list_any p (y ∷ ys)) h k
       | false ↦ elim (nat_lt y.case.case w.case.case) as (λ (b : Bool).
           list_any p (if b then y ∷ with_last_word w ys else y ∷ ys) ≡ false) [
-            | true ↦ none_from (p y) (list_any p (with_last_word w ys)) here rest
+            | true ↦ or_from (p y) (list_any p (with_last_word w ys)) here rest
             | false ↦ k
           ]
     ]

@@ -1,21 +1,17 @@
 -- The first item that passes a test, and what stands in its place.
 use Rattle.std.proofs.Common.{◌≡◌, ℕ, ◌+◌, suc, ◌<◌, Bool, true, false, not, ◌||◌, nat_lt, List, []}
-use Rattle.std.proofs.Common.{◌∷◌, ◌++◌, length, refl, sym, ap, ◌∙◌, arith, Some, None}
+use Rattle.std.proofs.Common.{◌∷◌, ◌++◌, length, refl, ap, ◌∙◌, arith, Some, None}
 use Rattle.std.proofs.Common.{slice_get, slice_set, cond, length-append}
 use Rattle.std.specs.Prelude.{remove, position}
 use Rattle.std.specs.List.{list_any, position_or_len}
-use Rattle.std.proofs.lemmas.Bool.{false≢true, lt-ltb}
+use Rattle.std.proofs.lemmas.Bool.{lt-ltb, or_parts}
 use Rattle.std.proofs.lemmas.Bool.Decides.{nat_tests}
-
-or_none : (a b : Bool) → (a || b) ≡ false → (a ≡ false) × (b ≡ false)
-or_none true b h = absurd (false≢true (sym h))
-or_none false b h = (refl, h)
 
 pub any_append : {X : Type 0} (p : X → Bool) (xs ys : List X) → list_any p xs ≡ false
     → list_any p ys ≡ false → list_any p (xs ++ ys) ≡ false
 any_append p [] ys h k = k
 any_append p (x ∷ xs) ys h k =
-    let parts = or_none (p x) (list_any p xs) h in
+    let parts = or_parts (p x) (list_any p xs) h in
     ap (λ (b : Bool). b || list_any p (xs ++ ys)) parts.0 ∙ any_append p xs ys parts.1 k
 
 next : (m n : ℕ) → m ≡ n → 1 + m ≡ suc n
@@ -25,7 +21,7 @@ length_none : {X : Type 0} (p : X → Bool) (xs : List X) → list_any p xs ≡ 
     → position_or_len p xs ≡ length xs
 length_none p [] h = refl
 length_none p (x ∷ xs) h =
-    let parts = or_none (p x) (list_any p xs) h in
+    let parts = or_parts (p x) (list_any p xs) h in
     ap (λ (b : Bool). cond (not b) (1 + position_or_len p xs) 0) parts.0
     ∙ next (position_or_len p xs) (length xs) (length_none p xs parts.1)
 
@@ -34,7 +30,7 @@ length_first : {X : Type 0} (p : X → Bool) (xs ys : List X) (y : X) → list_a
 length_first p [] ys y h k =
     ap (λ (b : Bool). cond (not b) (1 + position_or_len p ys) 0) k
 length_first p (x ∷ xs) ys y h k =
-    let parts = or_none (p x) (list_any p xs) h in
+    let parts = or_parts (p x) (list_any p xs) h in
     ap (λ (b : Bool). cond (not b) (1 + position_or_len p (xs ++ y ∷ ys)) 0) parts.0
     ∙ next (position_or_len p (xs ++ y ∷ ys)) (length xs) (length_first p xs ys y parts.1 k)
 

@@ -1,12 +1,12 @@
 -- A checked file is lawful: what no phase finds, and what its lists are, come to what instances
 -- rest on.
-use Rattle.std.proofs.Common.{◌≡◌, ℕ, zero, suc, ◌<◌, ◌^◌, Bool, true, false, not, ◌&&◌, ◌||◌}
-use Rattle.std.proofs.Common.{List, [], ◌∷◌, map, filter_map, length, Option, Some, None}
-use Rattle.std.proofs.Common.{slice_get, take, if◌then◌else◌, refl, sym, ap, ◌∙◌, subst, arith}
+use Rattle.std.proofs.Common.{◌≡◌, ℕ, suc, ◌<◌, ◌^◌, Bool, true, false, not, ◌||◌}
+use Rattle.std.proofs.Common.{List, [], ◌∷◌, map, filter_map, Option, Some, None}
+use Rattle.std.proofs.Common.{slice_get, if◌then◌else◌, refl, sym, ap, ◌∙◌, subst, arith}
 use Rattle.std.specs.List.{list_any, cons_option}
 use Rattle.std.specs.List.{AllByRecursion as ByRecursion}
 use Rattle.std.proofs.lemmas.List.Elements.{All-from_recursion}
-use Rattle.std.proofs.lemmas.Bool.{false≢true}
+use Rattle.std.proofs.lemmas.Bool.{false≢true, or_parts}
 use Rattle.std.proofs.lemmas.Bool.Decides.{nat_tests}
 use Rattle.fm_name.specs.Category.{category_of}
 use Rattle.ev_tree.specs.Pattern.{Pattern, view_pattern}
@@ -21,20 +21,18 @@ use Rattle.ev_ways.specs.Ways.{Reaches}
 use Rattle.ev_words.specs.declared.kinds.CheckKind.TheVariants.{BadKind, Twice, Missing, BadCount}
 use Rattle.ev_words.specs.declared.kinds.CheckKind.TheVariants.{BadTime, FreeIterator}
 use Rattle.ev_words.specs.Attributes.{is_from}
-use Rattle.ev_words.specs.Categories.{is_side, is_report}
-use Rattle.ev_check.specs.CheckedFile.{CheckedFile, Linking, IsFileOf, event_spec, linking}
+use Rattle.ev_words.specs.Categories.{is_side}
+use Rattle.ev_check.specs.CheckedFile.{CheckedFile, Linking, event_spec, linking}
 use Rattle.ev_check.specs.CheckedFile.{view_prop}
 use Rattle.ev_check.specs.Declarations.{declared_number, event_in, events_in, engines_in}
 use Rattle.ev_check.specs.Declarations.{is_declared, is_undeclared, names_undeclared, subject_of}
-use Rattle.ev_check.specs.Declarations.{undeclared_among}
-use Rattle.ev_check.specs.Drawn.{causes_in, causes_of, effects_in, effects_of, side_numbers}
-use Rattle.ev_check.specs.Faults.{IsChecked, Passes, in_itself, finds_undeclared}
+use Rattle.ev_check.specs.Drawn.{causes_of, effects_in, effects_of, side_numbers}
+use Rattle.ev_check.specs.Faults.{IsChecked}
 use Rattle.ev_words.specs.Iterators.{goes_down, has_odd_name, is_down, is_free, is_horizontal}
 use Rattle.ev_words.specs.Iterators.{is_long, is_mixed, is_mixed_at, is_vertical}
 use Rattle.ev_check.specs.Lawful.{IsLawfulAt, IsLawfulFile, IsLawfulLinking, IsLawfulPart}
 use Rattle.ev_check.specs.Lawful.{IsLawfulPattern, linking_causes, file_events, linking_effects}
-use Rattle.ev_check.specs.Lawful.{spec_event, is_vertical_in, is_vertical_of, pattern_numbers}
-use Rattle.ev_check.specs.Lawful.{pattern_subject}
+use Rattle.ev_check.specs.Lawful.{spec_event, is_vertical_in, pattern_numbers}
 use Rattle.ev_words.specs.Operands.{operands_at}
 use Rattle.ev_check.specs.Sound.{IsSound}
 use Rattle.ev_words.specs.Words.{asks_oddly, has_bad_count, has_bad_kind, has_bad_time, has_twice}
@@ -43,10 +41,6 @@ use Rattle.ev_words.specs.Words.{has_odd_part, is_odd_at, is_odd_part, is_odd_si
 use Rattle.ev_words.specs.Words.{is_odd_count}
 
 -- ---- tests that fail
-
-neither : (a b : Bool) → (a || b) ≡ false → (a ≡ false) × (b ≡ false)
-neither true b e = absurd (false≢true (sym e))
-neither false b e = (refl, e)
 
 denied : (a : Bool) → not a ≡ false → a ≡ true
 denied true e = refl
@@ -61,7 +55,7 @@ passed_over false x o e = (refl, e)
 each_fails : {A : Type 0} (test : A → Bool) (xs : List A) → list_any test xs ≡ false
     → ByRecursion (λ x. test x ≡ false) xs
 each_fails test [] e = tt
-each_fails test (x ∷ xs) e = let p = neither (test x) (list_any test xs) e in
+each_fails test (x ∷ xs) e = let p = or_parts (test x) (list_any test xs) e in
     (p.0, each_fails test xs p.1)
 
 -- what follows for each element from two facts
@@ -105,12 +99,12 @@ lawful_at : (down vertical : List ℕ → Bool) → ((v : List ℕ) → down v �
 lawful_at down vertical is ats.Bare e f = tt
 lawful_at down vertical is (ats.Down v) e f = tt
 lawful_at down vertical is (ats.Number n) e f = small n e
-lawful_at down vertical is (ats.Across v) e f = sym (is v) ∙ (neither (is_long v) (down v) f).1
+lawful_at down vertical is (ats.Across v) e f = sym (is v) ∙ (or_parts (is_long v) (down v) f).1
 
 lawful_part : (down vertical : List ℕ → Bool) → ((v : List ℕ) → down v ≡ vertical v) → (p : Part)
     → is_odd_part p ≡ false → is_mixed down p ≡ false → IsLawfulPart vertical p
 lawful_part down vertical is p e f =
-    lawful_at down vertical is p.at e (neither (is_long p.name) (is_mixed_at down p.at) f).1
+    lawful_at down vertical is p.at e (or_parts (is_long p.name) (is_mixed_at down p.at) f).1
 
 -- what the first phase and the third don't find of a pattern
 pub record Kept (events : List Declared) (down : List ℕ → Bool) (left : Bool) (p : SidePattern) :
@@ -125,8 +119,8 @@ lawful_pattern : (events : List Declared) (down vertical : List ℕ → Bool)
     → Kept events down left p
     → IsLawfulPattern events vertical left (view_pattern p)
 lawful_pattern events down vertical is left p k =
-    let odd = neither (not (is_side left (category_of p.class))) (asks_oddly left p) k.odd in
-    let names = neither (list_any (is_free down (is_horizontal p)) (operands_at p))
+    let odd = or_parts (not (is_side left (category_of p.class))) (asks_oddly left p) k.odd in
+    let names = or_parts (list_any (is_free down (is_horizontal p)) (operands_at p))
     (list_any (is_mixed down) p.parts) k.name in
     record {
       side = denied (is_side left (category_of p.class)) odd.0;
@@ -143,10 +137,10 @@ kept_each : (events : List Declared) (down : List ℕ → Bool) (left : Bool) (p
     → ByRecursion (Kept events down left) ps
 kept_each events down left [] a b d e = tt
 kept_each events down left (p ∷ ps) a b d e =
-    let w = neither (is_odd_side left p) (list_any (is_odd_side left) ps) a in
-    let x = neither (has_odd_part p) (list_any has_odd_part ps) b in
-    let y = neither (has_odd_name down p) (list_any (has_odd_name down) ps) d in
-    let z = neither (is_undeclared events p) (list_any (is_undeclared events) ps) e in (
+    let w = or_parts (is_odd_side left p) (list_any (is_odd_side left) ps) a in
+    let x = or_parts (has_odd_part p) (list_any has_odd_part ps) b in
+    let y = or_parts (has_odd_name down p) (list_any (has_odd_name down) ps) d in
+    let z = or_parts (is_undeclared events p) (list_any (is_undeclared events) ps) e in (
       record { odd = w.0; part = x.0; name = y.0; known = z.0 },
       kept_each events down left ps w.1 x.1 y.1 z.1,
     )
@@ -182,14 +176,14 @@ lawful_statement events engines (statements.Prop place left n k right) c u =
     let vertical : List ℕ → Bool =
     λ v. is_vertical_in (map view_pattern left) v || is_vertical_in (map view_pattern right) v
     in
-    let odd = neither (list_any (is_odd_side true) left) (list_any (is_odd_side false) right) c.kind
+    let odd = or_parts (list_any (is_odd_side true) left) (list_any (is_odd_side false) right) c.kind
     in
-    let counts = neither (is_odd_count 0 n || is_odd_count 1 k)
+    let counts = or_parts (is_odd_count 0 n || is_odd_count 1 k)
     (list_any has_odd_part left || list_any has_odd_part right) c.count in
-    let parts = neither (list_any has_odd_part left) (list_any has_odd_part right) counts.1 in
-    let names = neither (list_any (has_odd_name down) left) (list_any (has_odd_name down) right)
+    let parts = or_parts (list_any has_odd_part left) (list_any has_odd_part right) counts.1 in
+    let names = or_parts (list_any (has_odd_name down) left) (list_any (has_odd_name down) right)
     c.name in
-    let known = neither (list_any (is_undeclared events) left)
+    let known = or_parts (list_any (is_undeclared events) left)
     (list_any (is_undeclared events) right) u in
     let Lawful : Bool → Pattern → Type 0 = λ on q. IsLawfulPattern events vertical on q in
     record {

@@ -8,6 +8,7 @@ use Rattle.std.proofs.Common.{if◌then◌else◌}
 use Rattle.std.proofs.lemmas.Bool.{false≢true, eqb-true, lt-ltb}
 use Rattle.std.proofs.lemmas.Slice.Eq.{bytes_eq-Decides}
 use Rattle.std.proofs.lemmas.List.{append-nil}
+use Rattle.std.proofs.lemmas.Option.{same_Some}
 use Rattle.fm_bytes.proofs.Booleans.{and_parts, and_true}
 use Rattle.ev_tree.specs.declared.tree.At.{At}
 use Rattle.ev_tree.specs.declared.tree.At.TheVariants as ats
@@ -24,7 +25,7 @@ use Rattle.ev_events.specs.Slots.{columns_of, values_at}
 use Rattle.ev_events.specs.declared.slots.Slot.{Slot}
 use Rattle.ev_events.specs.declared.slots.Slot.TheVariants.{Like}
 use Rattle.ev_events.specs.declared.slots.Column.{Column}
-use Rattle.ev_events.proofs.Places.{some_is, none_is_not, same_tests, that_is, is_that_from, there_is}
+use Rattle.ev_events.proofs.Places.{none_is_not, same_tests, that_is, is_that_from, there_is}
 use Rattle.ev_events.proofs.Places.{within_is, index_is, get_is, get_map, pairs_at, pairs_from}
 use Rattle.ev_events.proofs.Places.{first_found, any_found}
 use Rattle.ev_events.proofs.Columns.{number_in, Each, each_at, IsColumn, columns_are}
@@ -46,8 +47,8 @@ down_is v name (ats.Across w) h = absurd (false≢true h)
 
 down_from : (v name : List ℕ) (at : At) → iterator_at name at ≡ Some v
     → goes_down_at v name at ≡ true
-down_from v name ats.Bare h = same_from v name (sym (some_is name v h))
-down_from v name (ats.Down w) h = same_from v w (sym (some_is w v h))
+down_from v name ats.Bare h = same_from v name (sym (same_Some name v h))
+down_from v name (ats.Down w) h = same_from v w (sym (same_Some w v h))
 down_from v name (ats.Number n) h = none_is_not v h
 down_from v name (ats.Across w) h = none_is_not v h
 
@@ -56,18 +57,18 @@ module _ (vs : List (List ℕ)) (parts : List Part) (b xs : List ℕ) (full : le
   fits_down : (v name : List ℕ) (at : At) (x : ℕ) → iterator_at name at ≡ Some v
       → fits_at vs b parts xs name at x ≡ is_that (instance_bound vs b v) x
   fits_down v name ats.Bare x h =
-      ap (λ (u : List ℕ). is_that (instance_bound vs b u) x) (some_is name v h)
+      ap (λ (u : List ℕ). is_that (instance_bound vs b u) x) (same_Some name v h)
   fits_down v name (ats.Down w) x h =
-      ap (λ (u : List ℕ). is_that (instance_bound vs b u) x) (some_is w v h)
+      ap (λ (u : List ℕ). is_that (instance_bound vs b u) x) (same_Some w v h)
   fits_down v name (ats.Number n) x h = none_is_not v h
   fits_down v name (ats.Across w) x h = none_is_not v h
 
   slot_down : (v name : List ℕ) (at : At) → iterator_at name at ≡ Some v
       → slot_at parts name at ≡ Like (first_place (goes_down v) parts)
   slot_down v name ats.Bare h =
-      ap (λ (u : List ℕ). Like (first_place (goes_down u) parts)) (some_is name v h)
+      ap (λ (u : List ℕ). Like (first_place (goes_down u) parts)) (same_Some name v h)
   slot_down v name (ats.Down w) h =
-      ap (λ (u : List ℕ). Like (first_place (goes_down u) parts)) (some_is w v h)
+      ap (λ (u : List ℕ). Like (first_place (goes_down u) parts)) (same_Some w v h)
   slot_down v name (ats.Number n) h = none_is_not v h
   slot_down v name (ats.Across w) h = none_is_not v h
 
@@ -134,7 +135,7 @@ module _ (vs : List (List ℕ)) (parts : List Part) (b xs : List ℕ) (full : le
         → slice_get xs i ≡ Some x → iterator_of p ≡ Some v → keeps xs (slot_of parts p) x ≡ true
     down_keeps i p x v s t h =
         let f = first_down i p v s h in
-        let same = some_is f.instance x (sym (bound_is f.place f.part f.instance v f.stands f.there
+        let same = same_Some f.instance x (sym (bound_is f.place f.part f.instance v f.stands f.there
         f.has) ∙ bound_is i p x v s t h) in
         ap (λ (slot : Slot). keeps xs slot x) (slot_down v p.name p.at h)
         ∙ is_that_from (slice_get xs (first_place (goes_down v) parts)) x
@@ -245,7 +246,7 @@ module _ (vs : List (List ℕ)) (parts : List Part) (b xs : List ℕ) (full : le
           map_get : {X Y : Type 0} (f : X → Y) (ys : List X) (j : ℕ) (y : X)
               → slice_get ys j ≡ Some y → slice_get (map f ys) j ≡ Some (f y)
           map_get f [] j y h = none_is_not y h
-          map_get f (z ∷ ys) zero y h = ap (λ w. Some (f w)) (some_is z y h)
+          map_get f (z ∷ ys) zero y h = ap (λ w. Some (f w)) (same_Some z y h)
           map_get f (z ∷ ys) (suc j) y h = map_get f ys j y h
 
     column_value : (i : ℕ) (p : Part) (v : List ℕ) (s : slice_get parts i ≡ Some p)
@@ -264,7 +265,7 @@ module _ (vs : List (List ℕ)) (parts : List Part) (b xs : List ℕ) (full : le
         let other : m.number ≡ n.number =
         sym (ap number_in k.is ∙ m.is) ∙ number in
         let name : k.name ≡ v =
-        some_is k.name v (sym m.stands ∙ ap (slice_get vs) other ∙ n.stands) in
+        same_Some k.name v (sym m.stands ∙ ap (slice_get vs) other ∙ n.stands) in
         let is : c.1 ≡ column_of vs parts v = k.is ∙ ap (column_of vs parts) name in
         let value = each_at (λ d. slice_index xs d.place ≡ slice_index b d.number)
         (columns_of vs parts) c.0 c.1 c.2

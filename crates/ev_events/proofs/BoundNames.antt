@@ -1,10 +1,10 @@
 -- What a binding gives to names, name by name.
-use Rattle.std.proofs.Common.{◌≡◌, ◌<◌, ◌+◌, ◌++◌, ℕ, suc, zero, List, [], ◌∷◌, length, drop, zip}
-use Rattle.std.proofs.Common.{map}
+use Rattle.std.proofs.Common.{◌≡◌, ◌<◌, ◌+◌, ◌++◌, ℕ, suc, zero, List, [], ◌∷◌, length, drop}
 use Rattle.std.proofs.Common.{get_or, slice_get, Option, Some, None, refl, sym, ap, ◌∙◌, arith}
 use Rattle.std.proofs.Common.{append_assoc, append-nil, Bor, option_copied}
+use Rattle.std.proofs.lemmas.Option.{same_Some}
 use Rattle.ev_expr.specs.declared.settings.Bound.{Bound}
-use Rattle.ev_events.proofs.Places.{none_is_not, some_is}
+use Rattle.ev_events.proofs.Places.{none_is_not}
 use Rattle.ev_events.specs.Asking.{names_down}
 
 step : (vs : List (List ℕ)) (b : List ℕ) (i : ℕ) (v : List ℕ) → slice_get vs i ≡ Some v
@@ -14,7 +14,7 @@ step : (vs : List (List ℕ)) (b : List ℕ) (i : ℕ) (v : List ℕ) → slice_
 step [] b i v s less = none_is_not v s
 step (w ∷ vs) [] i v s less = absurd (omega (arith, less))
 step (w ∷ vs) (x ∷ b) zero v s less =
-    ap (λ (z : List ℕ). record { name = z; instance = x } ∷ names_down vs b) (some_is w v s)
+    ap (λ (z : List ℕ). record { name = z; instance = x } ∷ names_down vs b) (same_Some w v s)
 step (w ∷ vs) (x ∷ b) (suc i) v s less = step vs b i v s (omega (arith, less))
 
 past : (vs : List (List ℕ)) (b : List ℕ) (i : ℕ) → ◌≡◌ {A = Option (List ℕ)} (slice_get vs i) None

@@ -5,14 +5,15 @@ use Rattle.std.proofs.Common.{[], ◌∷◌, map, fold, slice_get, Option, Some,
 use Rattle.std.proofs.Common.{arith, zero, inl, inr, subst}
 use Rattle.std.specs.Bool.{⊤}
 use Rattle.std.specs.List.{list_any}
-use Rattle.std.proofs.lemmas.Bool.{cases_Bool, eq-eqb, eqb-true, ltb-true, false≢true}
+use Rattle.std.proofs.lemmas.Bool.{cases_Bool, eq-eqb, eqb-true, ltb-true, false≢true, or_right}
 use Rattle.std.proofs.lemmas.Grind.{common_steps}
+use Rattle.std.proofs.lemmas.Option.{same_Some}
 use Rattle.ev_join.specs.Tables.{RisesFrom}
 use Rattle.ev_tree.specs.declared.tree.Part.{Part}
 use Rattle.ev_events.specs.Names.{iterator_of}
 use Rattle.ev_events.specs.Slots.{column_of, with_column, with_column_if, columns_of}
 use Rattle.ev_events.specs.declared.slots.Column.{Column}
-use Rattle.ev_events.proofs.Places.{some_is, none_is_not}
+use Rattle.ev_events.proofs.Places.{none_is_not}
 
 abbrev pub number_in : Column → ℕ
 number_in c = c.number
@@ -25,7 +26,7 @@ Each P (c ∷ cs) = P c × Each P cs
 pub each_at : (P : Column → Type 0) (cs : List Column) (i : ℕ) (c : Column)
     → slice_get cs i ≡ Some c → Each P cs → P c
 each_at P [] i c s h = none_is_not c s
-each_at P (d ∷ cs) zero c s h = subst P (some_is d c s) h.0
+each_at P (d ∷ cs) zero c s h = subst P (same_Some d c s) h.0
 each_at P (d ∷ cs) (suc i) c s h = each_at P cs i c s h.1
 
 -- ---- one more column
@@ -59,10 +60,6 @@ each_with P (d ∷ ds) c h own = elim (cases_Bool (nat_lt c.number d.number)) [
 abbrev pub has_number : ℕ → List Column → Bool
 has_number n cs = list_any (λ (c : Column). c.number == n) cs
 
-or_true : (a b : Bool) → b ≡ true → (a || b) ≡ true
-or_true true b h = refl
-or_true false b h = h
-
 number_with : (cs : List Column) (c : Column) → has_number c.number (with_column cs c) ≡ true
 number_with [] c = ap (λ (b : Bool). b || false) (eq-eqb c.number c.number refl)
 number_with (d ∷ ds) c = elim (cases_Bool (nat_lt c.number d.number)) [
@@ -75,7 +72,7 @@ number_with (d ∷ ds) c = elim (cases_Bool (nat_lt c.number d.number)) [
         rw (not_so, same) (ap (λ (b : Bool). b || has_number c.number ds) is)
     | inr other ↦
         rw (not_so, other)
-        (or_true (d.number == c.number) _ (number_with ds c))
+        (or_right (d.number == c.number) _ (number_with ds c))
   ]
 ]
 
@@ -83,13 +80,13 @@ number_stays : (n : ℕ) (cs : List Column) (c : Column) → has_number n cs ≡
     → has_number n (with_column cs c) ≡ true
 number_stays n [] c h = absurd (false≢true h)
 number_stays n (d ∷ ds) c h = elim (cases_Bool (nat_lt c.number d.number)) [
-  | inl so ↦ rw so (or_true (c.number == n) _ h)
+  | inl so ↦ rw so (or_right (c.number == n) _ h)
   | inr not_so ↦ elim (cases_Bool (c.number == d.number)) [
     | inl same ↦ rw (not_so, same) h
     | inr other ↦ rw (not_so, other) (elim (cases_Bool (d.number == n)) [
       | inl is ↦ ap (λ (b : Bool). b || has_number n (with_column ds c)) is
       | inr is_not ↦
-          or_true (d.number == n) _ (number_stays n ds c
+          or_right (d.number == n) _ (number_stays n ds c
           (sym (ap (λ (b : Bool). b || has_number n ds) is_not) ∙ h))
     ])
   ]
@@ -165,7 +162,7 @@ module _ (vs : List (List ℕ)) (parts : List Part) where
   number_if cs None v e = none_is_not v e
   number_if cs (Some w) v e =
       subst (λ (u : List ℕ). has_number (column_of vs parts u).number
-      (with_column_if vs parts cs (Some w)) ≡ true) (some_is w v e)
+      (with_column_if vs parts cs (Some w)) ≡ true) (same_Some w v e)
       (number_with cs (column_of vs parts w))
 
   number_all : (ps : List Part) (cs : List Column) (i : ℕ) (p : Part) (v : List ℕ)
@@ -174,7 +171,7 @@ module _ (vs : List (List ℕ)) (parts : List Part) where
   number_all [] cs i p v s e = none_is_not p s
   number_all (q ∷ ps) cs zero p v s e =
       stays_all (column_of vs parts v).number ps (step cs q)
-      (number_if cs (iterator_of q) v (ap iterator_of (some_is q p s) ∙ e))
+      (number_if cs (iterator_of q) v (ap iterator_of (same_Some q p s) ∙ e))
   number_all (q ∷ ps) cs (suc i) p v s e = number_all ps (step cs q) i p v s e
 
   pub columns_have : (i : ℕ) (p : Part) (v : List ℕ) → slice_get parts i ≡ Some p

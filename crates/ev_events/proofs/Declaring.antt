@@ -1,12 +1,11 @@
 -- The nodes and engines of a checked file: what they rest on is there, and what is made of the
 -- names is all of them.
-use Rattle.std.proofs.Common.{◌≡◌, ◌<◌, ◌≤◌, ◌+◌, ◌&&◌, ℕ, zero, suc, Bool, true, false, List, []}
+use Rattle.std.proofs.Common.{◌≡◌, ◌≤◌, ◌+◌, ◌&&◌, ℕ, zero, suc, List, []}
 use Rattle.std.proofs.Common.{◌∷◌}
-use Rattle.std.proofs.Common.{◌++◌, length, map, take, slice_get, Option, Some, None, refl, sym, ap}
+use Rattle.std.proofs.Common.{◌++◌, length, map, take, slice_get, Some, None, refl, sym, ap}
 use Rattle.std.proofs.Common.{◌∙◌, subst, arith, inl, inr, ◌⊎◌}
 use Rattle.std.proofs.lemmas.List.{take_all, take_more, length-take}
-use Rattle.std.proofs.lemmas.Option.{get_or_from_slice_get}
-use Rattle.fm_name.specs.Path.{names_of}
+use Rattle.std.proofs.lemmas.Option.{get_or_from_slice_get, same_Some}
 use Rattle.fm_name.specs.declared.events.EventName.{EventName}
 use Rattle.fm_topo.specs.Topology.{Topology}
 use Rattle.ev_tree.specs.declared.tree.Declared.{Declared}
@@ -16,18 +15,17 @@ use Rattle.ev_check.specs.declared.checked.DeclKind.{DeclKind}
 use Rattle.ev_check.specs.declared.checked.DeclKind.TheVariants as kinds
 use Rattle.ev_check.specs.declared.checked.EventSpec.{EventSpec}
 use Rattle.ev_check.specs.declared.checked.SerdSpec.{SerdSpec}
-use Rattle.ev_graph.specs.Lawful.{is_before_node, is_before_engine}
 use Rattle.ev_graph.specs.Sets.{ascends_by, starts_above}
 use Rattle.ev_graph.specs.declared.nodes.Node.{Node}
 use Rattle.ev_graph.specs.declared.nodes.EngineSpec.{EngineSpec}
-use Rattle.ev_events.proofs.Places.{none_is_not, some_is, there_is, within_is}
-use Rattle.ev_events.specs.Placed.{ArePlaced, IsAmongNames, IsAt, IsPlaced, is_before_name}
+use Rattle.ev_events.proofs.Places.{none_is_not, there_is, within_is}
+use Rattle.ev_events.specs.Placed.{ArePlaced, IsAmongNames, IsAt, is_before_name}
 use Rattle.ev_events.specs.Nodes.{AreEngines, AreEnginesAt, AreEnginesThere, AreNodes, AreNodesAt}
-use Rattle.ev_events.specs.Nodes.{AreNodesThere, ArePlacedEvents, EngineIsThere, HasEngine}
-use Rattle.ev_events.specs.Nodes.{IsEngineFor, IsEngineOf, IsKindAt, IsNodeAt, IsNodeOf}
-use Rattle.ev_events.specs.Nodes.{NodeIsThere, TripIsThere, engine_name, file_engines, node_name}
+use Rattle.ev_events.specs.Nodes.{AreNodesThere, ArePlacedEvents, HasEngine}
+use Rattle.ev_events.specs.Nodes.{IsEngineFor, IsEngineOf, IsNodeAt, IsNodeOf}
+use Rattle.ev_events.specs.Nodes.{engine_name, file_engines, node_name}
 use Rattle.ev_events.specs.Nodes.{spec_engine}
-use Rattle.ev_events.specs.Whole.{IsWholeFile, IsWholeEvent, IsWholeEngine}
+use Rattle.ev_events.specs.Whole.{IsWholeFile}
 use Rattle.ev_events.proofs.Wholeness.{at_map, map_at}
 
 pub map_long : {X Y : Type 0} (f : X → Y) (xs : List X) → length (map f xs) ≡ length xs
@@ -150,7 +148,7 @@ module _ (f : CheckedFile) (topology : Topology) (whole : IsWholeFile f)
         let p = placed.each i number.0 node.name named number.1 in
         let n = nodes_at.each i number.0 node s number.1 in
         let same : n.spec.event ≡ p.declared =
-        some_is n.spec.event p.declared
+        same_Some n.spec.event p.declared
         (sym (at_map spec_event f.events number.0 n.spec n.declared) ∙ p.stands) in
         record {
           number = number.0;
@@ -172,7 +170,7 @@ module _ (f : CheckedFile) (topology : Topology) (whole : IsWholeFile f)
         let p = others.each i number.0 engine.name named number.1 in
         let n = engines_at.each i number.0 engine s number.1 in
         let same : n.spec.engine ≡ p.declared =
-        some_is n.spec.engine p.declared
+        same_Some n.spec.engine p.declared
         (sym (at_map spec_engine f.engines number.0 n.spec n.declared) ∙ p.stands) in
         record {
           number = number.0;
@@ -229,7 +227,7 @@ module _ (f : CheckedFile) (topology : Topology) (whole : IsWholeFile f)
 -- ---- one more
 push_at : {X : Type 0} (xs : List X) (x y : X) (j : ℕ) → slice_get (xs ++ x ∷ []) j ≡ Some y
     → ((slice_get xs j ≡ Some y) ⊎ ((j ≡ length xs) × (x ≡ y)))
-push_at [] x y zero h = inr (refl, some_is x y h)
+push_at [] x y zero h = inr (refl, same_Some x y h)
 push_at [] x y (suc j) h = none_is_not y h
 push_at (z ∷ xs) x y zero h = inl h
 push_at (z ∷ xs) x y (suc j) h = elim (push_at xs x y j h) [
@@ -274,7 +272,7 @@ nodes_more f engines names numbers i k name ns new node before stands number nam
       each = λ j m y s t. elim (push_at ns node y j s) [
         | inl own ↦ before.each j m y own t
         | inr last ↦
-            let same : k ≡ m = some_is k m
+            let same : k ≡ m = same_Some k m
             (sym number ∙ ap (slice_get numbers) (sym (last.0 ∙ long)) ∙ t) in
             subst (λ (n : ℕ). IsNodeAt f engines n y) same
             (subst (IsNodeAt f engines k) last.1 is)
@@ -293,7 +291,7 @@ engines_more f names engines numbers i k name es new engine before stands number
       each = λ j m y s t. elim (push_at es engine y j s) [
         | inl own ↦ before.each j m y own t
         | inr last ↦
-            let same : k ≡ m = some_is k m
+            let same : k ≡ m = same_Some k m
             (sym number ∙ ap (slice_get numbers) (sym (last.0 ∙ long)) ∙ t) in
             subst (λ (n : ℕ). IsEngineFor f names n y) same
             (subst (IsEngineFor f names k) last.1 is)

@@ -5,8 +5,9 @@ use Rattle.std.proofs.Common.{arith, inl, inr, append_assoc, map, take, get_or}
 use Rattle.std.specs.List.{sum_by}
 use Rattle.std.proofs.lemmas.Bool.{cases_Bool}
 use Rattle.std.proofs.lemmas.List.Sums.{sum_by-cons}
-use Rattle.std.proofs.lemmas.Option.{slice_get-get_or}
+use Rattle.std.proofs.lemmas.Option.{slice_get-get_or, same_Some}
 use Rattle.std.proofs.Math.Seq.{take-suc}
+use Rattle.std.proofs.lemmas.List.{nil_from_length}
 use Rattle.fm_topo.specs.Topology.{Topology}
 use Rattle.ev_tree.specs.Pattern.{Pattern, view_pattern}
 use Rattle.ev_tree.specs.declared.tree.SidePattern.{SidePattern}
@@ -23,7 +24,7 @@ use Rattle.ev_events.specs.Fits.{fitting}
 use Rattle.ev_events.specs.Bindings.{IsBinding, AreBindings, AreAllBindings, candidate_links}
 use Rattle.ev_events.specs.Bindings.{patterns_of}
 use Rattle.ev_events.specs.Sheets.{IsTableOf, AreTablesOf}
-use Rattle.ev_events.proofs.Places.{some_is, none_is_not}
+use Rattle.ev_events.proofs.Places.{none_is_not}
 
 -- one table more
 pub tables_more : (topology : Topology) (vs : List (List ℕ)) (qs : List Pattern)
@@ -43,7 +44,7 @@ map_push f (y ∷ xs) x = ap (λ (zs : List _). f y ∷ zs) (map_push f xs x)
 pub map_there : {X Y : Type 0} (f : X → Y) (xs : List X) (j : ℕ) (x : X) → slice_get xs j ≡ Some x
     → slice_get (map f xs) j ≡ Some (f x)
 map_there f [] j x at = none_is_not x at
-map_there f (y ∷ xs) zero x at = ap (λ z. Some (f z)) (some_is y x at)
+map_there f (y ∷ xs) zero x at = ap (λ z. Some (f z)) (same_Some y x at)
 map_there f (y ∷ xs) (suc j) x at = map_there f xs j x at
 
 -- the pattern at a place
@@ -92,7 +93,7 @@ module _ (topology : Topology) (vs : List (List ℕ)) where
   table_at [] ts j q h at = none_is_not q at
   table_at (p ∷ qs) [] j q h at = absurd h
   table_at (p ∷ qs) (t ∷ ts) zero q h at =
-      (t, refl, subst (λ (r : Pattern). IsTableOf topology vs r.parts t) (some_is p q at) h.0)
+      (t, refl, subst (λ (r : Pattern). IsTableOf topology vs r.parts t) (same_Some p q at) h.0)
   table_at (p ∷ qs) (t ∷ ts) (suc j) q h at = table_at qs ts j q h.1 at
 
   pub pattern_at : (qs : List Pattern) (ts : List TableValue) (j : ℕ) (t : TableValue)
@@ -102,7 +103,7 @@ module _ (topology : Topology) (vs : List (List ℕ)) where
   pattern_at [] (u ∷ ts) j t h at = absurd h
   pattern_at (p ∷ qs) [] j t h at = absurd h
   pattern_at (p ∷ qs) (u ∷ ts) zero t h at =
-      (p, refl, subst (IsTableOf topology vs p.parts) (some_is u t at) h.0)
+      (p, refl, subst (IsTableOf topology vs p.parts) (same_Some u t at) h.0)
   pattern_at (p ∷ qs) (u ∷ ts) (suc j) t h at = pattern_at qs ts j t h.1 at
 
   pub links_same : (qs : List Pattern) (ts : List TableValue) (b : List ℕ)
@@ -135,7 +136,7 @@ rows_there t b row =
       only : (j : ℕ) (u : TableValue) → slice_get (t ∷ []) j ≡ Some u
           → HasRow u.rows (bound_values u.columns b)
       only zero u at =
-          subst (λ (v : TableValue). HasRow v.rows (bound_values v.columns b)) (some_is t u at) row
+          subst (λ (v : TableValue). HasRow v.rows (bound_values v.columns b)) (same_Some t u at) row
       only (suc j) u at = none_is_not u at
 
 pub sums_same : (f g : List ℕ → ℕ) (bs : List (List ℕ))
@@ -211,10 +212,6 @@ tables_many topology vs [] (t ∷ ts) h = absurd h
 tables_many topology vs (q ∷ qs) [] h = absurd h
 tables_many topology vs (q ∷ qs) (t ∷ ts) h = ap suc (tables_many topology vs qs ts h.1)
 
-empty_is : (b : List ℕ) → length b ≡ 0 → b ≡ []
-empty_is [] h = refl
-empty_is (x ∷ b) h = absurd (omega (arith, h))
-
 pub whole_binding : (topology : Topology) (l : Linking) → patterns_of l ≡ []
     → AreAllBindings topology l ([] ∷ [])
 whole_binding topology l none =
@@ -231,12 +228,12 @@ whole_binding topology l none =
       };
       all = λ b h. record {
         place = 0;
-        stands = ap Some (sym (empty_is b (h.full ∙ ap length names)));
+        stands = ap Some (sym (nil_from_length b (h.full ∙ ap length names)));
       };
     } where
       only_one : IsBinding topology l [] → (i : ℕ) (b : List ℕ)
           → slice_get ([] ∷ []) i ≡ Some b → IsBinding topology l b
-      only_one h zero b at = subst (IsBinding topology l) (some_is [] b at) h
+      only_one h zero b at = subst (IsBinding topology l) (same_Some [] b at) h
       only_one h (suc i) b at = none_is_not b at
 
       two_none : (i j : ℕ) (a b : List ℕ) → i < j → slice_get ([] ∷ []) i ≡ Some a

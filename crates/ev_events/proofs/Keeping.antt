@@ -1,25 +1,25 @@
 -- What is kept for a name is the number of a declared event or engine at a path with its names.
-use Rattle.std.proofs.Common.{◌≡◌, ◌<◌, ◌≤◌, ◌+◌, ◌&&◌, ◌||◌, ℕ, suc, zero, Bool, true, false, cond}
-use Rattle.std.proofs.Common.{List, [], ◌∷◌, length, map, take, zip, slice_get, get_or, codes, Bor}
+use Rattle.std.proofs.Common.{◌≡◌, ◌<◌, ◌≤◌, ◌+◌, ◌&&◌, ◌||◌, ℕ, suc, zero, Bool, true, false}
+use Rattle.std.proofs.Common.{List, [], ◌∷◌, length, map, take, zip, slice_get, get_or, Bor}
 use Rattle.std.proofs.Common.{nat_lt}
 use Rattle.std.proofs.Common.{Option, Some, None, refl, sym, ap, ◌∙◌, subst, arith, inl, inr}
 use Rattle.std.proofs.Common.{if◌then◌else◌, bytes_eq}
 use Rattle.std.specs.BTreeMap.{is_at, BTreeMap, IsOrdered}
-use Rattle.std.specs.Cmp.{eq_by_cmp_equiv, tied_itself}
+use Rattle.std.specs.Cmp.{tied_itself}
 use Rattle.std.specs.Cmp.Lexicographic.{pointwise}
-use Rattle.std.specs.List.{list_all, list_any, join_by}
+use Rattle.std.specs.List.{list_all, list_any}
 use Rattle.std.specs.List.Sorted.{IsStrictlySortedBy}
-use Rattle.std.specs.Map.{keys_of, values_of, lookup}
+use Rattle.std.specs.Map.{keys_of, values_of}
 use Rattle.std.specs.Ordering.{is_eq, is_lt}
 use Rattle.std.specs.declared.cmp.Ordering.{Ordering}
 use Rattle.std.specs.declared.cmp.Ordering.TheVariants.{Less, Equal, Greater}
-use Rattle.std.proofs.lemmas.Bool.{cases_Bool, false≢true, and_from}
+use Rattle.std.proofs.lemmas.Bool.{cases_Bool, false≢true, and_from, or_right}
 use Rattle.std.proofs.lemmas.Bool.Decides.{nat_tests}
 use Rattle.ev_events.proofs.Wholeness.{map_at, at_map}
-use Rattle.std.proofs.lemmas.List.Folds.{list_any_more, list_any_at}
+use Rattle.std.proofs.lemmas.List.Folds.{list_any_more}
 use Rattle.std.proofs.lemmas.Map.Entries.{place_from_lookup, btree_map_get_place}
 use Rattle.std.proofs.lemmas.Map.Entries.{length-keys_of, length-values_of}
-use Rattle.std.proofs.lemmas.Option.{slice_get_within, get_or_from_slice_get}
+use Rattle.std.proofs.lemmas.Option.{same_Some}
 use Rattle.std.proofs.lemmas.Slice.Eq.{bytes_eq-Decides}
 use Rattle.fm_name.specs.Path.{names_of}
 use Rattle.fm_name.specs.Events.{event_cmp, event_cmp_total, event_tie}
@@ -28,12 +28,11 @@ use Rattle.fm_topo.specs.Topology.{Topology}
 use Rattle.fm_topo.specs.Groups.{names_text, places_of, group_of}
 use Rattle.ev_tree.specs.declared.tree.Declared.{Declared}
 use Rattle.ev_graph.specs.Sets.{ascends_by}
-use Rattle.ev_graph.proofs.Ascending.{ascends_passes}
 use Rattle.ev_words.specs.Iterators.{same_name}
-use Rattle.ev_events.proofs.Places.{some_is, none_is_not, any_found, within_is}
+use Rattle.ev_events.proofs.Places.{none_is_not, any_found, within_is}
 use Rattle.ev_events.proofs.Agreeing.{same_from}
 use Rattle.ev_events.proofs.Grouped.{names_all, text_of_names}
-use Rattle.ev_events.specs.Placed.{AreKept, AreMore, ArePlaced, IsAmongNames, IsAt, IsPlaced}
+use Rattle.ev_events.specs.Placed.{AreKept, AreMore, ArePlaced, IsAt, IsPlaced}
 use Rattle.ev_events.specs.Placed.{event_at, is_before_name, is_name_at, is_that_name, names_joined}
 use Rattle.ev_events.specs.Placed.{number_of_name}
 
@@ -125,7 +124,7 @@ in_places test text [] at i path s t h = none_is_not path s
 in_places test text (place ∷ more) at zero path s t h =
     let here : bytes_eq (names_text place.0) text ≡ true =
     (bytes_eq-Decides (names_text place.0) text).1
-    (ap names_text (some_is place.0 path s) ∙ t) in
+    (ap names_text (same_Some place.0 path s) ∙ t) in
     let same : at + 0 ≡ at = omega arith in
     rw here (ap (λ (b : Bool).
     b || list_any test (places_of text (suc at) (map (λ p. names_text p.0) more)))
@@ -134,12 +133,9 @@ in_places test text (place ∷ more) at (suc i) path s t h =
     let same : at + suc i ≡ suc at + i = omega arith in
     let later = in_places test text more (suc at) i path s t (ap test (sym same) ∙ h) in
     elim (cases_Bool (bytes_eq (names_text place.0) text)) [
-      | inl so ↦ rw so (or_true (test at) _ later)
+      | inl so ↦ rw so (or_right (test at) _ later)
       | inr not_so ↦ rw not_so later
-    ] where
-      or_true : (a b : Bool) → b ≡ true → (a || b) ≡ true
-      or_true true b e = refl
-      or_true false b e = e
+    ]
 
 pub at_is_name : (topology : Topology) (d : Declared) (q : EventName) → IsAt topology d q
     → is_name_at topology d (group_of (names_joined d.names) topology) q ≡ true
@@ -172,7 +168,7 @@ entry_at : (es : List (EventName × ℕ)) (i k : ℕ) (name : EventName)
     → slice_get es i ≡ Some (name, k)
 entry_at [] i k name s t = none_is_not name s
 entry_at (e ∷ es) zero k name s t =
-    let a = some_is e.0 name s in let b = some_is e.1 k t in λ i. Some (a i, b i)
+    let a = same_Some e.0 name s in let b = same_Some e.1 k t in λ i. Some (a i, b i)
 entry_at (e ∷ es) (suc i) k name s t = entry_at es i k name s t
 
 key_at : (es : List (EventName × ℕ)) (i : ℕ) (e : EventName × ℕ) → slice_get es i ≡ Some e
@@ -199,7 +195,7 @@ module _ (topology : Topology) (ds : List Declared) where
       record {
         each = λ name k h. elim (cases_Bool (here name)) [
           | inl so ↦
-              let is : i ≡ k = some_is i k (sym (step name ∙ rw so refl) ∙ h) in
+              let is : i ≡ k = same_Some i k (sym (step name ∙ rw so refl) ∙ h) in
               let placed : IsPlaced topology ds i name = record {
                 declared = d;
                 stands = stands;
@@ -217,7 +213,7 @@ module _ (topology : Topology) (ds : List Declared) where
             | inr late ↦
                 let last : k ≡ i = grind (arith, nat_tests) in
                 let same : h.declared ≡ d =
-                some_is h.declared d
+                same_Some h.declared d
                 (sym h.stands ∙ ap (slice_get ds) last ∙ stands) in
                 let at = subst (λ (x : Declared). IsAt topology x name) same h.at in
                 absurd (false≢true (sym not_so ∙ at_is_name topology d name at))

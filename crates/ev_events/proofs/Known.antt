@@ -2,28 +2,21 @@
 use Rattle.std.proofs.Common.{◌≡◌, ◌||◌, ℕ, suc, zero, Bool, true, false, List, [], ◌∷◌}
 use Rattle.std.proofs.Common.{Option, Some, None, slice_get, refl, sym, ap, ◌∙◌, subst, inl, inr}
 use Rattle.std.specs.List.{list_any}
-use Rattle.std.proofs.lemmas.Bool.{cases_Bool, false≢true}
+use Rattle.std.proofs.lemmas.Bool.{cases_Bool, or_left, or_right}
 use Rattle.std.proofs.lemmas.List.Folds.{list_any-append}
+use Rattle.std.proofs.lemmas.Option.{same_Some}
 use Rattle.ev_tree.specs.Pattern.{Pattern}
 use Rattle.ev_tree.specs.declared.tree.Part.{Part}
 use Rattle.ev_check.specs.CheckedFile.{Linking}
 use Rattle.ev_words.specs.Iterators.{same_name}
 use Rattle.ev_events.specs.Names.{iterator_of, with_name, with_any, with_parts, with_patterns}
 use Rattle.ev_events.specs.Names.{iterators, Knows, KnowSides}
-use Rattle.ev_events.proofs.Places.{some_is, none_is_not}
+use Rattle.ev_events.proofs.Places.{none_is_not}
 use Rattle.ev_events.proofs.Agreeing.{same_from}
 
 pub or_false : (a : Bool) → (a || false) ≡ a
 or_false true = refl
 or_false false = refl
-
-pub or_first : (a b : Bool) → a ≡ true → (a || b) ≡ true
-or_first true b h = refl
-or_first false b h = absurd (false≢true h)
-
-pub or_second : (a b : Bool) → b ≡ true → (a || b) ≡ true
-or_second true b h = refl
-or_second false b h = h
 
 module _ (v : List ℕ) where
   abbrev knows : List (List ℕ) → Bool
@@ -34,7 +27,7 @@ module _ (v : List ℕ) where
   stays_name names w h = elim (cases_Bool (list_any (same_name w) names)) [
     | inl so ↦ rw so h
     | inr not_so ↦
-        rw not_so (list_any-append (same_name v) names (w ∷ []) ∙ or_first (knows names) _ h)
+        rw not_so (list_any-append (same_name v) names (w ∷ []) ∙ or_left (knows names) _ h)
   ]
 
   has_name : (names : List (List ℕ)) → knows (with_name names v) ≡ true
@@ -42,7 +35,7 @@ module _ (v : List ℕ) where
     | inl so ↦ rw so so
     | inr not_so ↦
         rw not_so (list_any-append (same_name v) names (v ∷ [])
-        ∙ or_second (knows names) _ (or_first (same_name v v) false (same_from v v refl)))
+        ∙ or_right (knows names) _ (or_left (same_name v v) false (same_from v v refl)))
   ]
 
   stays_any : (names : List (List ℕ)) (o : Option (List ℕ)) → knows names ≡ true
@@ -54,7 +47,7 @@ module _ (v : List ℕ) where
       → knows (with_any names o) ≡ true
   has_any names None e = none_is_not v e
   has_any names (Some w) e =
-      subst (λ (u : List ℕ). knows (with_name names u) ≡ true) (sym (some_is w v e))
+      subst (λ (u : List ℕ). knows (with_name names u) ≡ true) (sym (same_Some w v e))
       (has_name names)
 
   stays_parts : (ps : List Part) (names : List (List ℕ)) → knows names ≡ true
@@ -68,7 +61,7 @@ module _ (v : List ℕ) where
   has_parts [] names i p s e = none_is_not p s
   has_parts (q ∷ ps) names zero p s e =
       stays_parts ps (with_any names (iterator_of q))
-      (has_any names (iterator_of q) (ap iterator_of (some_is q p s) ∙ e))
+      (has_any names (iterator_of q) (ap iterator_of (same_Some q p s) ∙ e))
   has_parts (q ∷ ps) names (suc i) p s e = has_parts ps (with_any names (iterator_of q)) i p s e
 
   stays_patterns : (qs : List Pattern) (names : List (List ℕ)) → knows names ≡ true
@@ -84,7 +77,7 @@ module _ (v : List ℕ) where
   has_patterns (r ∷ qs) names zero q at i p s e =
       stays_patterns qs (with_parts names r.parts)
       (has_parts r.parts names i p
-      (ap (λ (x : Pattern). slice_get x.parts i) (some_is r q at) ∙ s) e)
+      (ap (λ (x : Pattern). slice_get x.parts i) (same_Some r q at) ∙ s) e)
   has_patterns (r ∷ qs) names (suc j) q at i p s e =
       has_patterns qs (with_parts names r.parts) j q at i p s e
 

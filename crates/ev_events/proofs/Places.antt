@@ -4,11 +4,9 @@ use Rattle.std.proofs.Common.{List, [], ◌∷◌, length, map, zip, slice_get, 
 use Rattle.std.proofs.Common.{Option, Some, None, refl, sym, ap, ◌∙◌, subst, arith, inl, inr}
 use Rattle.std.specs.List.{list_all, list_any, position_or_len}
 use Rattle.std.proofs.lemmas.Bool.{false≢true, eqb-true, eq-eqb, lt-ltb, cases_Bool}
+use Rattle.std.proofs.lemmas.Option.{same_Some}
 use Rattle.fm_bytes.proofs.Booleans.{and_parts, and_true}
 use Rattle.ev_events.specs.Fits.{is_that}
-
-pub some_is : {X : Type 0} (x y : X) → Some x ≡ Some y → x ≡ y
-some_is x y h = cc
 
 pub none_is_not : {X : Type 0} {T : Type 0} (x : X) → ◌≡◌ {A = Option X} None (Some x) → T
 none_is_not x h = absurd (let bad : ⊥ = cc in bad)
@@ -25,7 +23,7 @@ that_is (Some y) x h = ap Some (eqb-true y x h)
 
 pub is_that_from : (o : Option ℕ) (x : ℕ) → o ≡ Some x → is_that o x ≡ true
 is_that_from None x h = none_is_not x h
-is_that_from (Some y) x h = eq-eqb y x (some_is y x h)
+is_that_from (Some y) x h = eq-eqb y x (same_Some y x h)
 
 -- ---- places within a list
 pub there_is : {X : Type 0} (xs : List X) (i : ℕ) → i < length xs
@@ -41,7 +39,7 @@ within_is (y ∷ xs) (suc i) x h = let less = within_is xs i x h in omega (arith
 
 pub index_is : (xs : List ℕ) (i x : ℕ) → slice_get xs i ≡ Some x → slice_index xs i ≡ x
 index_is [] i x h = none_is_not x h
-index_is (y ∷ xs) zero x h = some_is y x h
+index_is (y ∷ xs) zero x h = same_Some y x h
 index_is (y ∷ xs) (suc i) x h = index_is xs i x h
 
 pub get_is : (xs : List ℕ) (i x : ℕ) → i < length xs → slice_index xs i ≡ x
@@ -53,7 +51,7 @@ get_is xs i x less h =
 pub get_map : {X Y : Type 0} (f : X → Y) (xs : List X) (i : ℕ) (y : Y)
     → slice_get (map f xs) i ≡ Some y → (x : X) × (slice_get xs i ≡ Some x) × (f x ≡ y)
 get_map f [] i y h = none_is_not y h
-get_map f (x ∷ xs) zero y h = (x, refl, some_is (f x) y h)
+get_map f (x ∷ xs) zero y h = (x, refl, same_Some (f x) y h)
 get_map f (x ∷ xs) (suc i) y h = get_map f xs i y h
 
 -- ---- tests of pairs
@@ -64,8 +62,8 @@ pairs_at f [] ys i x y h s t = none_is_not x s
 pairs_at f (a ∷ xs) [] i x y h s t = none_is_not y t
 pairs_at {X = X} {Y = Y} f (a ∷ xs) (b ∷ ys) zero x y h s t =
     let one = and_parts (f (a, b)) _ h in
-    let left = some_is a x s in
-    let right = some_is b y t in
+    let left = same_Some a x s in
+    let right = same_Some b y t in
     subst (λ (p : X × Y). f p ≡ true) (λ i. (left i, right i)) one.0
 pairs_at f (a ∷ xs) (b ∷ ys) (suc i) x y h s t =
     pairs_at f xs ys i x y (and_parts (f (a, b)) _ h).1 s t
@@ -88,7 +86,7 @@ first_within : {X : Type 0} (test : X → Bool) (xs : List X) (i : ℕ) (x : X)
     → slice_get xs i ≡ Some x → test x ≡ true → position_or_len test xs < length xs
 first_within test [] i x s t = none_is_not x s
 first_within test (y ∷ xs) zero x s t =
-    let e = first_is test y xs true (ap test (some_is y x s) ∙ t) in omega (arith, e)
+    let e = first_is test y xs true (ap test (same_Some y x s) ∙ t) in omega (arith, e)
 first_within test (y ∷ xs) (suc i) x s t = elim (cases_Bool (test y)) [
   | inl so ↦ let e = first_is test y xs true so in omega (arith, e)
   | inr not_so ↦

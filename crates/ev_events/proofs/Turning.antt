@@ -1,16 +1,16 @@
 -- The candidates over the names in another order, with their instances back in the order of the
 -- names, are the candidates.
-use Rattle.std.proofs.Common.{◌≡◌, ◌<◌, ◌+◌, ◌||◌, ◌&&◌, ℕ, suc, zero, Bool, true, false, not, cond}
+use Rattle.std.proofs.Common.{◌≡◌, ◌<◌, ◌+◌, ◌||◌, ◌&&◌, ℕ, suc, zero, Bool, true, false, cond}
 use Rattle.std.proofs.Common.{List, [], ◌∷◌, ◌++◌, length, map, slice_get, slice_index, position}
 use Rattle.std.proofs.Common.{Option, Some, None, option_and_then, unwrap_or}
 use Rattle.std.proofs.Common.{refl, sym, ap, ◌∙◌, subst, arith, inl, inr, ltb, zip}
-use Rattle.std.proofs.Common.{if◌then◌else◌}
 use Rattle.std.specs.List.{list_any, list_all, position_or_len, sum_by}
-use Rattle.std.proofs.lemmas.Bool.{cases_Bool, false≢true}
+use Rattle.std.proofs.lemmas.Bool.{cases_Bool, false≢true, or_left, or_right}
 use Rattle.std.proofs.lemmas.List.{length-map}
 use Rattle.std.proofs.lemmas.List.Folds.{list_any-append}
 use Rattle.std.proofs.lemmas.List.Sums.{sum_by-cons}
 use Rattle.std.proofs.lemmas.List.Sorted.{sum_by-IsPermutation}
+use Rattle.std.proofs.lemmas.Option.{same_Some}
 use Rattle.fm_name.specs.Path.{instances_of}
 use Rattle.fm_topo.specs.Topology.{Topology}
 use Rattle.ev_tree.specs.Pattern.{Pattern}
@@ -20,14 +20,14 @@ use Rattle.ev_tree.specs.declared.tree.Part.{Part}
 use Rattle.ev_check.specs.CheckedFile.{Linking}
 use Rattle.ev_words.specs.Iterators.{same_name}
 use Rattle.ev_join.specs.Order.{AreSmall, IsNotBefore}
-use Rattle.ev_join.specs.Tables.{TableValue, rows_at}
-use Rattle.ev_join.specs.Candidates.{IsCandidate, AreCandidates, AreAllCandidates, IsAmong}
+use Rattle.ev_join.specs.Tables.{TableValue}
+use Rattle.ev_join.specs.Candidates.{IsCandidate, AreCandidates, AreAllCandidates}
 use Rattle.ev_join.specs.Candidates.{AreInOrder, links_at}
 use Rattle.ev_join.proofs.Ordered.{among_before, among_ordered, ascend_apart, some_order}
 use Rattle.ev_join.proofs.Ordering.{not_before_itself}
 use Rattle.ev_events.specs.Names.{iterator_of, with_any, with_name, with_parts, with_patterns}
 use Rattle.ev_events.specs.Names.{iterators}
-use Rattle.ev_events.specs.Fits.{is_that, instance_bound, fits_at, fits_part, fits, fitting, has_names}
+use Rattle.ev_events.specs.Fits.{is_that, instance_bound, fits_at, fits, fitting, has_names}
 use Rattle.ev_events.specs.Fits.{places_with}
 use Rattle.ev_events.specs.Bindings.{IsBinding, AreBindings, AreAllBindings, candidate_links}
 use Rattle.ev_events.specs.Bindings.{patterns_of}
@@ -37,9 +37,9 @@ use Rattle.ev_events.specs.Turned.{instances_at, places_among, turned_names, wit
 use Rattle.ev_events.proofs.Agreeing.{names_same, same_from}
 use Rattle.ev_events.proofs.Joining.{links_same, map_there, pattern_at, row_there, rows_there}
 use Rattle.ev_events.proofs.Joining.{sums_same, table_at}
-use Rattle.ev_events.proofs.Known.{or_false, or_first, or_second}
+use Rattle.ev_events.proofs.Known.{or_false}
 use Rattle.ev_events.proofs.Places.{FirstAt, any_found, first_found, first_is, get_is, get_map}
-use Rattle.ev_events.proofs.Places.{index_is, none_is_not, some_is, there_is, within_is}
+use Rattle.ev_events.proofs.Places.{index_is, none_is_not, there_is, within_is}
 
 -- ---- the same names, each once
 -- no name stands at two places
@@ -49,8 +49,8 @@ AreApart vs = (i j : ℕ) (v : List ℕ) → slice_get vs i ≡ Some v → slice
 there_any : (vs : List (List ℕ)) (i : ℕ) (v : List ℕ) → slice_get vs i ≡ Some v
     → list_any (same_name v) vs ≡ true
 there_any [] i v at = none_is_not v at
-there_any (w ∷ vs) zero v at = or_first (same_name v w) _ (same_from v w (sym (some_is w v at)))
-there_any (w ∷ vs) (suc i) v at = or_second (same_name v w) _ (there_any vs i v at)
+there_any (w ∷ vs) zero v at = or_left (same_name v w) _ (same_from v w (sym (same_Some w v at)))
+there_any (w ∷ vs) (suc i) v at = or_right (same_name v w) _ (there_any vs i v at)
 
 -- a name that is behind others is one of them or the last
 data IsEither (vs : List (List ℕ)) (w : List ℕ) (i : ℕ) (v : List ℕ) : Type 0 where
@@ -59,7 +59,7 @@ data IsEither (vs : List (List ℕ)) (w : List ℕ) (i : ℕ) (v : List ℕ) : T
 
 either : (vs : List (List ℕ)) (w : List ℕ) (i : ℕ) (v : List ℕ)
     → slice_get (vs ++ w ∷ []) i ≡ Some v → IsEither vs w i v
-either [] w zero v at = Last refl (some_is w v at)
+either [] w zero v at = Last refl (same_Some w v at)
 either [] w (suc i) v at = none_is_not v at
 either (u ∷ vs) w zero v at = Among at
 either (u ∷ vs) w (suc i) v at = deeper (either vs w i v at) where
@@ -142,7 +142,7 @@ module _ (v : List ℕ) where
       | inl same ↦
           let here : has vs ≡ true =
           ap (λ (u : List ℕ). list_any (same_name u) vs) (names_same v w same) ∙ so in
-          or_first (has vs) _ here ∙ sym here
+          or_left (has vs) _ here ∙ sym here
       | inr other ↦ ap (λ (b : Bool). has vs || b) other ∙ or_false (has vs)
     ]
 
@@ -180,7 +180,7 @@ module _ (v : List ℕ) where
     same : (has (with_numbered [] vs ns) || has vs) ≡ has vs
     same = elim (cases_Bool (has (with_numbered [] vs ns))) [
       | inl so ↦
-          or_first (has (with_numbered [] vs ns)) _ so
+          or_left (has (with_numbered [] vs ns)) _ so
           ∙ sym (only_numbered ns [] vs (λ no. absurd (false≢true no)) so)
       | inr not_so ↦ ap (λ (b : Bool). b || has vs) not_so
     ]
@@ -195,7 +195,7 @@ none_first : {X : Type 0} (test : X → Bool) (xs : List X) → list_any test xs
 none_first test [] h = refl
 none_first test (x ∷ xs) h = elim (cases_Bool (test x)) [
   | inl so ↦
-      absurd (false≢true (sym h ∙ or_first (test x) (list_any test xs) so))
+      absurd (false≢true (sym h ∙ or_left (test x) (list_any test xs) so))
   | inr not_so ↦
       let first = first_is test x xs false not_so in
       let more = none_first test xs (sym (ap (λ (b : Bool). b || list_any test xs) not_so) ∙ h) in
@@ -264,7 +264,7 @@ module _ (vs ws : List (List ℕ))
     same_lists [] (y ∷ ys) long h = absurd (omega (arith, long))
     same_lists (x ∷ xs) [] long h = absurd (omega (arith, long))
     same_lists (x ∷ xs) (y ∷ ys) long h =
-        λ i. some_is x y (h 0 y refl) i
+        λ i. same_Some x y (h 0 y refl) i
         ∷ same_lists xs ys (omega (arith, long)) (λ j z at. h (suc j) z at) i
 
     at_each : (i x : ℕ) → slice_get c i ≡ Some x

@@ -1,12 +1,12 @@
 -- A checked file keeps what the nodes and engines of its graph rest on.
-use Rattle.std.proofs.Common.{◌≡◌, ℕ, zero, suc, ◌<◌, ◌≤◌, ◌^◌, Bool, true, false, not, ◌&&◌, ◌||◌}
+use Rattle.std.proofs.Common.{◌≡◌, ℕ, zero, suc, ◌<◌, ◌≤◌, ◌^◌, Bool, true, false, not, ◌||◌}
 use Rattle.std.proofs.Common.{List, [], ◌∷◌, map, filter_map, length, Option, Some, None}
-use Rattle.std.proofs.Common.{slice_get, take, if◌then◌else◌, refl, sym, ap, ◌∙◌, subst, arith}
+use Rattle.std.proofs.Common.{slice_get, if◌then◌else◌, refl, sym, ap, ◌∙◌, subst, arith}
 use Rattle.std.proofs.Common.{position, is_some, inl, inr, min, unwrap_or, nat_le, nat_lt}
 use Rattle.std.specs.List.{list_any, cons_option, position_or_len}
-use Rattle.std.specs.Cmp.Lexicographic.{pointwise}
-use Rattle.std.proofs.lemmas.Bool.{false≢true, cases_Bool, and_parts, le-leb, lt-ltb}
+use Rattle.std.proofs.lemmas.Bool.{false≢true, cases_Bool, and_parts, le-leb, lt-ltb, or_parts}
 use Rattle.std.proofs.lemmas.Bool.Decides.{nat_tests}
+use Rattle.std.proofs.lemmas.Option.{same_Some}
 use Rattle.fm_name.specs.Category.{category_of}
 use Rattle.fm_name.specs.declared.classes.Category.{Category}
 use Rattle.fm_name.specs.declared.classes.Category.TheVariants as categories
@@ -21,24 +21,23 @@ use Rattle.ev_tree.specs.declared.tree.Statement.{Statement}
 use Rattle.ev_tree.specs.declared.tree.Statement.TheVariants as statements
 use Rattle.ev_ways.specs.Ways.{Reaches, Way}
 use Rattle.ev_words.specs.declared.kinds.CheckKind.TheVariants.{BadKind, Twice, Missing, BadCount}
-use Rattle.ev_words.specs.declared.kinds.CheckKind.TheVariants.{BadTime, FreeIterator}
+use Rattle.ev_words.specs.declared.kinds.CheckKind.TheVariants.{BadTime}
 use Rattle.ev_words.specs.Attributes.{engine_value, fit_value, n_value, t_value, trip_value}
 use Rattle.ev_words.specs.Attributes.{within_value, is_from, is_odd_number, is_odd_size}
 use Rattle.ev_words.specs.Attributes.{is_odd_time, is_odd_trip, is_misplaced, lacks, nanoseconds}
 use Rattle.ev_words.specs.Categories.{is_event, is_report, is_serd, is_upset}
 use Rattle.ev_words.specs.Iterators.{same_name}
 use Rattle.ev_words.specs.Words.{has_bad_count, has_bad_kind, has_bad_time, has_twice, word_of}
-use Rattle.ev_words.specs.Words.{has_free_iterator, is_missing, is_odd_count}
+use Rattle.ev_words.specs.Words.{is_missing, is_odd_count}
 use Rattle.ev_check.specs.CheckedFile.{CheckedFile, Linking, event_spec, kind_of, linking}
 use Rattle.ev_check.specs.CheckedFile.{serd_spec}
 use Rattle.ev_check.specs.CheckedFile.{view_prop}
-use Rattle.ev_check.specs.Declarations.{class_names, declared_number, engine_in, engines_in}
+use Rattle.ev_check.specs.Declarations.{declared_number, engine_in, engines_in}
 use Rattle.ev_check.specs.Declarations.{event_in}
-use Rattle.ev_check.specs.Declarations.{events_in, is_alike, is_declared, is_undeclared_engine}
+use Rattle.ev_check.specs.Declarations.{events_in, is_alike, is_declared}
 use Rattle.ev_check.specs.Declarations.{is_undeclared_trip, names_undeclared}
 use Rattle.ev_check.specs.Defaults.{first_by, or_else, fit_of, within_of, n_of, t_of}
 use Rattle.ev_check.specs.Drawn.{number_at, trip_among, causes_in, effects_in}
-use Rattle.ev_check.specs.Faults.{IsChecked, IsTripFree, finds_undeclared}
 use Rattle.ev_check.specs.Lawful.{file_events, linking_causes, linking_effects, spec_event}
 use Rattle.ev_check.specs.Sound.{IsSound}
 use Rattle.ev_check.specs.Drawn.{causes_of, effects_of, side_numbers}
@@ -50,7 +49,7 @@ use Rattle.ev_check.specs.declared.checked.DeclKind.{DeclKind}
 use Rattle.ev_check.specs.declared.checked.DeclKind.TheVariants as kinds
 use Rattle.ev_check.specs.declared.checked.EventSpec.{EventSpec}
 use Rattle.ev_check.specs.declared.checked.SerdSpec.{SerdSpec}
-use Rattle.ev_events.proofs.Places.{some_is, none_is_not, first_found, first_item, any_found}
+use Rattle.ev_events.proofs.Places.{none_is_not, first_found, first_item, any_found}
 use Rattle.ev_events.proofs.Agreeing.{names_same}
 use Rattle.ev_events.proofs.Grouped.{names_all}
 use Rattle.ev_events.specs.Whole.{category_for, is_limited, IsWholeEvent, IsWholeEngine}
@@ -58,9 +57,6 @@ use Rattle.ev_events.specs.Whole.{IsWholeFile}
 use Rattle.ev_events.specs.Whole.{needs_cause}
 
 -- ---- tests that fail
-neither : (a b : Bool) → (a || b) ≡ false → (a ≡ false) × (b ≡ false)
-neither true b e = absurd (false≢true (sym e))
-neither false b e = (refl, e)
 
 denied : (a : Bool) → not a ≡ false → a ≡ true
 denied true e = refl
@@ -98,13 +94,13 @@ given_at {A = A} {B = B} f (x ∷ xs) i y h = by (given_at f xs) (f x) refl i h 
 pub map_at : {A B : Type 0} (f : A → B) (xs : List A) (i : ℕ) (y : B)
     → slice_get (map f xs) i ≡ Some y → (x : A) × (slice_get xs i ≡ Some x) × (f x ≡ y)
 map_at f [] i y h = none_is_not y h
-map_at f (x ∷ xs) zero y h = (x, refl, some_is (f x) y h)
+map_at f (x ∷ xs) zero y h = (x, refl, same_Some (f x) y h)
 map_at f (x ∷ xs) (suc i) y h = map_at f xs i y h
 
 pub at_map : {A B : Type 0} (f : A → B) (xs : List A) (i : ℕ) (x : A) → slice_get xs i ≡ Some x
     → slice_get (map f xs) i ≡ Some (f x)
 at_map f [] i x h = none_is_not x h
-at_map f (y ∷ ys) zero x h = ap (λ o. Some (f o)) (some_is y x h)
+at_map f (y ∷ ys) zero x h = ap (λ o. Some (f o)) (same_Some y x h)
 at_map f (y ∷ ys) (suc i) x h = at_map f ys i x h
 
 -- none passes, so what passes is none
@@ -112,9 +108,9 @@ fails_at : {A : Type 0} (test : A → Bool) (xs : List A) (i : ℕ) (x : A)
     → list_any test xs ≡ false → slice_get xs i ≡ Some x → test x ≡ false
 fails_at test [] i x h s = none_is_not x s
 fails_at test (y ∷ ys) zero x h s =
-    ap test (sym (some_is y x s)) ∙ (neither (test y) (list_any test ys) h).0
+    ap test (sym (same_Some y x s)) ∙ (or_parts (test y) (list_any test ys) h).0
 fails_at test (y ∷ ys) (suc i) x h s =
-    fails_at test ys i x (neither (test y) (list_any test ys) h).1 s
+    fails_at test ys i x (or_parts (test y) (list_any test ys) h).1 s
 
 first_at : {A B : Type 0} (value : A → Option B) (xs : List A) (y : B)
     → first_by value xs ≡ Some y → (i : ℕ) × (x : A) × (slice_get xs i ≡ Some x) × (value x
@@ -148,7 +144,7 @@ pub placed_item : {A : Type 0} (test : A → Bool) (xs : List A) (n : ℕ) → p
 placed_item test xs n h = elim (cases_Bool (nat_lt (position_or_len test xs) (length xs))) [
   | inl so ↦
       let is : position_or_len test xs ≡ n =
-      some_is (position_or_len test xs) n (rw so at h) in
+      same_Some (position_or_len test xs) n (rw so at h) in
       let item = first_item test xs (grind (arith, nat_tests)) in
       (item.0, ap (slice_get xs) (sym is) ∙ item.1, item.2)
   | inr not_so ↦ none_is_not n (rw not_so at h)
@@ -237,7 +233,7 @@ at_least least most n e = grind (arith, nat_tests)
 -- ---- events
 fit_least : (a : EventAttr) (y : ℕ) → is_odd_number a ≡ false → fit_value a ≡ Some y → 0 < y
 fit_least (event_attrs.Fit n) y odd is =
-    let e = some_is n y is in let least = at_least 1 4294967295 n odd in omega (arith, e, least)
+    let e = same_Some n y is in let least = at_least 1 4294967295 n odd in omega (arith, e, least)
 fit_least (event_attrs.Retire n) y odd is = none_is_not y is
 fit_least (event_attrs.Engine c) y odd is = none_is_not y is
 fit_least (event_attrs.Within t) y odd is = none_is_not y is
@@ -303,14 +299,14 @@ number_there ds names (Some c) n h =
 -- ---- engines
 n_least : (a : EngineAttr) (y : ℕ) → is_odd_size a ≡ false → n_value a ≡ Some y → 0 < y
 n_least (engine_attrs.N n) y odd is =
-    let e = some_is n y is in let least = at_least 1 1024 n odd in omega (arith, e, least)
+    let e = same_Some n y is in let least = at_least 1 1024 n odd in omega (arith, e, least)
 n_least (engine_attrs.T t) y odd is = none_is_not y is
 n_least (engine_attrs.Trip c) y odd is = none_is_not y is
 
 t_least : (a : EngineAttr) (y : ℕ) → is_odd_time a ≡ false → t_value a ≡ Some y → 0 < y
 t_least (engine_attrs.N n) y odd is = none_is_not y is
 t_least (engine_attrs.T t) y odd is =
-    let e = some_is (nanoseconds t) y is in
+    let e = same_Some (nanoseconds t) y is in
     let least = at_least 1 1152921504606846976 (nanoseconds t) odd in omega (arith, e, least)
 t_least (engine_attrs.Trip c) y odd is = none_is_not y is
 
@@ -333,7 +329,7 @@ trip_kind : (a : EngineAttr) (c : List ℕ) → is_odd_trip a ≡ false → trip
 trip_kind (engine_attrs.N n) c odd is = none_is_not c is
 trip_kind (engine_attrs.T t) c odd is = none_is_not c is
 trip_kind (engine_attrs.Trip e) c odd is =
-    ap (λ (x : List ℕ). is_report (category_of x)) (sym (some_is e c is))
+    ap (λ (x : List ℕ). is_report (category_of x)) (sym (same_Some e c is))
     ∙ denied (is_report (category_of e)) odd
 
 trip_known : (events : List Declared) (names : List (List ℕ)) (a : EngineAttr) (c : List ℕ)
@@ -343,7 +339,7 @@ trip_known events names (engine_attrs.N n) c odd is = none_is_not c is
 trip_known events names (engine_attrs.T t) c odd is = none_is_not c is
 trip_known events names (engine_attrs.Trip e) c odd is =
     ap (λ (x : List ℕ). is_declared events (record { class = x; names = names }))
-    (sym (some_is e c is))
+    (sym (same_Some e c is))
     ∙ denied (is_declared events (record { class = e; names = names })) odd
 
 -- the trip of an engine statement
@@ -421,7 +417,7 @@ module _ (f : CheckedFile) (sound : IsSound f) where
   event_whole e j (statements.Event place d attrs) at is =
       let clean = fine (statements.Event place d attrs) (sound.checked.words.each j _ at) in
       let engines = engines_in sound.statements in
-      let kind = neither (not (is_event (category_of d.class)))
+      let kind = or_parts (not (is_event (category_of d.class)))
       (list_any (is_misplaced (category_of d.class)) attrs) clean.kind in
       let given : EventSpec = record {
         event = d;
@@ -437,7 +433,7 @@ module _ (f : CheckedFile) (sound : IsSound f) where
             let spec = engine_of n there.0 there.1 in
             (spec.0, spec.1, ap (λ (x : Declared). x.names) spec.2 ∙ there.2);
       } in
-      subst (IsWholeEvent f) (some_is given e is) whole
+      subst (IsWholeEvent f) (same_Some given e is) whole
   event_whole e j (statements.Engine place d attrs) at is = none_is_not e is
   event_whole e j (statements.Prop place left n k right) at is = none_is_not e is
 
@@ -447,11 +443,11 @@ module _ (f : CheckedFile) (sound : IsSound f) where
   trip_of j place d attrs at =
       let s = statements.Engine place d attrs in
       let clean = fine s (sound.checked.words.each j s at) in
-      let kind = neither (not (is_serd (category_of d.class))) (list_any is_odd_trip attrs)
+      let kind = or_parts (not (is_serd (category_of d.class))) (list_any is_odd_trip attrs)
       clean.kind in
-      let lacking = neither (lacks n_value attrs) (lacks t_value attrs || lacks trip_value attrs)
+      let lacking = or_parts (lacks n_value attrs) (lacks t_value attrs || lacks trip_value attrs)
       clean.missing in
-      let more = neither (lacks t_value attrs) (lacks trip_value attrs) lacking.1 in
+      let more = or_parts (lacks t_value attrs) (lacks trip_value attrs) lacking.1 in
       trip_at (events_in sound.statements) d attrs more.1 kind.1 (undeclared_none j s at)
 
   engine_whole : (e : SerdSpec) (j : ℕ) (s : Statement) → slice_get sound.statements j ≡ Some s
@@ -483,7 +479,7 @@ module _ (f : CheckedFile) (sound : IsSound f) where
         names = ap (λ (x : Declared). x.names) event.2 ∙ trip.names;
         report = ap (λ (x : Declared). is_report (category_of x.class)) event.2 ∙ trip.report;
       } in
-      subst (IsWholeEngine f) (some_is given e is) whole
+      subst (IsWholeEngine f) (same_Some given e is) whole
   engine_whole e j (statements.Prop place left n k right) at is = none_is_not e is
 
   count_whole : (l : Linking) (j : ℕ) (s : Statement) → slice_get sound.statements j ≡ Some s
@@ -493,9 +489,9 @@ module _ (f : CheckedFile) (sound : IsSound f) where
   count_whole l j (statements.Prop place left n k right) at is =
       let s = statements.Prop place left n k right in
       let clean = fine s (sound.checked.words.each j s at) in
-      let odd = neither (is_odd_count 0 n || is_odd_count 1 k) _ clean.count in
-      let both = neither (is_odd_count 0 n) (is_odd_count 1 k) odd.0 in
-      ap (λ (x : Linking). needs_cause x.k) (sym (some_is _ l is)) ∙ counted k both.1
+      let odd = or_parts (is_odd_count 0 n || is_odd_count 1 k) _ clean.count in
+      let both = or_parts (is_odd_count 0 n) (is_odd_count 1 k) odd.0 in
+      ap (λ (x : Linking). needs_cause x.k) (sym (same_Some _ l is)) ∙ counted k both.1
 
   causes_are : map (linking_causes (file_events f)) (map view_prop f.props)
       ≡ causes_in sound.statements
@@ -522,7 +518,7 @@ module _ (f : CheckedFile) (sound : IsSound f) where
       let s = statements.Engine place d attrs in
       let trip = trip_of j place d attrs at in
       let same : unwrap_or (trip_among (events_in sound.statements) s) 0 ≡ x.trip =
-      ap (λ (y : SerdSpec). y.trip) (some_is _ x is) in
+      ap (λ (y : SerdSpec). y.trip) (same_Some _ x is) in
       let number : x.trip ≡ trip.number =
       sym same ∙ ap (λ (o : Option ℕ). unwrap_or o 0) trip.is in
       let declared : slice_get (events_in sound.statements) u ≡ Some e.event =

@@ -36,8 +36,8 @@
 //! each binding are found; or it refuses, exactly where there are more links than the limit.
 //! [`place_events`] answers all nodes and engines, each once, or that there are more than 65,536
 //! events. [`places_of`] answers the numbers of just the paths at which a pattern gives its event,
-//! ascending, of the rows that agree with the binding, in the time of these rows. [`asks_payload`]
-//! says whether a condition asks the payload. Want of memory is the one other answer.
+//! ascending, of the rows that agree with the binding. [`asks_payload`] says whether a condition
+//! asks the payload. Want of memory is the one other answer.
 #![tactic(auto)]
 
 mod asking;

@@ -3,7 +3,7 @@ use Rattle.std.proofs.Common.{◌≡◌, ◌<◌, ◌+◌, ◌++◌, ◌&&◌, �
 use Rattle.std.proofs.Common.{false, List, [], ◌∷◌, map, filter, slice_get, Option, Some, None}
 use Rattle.std.proofs.Common.{refl, sym, ap, ◌∙◌, arith, append_assoc}
 use Rattle.std.specs.List.{list_any, list_all}
-use Rattle.std.proofs.lemmas.Bool.{eq-eqb, ne_eqb}
+use Rattle.std.proofs.lemmas.Bool.{eq-eqb, ne_eqb, or_right}
 use Rattle.std.proofs.lemmas.List.Folds.{list_any-append}
 use Rattle.fm_bytes.proofs.Booleans.{and_true}
 use Rattle.ev_expr.specs.declared.settings.Prop.{Prop}
@@ -78,11 +78,8 @@ here_any [] gs g =
     ap (λ (b : Bool). b || list_any (is_guard_of g.instance) gs)
     (eq-eqb g.instance g.instance refl)
 here_any (x ∷ front) gs g =
-    either (is_guard_of g.instance x) (list_any (is_guard_of g.instance) (front ++ g ∷ gs))
-    (here_any front gs g) where
-      either : (a b : Bool) → b ≡ true → (a || b) ≡ true
-      either true b h = refl
-      either false b h = h
+    or_right (is_guard_of g.instance x) (list_any (is_guard_of g.instance) (front ++ g ∷ gs))
+    (here_any front gs g)
 
 only_in : (p : Guard → Bool) (front gs : List Guard)
     → list_all (λ i. list_any (is_guard_of i) (front ++ gs)) (map guard_instance (filter p gs))

@@ -164,8 +164,8 @@ impl Guards {
         }
     }
 
-    /// The instances whose link to a node a payload of these pairs breaks, ascending. Only guarded
-    /// links break.
+    /// The instances whose link to a node a payload of these pairs breaks, in the order of the
+    /// node's guards. Only guarded links break.
     pub fn broken_by(&self, alloc: Global, node: u32, props: &[Prop]) -> Result<Vec<u32>, NoMemory>
         ensures broken { IfOk result (λ found. found.items
             ≡ guarding.broken_by self.now node props.now) }

@@ -7,7 +7,7 @@ use Rattle.std.proofs.Common.{nat_lt, nat_le, unwrap_or}
 use Rattle.std.specs.List.{list_all, All}
 use Rattle.std.proofs.lemmas.Bool.{false≢true, and_parts, eq-eqb, lt-ltb}
 use Rattle.std.proofs.lemmas.Bool.{le-leb, ltb-true}
-use Rattle.std.proofs.lemmas.Option.{get_or_from_slice_get}
+use Rattle.std.proofs.lemmas.Option.{get_or_from_slice_get, same_Some}
 use Rattle.fm_bytes.proofs.Booleans.{and_true}
 use Rattle.fm_name.specs.Category.{category_of}
 use Rattle.fm_name.specs.Path.{names_of}
@@ -43,7 +43,7 @@ use Rattle.ev_events.specs.Fits.{fits, has_names}
 use Rattle.ev_events.specs.Names.{iterators}
 use Rattle.ev_events.proofs.Agreeing.{names_same, same_from}
 use Rattle.ev_events.proofs.Grouped.{names_all}
-use Rattle.ev_events.proofs.Places.{any_found, first_found, none_is_not, some_is, within_is}
+use Rattle.ev_events.proofs.Places.{any_found, first_found, none_is_not, within_is}
 use Rattle.ev_events.specs.Nodes.{ArePlacedEvents, engine_name}
 use Rattle.ev_events.specs.Nodes.{node_name}
 use Rattle.ev_events.specs.Whole.{IsWholeFile, needs_cause}
@@ -81,7 +81,7 @@ rising_ascends low (x ∷ y ∷ ys) h =
 member_at : (xs : List ℕ) (i n : ℕ) → slice_get xs i ≡ Some n → is_member xs n ≡ true
 member_at [] i n h = none_is_not n h
 member_at (x ∷ xs) zero n h =
-    ap (λ (b : Bool). b || is_member xs n) (eq-eqb x n (some_is x n h))
+    ap (λ (b : Bool). b || is_member xs n) (eq-eqb x n (same_Some x n h))
 member_at (x ∷ xs) (suc i) n h = by (x == n) (member_at xs i n h) where
   by : (b : Bool) → is_member xs n ≡ true → (b || is_member xs n) ≡ true
   by true e = refl
@@ -111,7 +111,7 @@ filter_at p [] i x h = none_is_not x h
 filter_at p (y ∷ xs) i x h = by (λ j e. filter_at p xs j x e) (p y) refl i h where
   by : ((j : ℕ) → slice_get (filter p xs) j ≡ Some x → p x ≡ true) → (b : Bool) → p y ≡ b
       → (j : ℕ) → slice_get (cond b (y ∷ filter p xs) (filter p xs)) j ≡ Some x → p x ≡ true
-  by again true so zero e = ap p (sym (some_is y x e)) ∙ so
+  by again true so zero e = ap p (sym (same_Some y x e)) ∙ so
   by again true so (suc j) e = again j e
   by again false so j e = again j e
 
@@ -158,7 +158,7 @@ origin_at topology nodes (l ∷ ls) (bs ∷ css) n i h =
 row_at_map : {X : Type 0} (f : X → List ℕ) (xs : List X) (j : ℕ) (x : X)
     → slice_get xs j ≡ Some x → row (map f xs) j ≡ f x
 row_at_map f [] j x h = none_is_not x h
-row_at_map f (y ∷ ys) zero x h = ap f (some_is y x h)
+row_at_map f (y ∷ ys) zero x h = ap f (same_Some y x h)
 row_at_map f (y ∷ ys) (suc j) x h = row_at_map f ys j x h
 
 is_in_more : (x y : ℕ) (xs : List ℕ) → IsIn x xs → IsIn x (y ∷ xs)
@@ -172,7 +172,7 @@ in_numbers : (events : List Declared) (qs : List Pattern) (i : ℕ) (q : Pattern
 in_numbers events [] i q n s h = none_is_not q s
 in_numbers events (r ∷ qs) zero q n s h =
     let e : declared_number events (pattern_subject r) ≡ Some n =
-    ap (λ (x : Pattern). declared_number events (pattern_subject x)) (some_is r q s) ∙ h in
+    ap (λ (x : Pattern). declared_number events (pattern_subject x)) (same_Some r q s) ∙ h in
     subst (IsIn n) (sym (front e)) (record { place = 0; within = omega arith; stands = refl }) where
       front : declared_number events (pattern_subject r) ≡ Some n
           → pattern_numbers events (r ∷ qs) ≡ n ∷ pattern_numbers events qs
@@ -466,7 +466,7 @@ module _ (f : CheckedFile) (topology : Topology) (whole : IsWholeFile f) (lawful
   engine_facts i engine s =
       let o = placed.engines_are.each i engine s in
       let w = whole.engines o.number o.is.spec o.is.declared in
-      let event : w.event ≡ o.is.event = some_is w.event o.is.event (sym w.trips ∙ o.is.trips) in
+      let event : w.event ≡ o.is.event = same_Some w.event o.is.event (sym w.trips ∙ o.is.trips) in
       let t = map_at node_name nodes engine.trip
       (record { class = o.is.event.event.class; path = engine.name.path }) o.is.stands in
       let node = t.0 in

@@ -7,7 +7,7 @@ use Rattle.std.specs.List.{list_any}
 use Rattle.std.proofs.lemmas.Bool.{false≢true, eq-eqb, eqb-true, ne_eqb}
 use Rattle.std.proofs.lemmas.List.{map_more, take_more}
 use Rattle.std.proofs.lemmas.List.Folds.{list_any-append}
-use Rattle.std.proofs.lemmas.Option.{get_or_from_slice_get}
+use Rattle.std.proofs.lemmas.Option.{get_or_from_slice_get, same_Some}
 use Rattle.fm_topo.specs.Topology.{Topology}
 use Rattle.ev_tree.specs.Pattern.{Pattern}
 use Rattle.ev_check.specs.CheckedFile.{Linking, view_prop}
@@ -17,7 +17,7 @@ use Rattle.ev_graph.specs.Sets.{is_member}
 use Rattle.ev_graph.specs.declared.nodes.Node.{Node}
 use Rattle.ev_events.specs.Bindings.{AreAllBindings}
 use Rattle.ev_events.specs.Names.{iterators}
-use Rattle.ev_events.proofs.Places.{none_is_not, some_is, within_is}
+use Rattle.ev_events.proofs.Places.{none_is_not, within_is}
 use Rattle.ev_inst.specs.Asked.{AddsDerivations, AddsGuard, AddsGuards, AreAllGuards, AreBare}
 use Rattle.ev_inst.specs.Asked.{AreGuardsTo, asked_of, guard_if, guards_to}
 use Rattle.ev_guards.specs.Watched.{Guarded}
@@ -102,7 +102,7 @@ guard_pushed e g old d less n path put = record {
   long = set_long old e n;
   at = λ o m s t.
       let was : get_or old e d ≡ o = get_or_from_slice_get old e o d s in
-      let is : m ≡ n = some_is m n (sym t ∙ set_here old e n less) in (
+      let is : m ≡ n = same_Some m n (sym t ∙ set_here old e n less) in (
         ap (λ (x : GuardedNode). x.path) is ∙ path ∙ ap (λ (x : GuardedNode). x.path) was,
         ap (λ (x : GuardedNode). map view_guard x.guards.items) is
             ∙ ap (map view_guard) put
@@ -144,7 +144,7 @@ module _ (r : RightSide) where
 
   same_node : (e : ℕ) (node x : Node) → slice_get r.nodes.now e ≡ Some node
       → slice_get r.nodes.now e ≡ Some x → node ≡ x
-  same_node e node x s t = some_is node x (sym s ∙ t)
+  same_node e node x s t = same_Some node x (sym s ∙ t)
 
   nothing_more : (xs : List Guarded) → xs ≡ xs ++ []
   nothing_more xs = sym (append-nil xs)
@@ -167,7 +167,7 @@ module _ (r : RightSide) where
   unguarded_effect e node s h gs = record {
     long = refl;
     each = λ x other o n t u w.
-        let same : n ≡ o = some_is n o (sym w ∙ u) in (
+        let same : n ≡ o = same_Some n o (sym w ∙ u) in (
           ap (λ (m : GuardedNode). m.path) same,
           ap (λ (m : GuardedNode). map view_guard m.guards.items) same
               ∙ by x other o t (is_member (e ∷ []) x) refl,
@@ -240,7 +240,7 @@ module _ (r : RightSide) where
         )
     by x other o n t u w false is =
         let kept = adds.others x (λ k. false≢true (sym is ∙ eq-eqb x e k)) in
-        let same : n ≡ o = some_is n o (sym w ∙ kept ∙ u) in (
+        let same : n ≡ o = same_Some n o (sym w ∙ kept ∙ u) in (
           ap (λ (m : GuardedNode). m.path) same,
           ap (λ (m : GuardedNode). map view_guard m.guards.items) same
               ∙ nothing_more (map view_guard o.guards.items)
@@ -253,7 +253,7 @@ module _ (r : RightSide) where
   no_effects gs = record {
     long = refl;
     each = λ x other o n t u w.
-        let same : n ≡ o = some_is n o (sym w ∙ u) in (
+        let same : n ≡ o = same_Some n o (sym w ∙ u) in (
           ap (λ (m : GuardedNode). m.path) same,
           ap (λ (m : GuardedNode). map view_guard m.guards.items) same
               ∙ nothing_more (map view_guard o.guards.items),
@@ -377,7 +377,7 @@ instance_counted topology nodes l b qs right none old new same counted = record 
   long = ap (λ (gs : List GuardedNode). length gs) same;
   each = λ e node o n s t u.
       let kept : n ≡ o =
-      some_is n o (sym u ∙ ap (λ (gs : List GuardedNode). slice_get gs e) same ∙ t) in
+      same_Some n o (sym u ∙ ap (λ (gs : List GuardedNode). slice_get gs e) same ∙ t) in
       let bare : guard_if topology (iterators l) b l.right old.count node ≡ [] =
       none_guarded topology (iterators l) b l.right
       (ap (λ (ps : List Pattern). list_any (λ q. asks_if q.cond) ps) (sym right) ∙ none) old.count
@@ -396,7 +396,7 @@ none_added_yet topology nodes all = record {
   count = omega arith;
   long = refl;
   each = λ e node o n s t u.
-      let same : n ≡ o = some_is n o (sym u ∙ t) in (
+      let same : n ≡ o = same_Some n o (sym u ∙ t) in (
         ap (λ (m : GuardedNode). m.path) same,
         ap (λ (m : GuardedNode). map view_guard m.guards.items) same
             ∙ sym (append-nil (map view_guard o.guards.items)),
@@ -551,8 +551,8 @@ bare_at : (nodes : List Node) (gs : List GuardedNode) → AreBare nodes gs → (
 bare_at [] gs h e node n s t = none_is_not node s
 bare_at (x ∷ nodes) [] h e node n s t = absurd h
 bare_at (x ∷ nodes) (g ∷ gs) h zero node n s t =
-    let x_is : x ≡ node = some_is x node s in
-    let g_is : g ≡ n = some_is g n t in (
+    let x_is : x ≡ node = same_Some x node s in
+    let g_is : g ≡ n = same_Some g n t in (
       ap (λ (m : GuardedNode). m.path) (sym g_is) ∙ h.0
           ∙ ap (λ (m : Node). m.name.path) x_is,
       ap (λ (m : GuardedNode). m.guards.items) (sym g_is) ∙ h.1.0,

@@ -2,6 +2,7 @@
 use Rattle.std.proofs.Common.{◌≡◌, ◌<◌, ◌++◌, ◌⊎◌, ℕ, zero, suc}
 use Rattle.std.proofs.Common.{List, [], ◌∷◌, map, filter, slice_get, Some}
 use Rattle.std.proofs.Common.{refl, sym, ap, ◌∙◌, subst, arith, inl, inr, append_assoc}
+use Rattle.std.proofs.lemmas.Option.{same_Some}
 use Rattle.fm_topo.specs.Topology.{Topology}
 use Rattle.ev_check.specs.CheckedFile.{Linking}
 use Rattle.ev_join.specs.Order.{IsNotBefore}
@@ -10,7 +11,7 @@ use Rattle.ev_join.proofs.Ordering.{not_before_itself}
 use Rattle.ev_graph.specs.declared.instances.Instance.{Instance}
 use Rattle.ev_graph.specs.declared.nodes.Node.{Node}
 use Rattle.ev_events.specs.Bindings.{AreAllBindings}
-use Rattle.ev_events.proofs.Places.{none_is_not, some_is}
+use Rattle.ev_events.proofs.Places.{none_is_not}
 use Rattle.ev_inst.specs.Guarding.{Derivation, derivation, derivations}
 use Rattle.ev_inst.specs.Instances.{AreCandidatesOf, instances_of_all}
 use Rattle.ev_inst.specs.Outcomes.{instance_of, is_made}
@@ -59,8 +60,8 @@ unfolding Ascend
 first_same b c bs cs h k own other = by own.place own.stands other.place other.stands where
   by : (i : ℕ) → slice_get (c ∷ cs) i ≡ Some b → (j : ℕ) → slice_get (b ∷ bs) j ≡ Some c
       → b ≡ c
-  by zero s j t = sym (some_is c b s)
-  by (suc i) s zero t = some_is b c t
+  by zero s j t = sym (same_Some c b s)
+  by (suc i) s zero t = same_Some b c t
   by (suc i) s (suc j) t = elim (total b c) [
     | inl later ↦ absurd (h 0 (suc j) b c (omega arith) refl t later)
     | inr later ↦ absurd (k 0 (suc i) c b (omega arith) refl s later)
@@ -75,7 +76,7 @@ tail_within b bs cs h within = λ i x s. by i x s (within (suc i) x s) where
   by i x s found = place found.place found.stands where
     place : (j : ℕ) → slice_get (b ∷ cs) j ≡ Some x → IsAmong x cs
     place zero t =
-        let same : b ≡ x = some_is b x t in
+        let same : b ≡ x = same_Some b x t in
         absurd (h 0 (suc i) b x (omega arith) refl s
         (subst (λ (y : List ℕ). IsNotBefore b y) same (not_before_itself b)))
     place (suc j) t = record { place = j; stands = t }

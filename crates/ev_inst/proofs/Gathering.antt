@@ -10,7 +10,7 @@ use Rattle.std.proofs.lemmas.Bool.{cases_Bool, false≢true}
 use Rattle.std.proofs.lemmas.List.{map_more, take_more}
 use Rattle.std.proofs.lemmas.List.Folds.{list_any-append}
 use Rattle.std.proofs.lemmas.List.Sums.{sum_by-cons, sum_by-append}
-use Rattle.std.proofs.lemmas.Option.{slice_get-get_or}
+use Rattle.std.proofs.lemmas.Option.{slice_get-get_or, same_Some}
 use Rattle.fm_topo.specs.Topology.{Topology}
 use Rattle.ev_tree.specs.Pattern.{Pattern, view_pattern}
 use Rattle.ev_tree.specs.declared.tree.SidePattern.{SidePattern}
@@ -26,7 +26,7 @@ use Rattle.ev_events.specs.Fits.{fitting}
 use Rattle.ev_events.specs.Names.{iterators}
 use Rattle.ev_events.specs.Sheets.{AreTablesOf, IsTableOf}
 use Rattle.ev_events.proofs.Joining.{pattern_there, table_at}
-use Rattle.ev_events.proofs.Places.{none_is_not, some_is}
+use Rattle.ev_events.proofs.Places.{none_is_not}
 use Rattle.ev_events.specs.Giving.{giving}
 use Rattle.ev_inst.specs.Gathering.{AddsCandidates, AddsOutcome, AreEventNumbers, AreOrderedNodes}
 use Rattle.ev_inst.specs.Gathering.{IsGatheredTo, IsOutcome, IsReady}
@@ -135,14 +135,14 @@ module _ (topology : Topology) (nodes : List Node) (vs : List (List ℕ)) (b : L
         mapped : (xs : List SidePattern) (j : ℕ) → slice_get xs j ≡ Some p
             → slice_get (map view_pattern xs) j ≡ Some (view_pattern p)
         mapped [] j h = none_is_not p h
-        mapped (x ∷ xs) zero h = ap (λ z. Some (view_pattern z)) (some_is x p h)
+        mapped (x ∷ xs) zero h = ap (λ z. Some (view_pattern z)) (same_Some x p h)
         mapped (x ∷ xs) (suc j) h = mapped xs j h
 
         any_at : (qs : List Pattern) (j : ℕ) → slice_get qs j ≡ Some (view_pattern p)
             → list_any (is_bare topology vs b) qs ≡ true
         any_at [] j h = none_is_not (view_pattern p) h
         any_at (q ∷ qs) zero h =
-            rw (ap (is_bare topology vs b) (some_is q (view_pattern p) h) ∙ one) refl
+            rw (ap (is_bare topology vs b) (same_Some q (view_pattern p) h) ∙ one) refl
         any_at (q ∷ qs) (suc j) h = by (is_bare topology vs b q) (any_at qs j h) where
           by : (a : Bool) → list_any (is_bare topology vs b) qs ≡ true
               → (a || list_any (is_bare topology vs b) qs) ≡ true
@@ -206,7 +206,7 @@ module _ (topology : Topology) (vs : List (List ℕ)) where
       let found = table_at topology vs (map view_pattern ps) ts i (view_pattern p) h
       (pattern_there ps i p p less is) in
       let one : found.0 ≡ t =
-      some_is found.0 t (sym found.1 ∙ slice_get-get_or ts i t within ∙ ap Some (sym same)) in
+      same_Some found.0 t (sym found.1 ∙ slice_get-get_or ts i t within ∙ ap Some (sym same)) in
       subst (IsTableOf topology vs p.parts) one found.2
 
 -- names, patterns and tables may be given otherwise
@@ -609,14 +609,14 @@ linking_there ps i p less is = mapped ps i (prop_there ps i p less is) where
   mapped : (xs : List PropSpec) (j : ℕ) → slice_get xs j ≡ Some p
       → slice_get (map view_prop xs) j ≡ Some (view_prop p)
   mapped [] j h = none_is_not p h
-  mapped (x ∷ xs) zero h = ap (λ z. Some (view_prop z)) (some_is x p h)
+  mapped (x ∷ xs) zero h = ap (λ z. Some (view_prop z)) (same_Some x p h)
   mapped (x ∷ xs) (suc j) h = mapped xs j h
 
 parted : (xs : List PropSpec) (i : ℕ) (p : PropSpec) → slice_get xs i ≡ Some p
     → map view_prop xs
     ≡ map view_prop (take i xs) ++ view_prop p ∷ map view_prop (drop (suc i) xs)
 parted [] i p h = none_is_not p h
-parted (x ∷ xs) zero p h = ap (λ z. view_prop z ∷ map view_prop xs) (some_is x p h)
+parted (x ∷ xs) zero p h = ap (λ z. view_prop z ∷ map view_prop xs) (same_Some x p h)
 parted (x ∷ xs) (suc i) p h = ap (λ (ls : List Linking). view_prop x ∷ ls) (parted xs i p h)
 
 pub props_step : (topology : Topology) (nodes : List Node) (ps : List PropSpec) (i : ℕ)

@@ -7,6 +7,7 @@ use Rattle.std.proofs.Common.{if◌then◌else◌, length-append}
 use Rattle.std.specs.List.{list_any, list_all, sum_by}
 use Rattle.std.proofs.lemmas.Bool.{false≢true, and_parts}
 use Rattle.std.proofs.lemmas.List.Sums.{sum_by-cons}
+use Rattle.std.proofs.lemmas.Option.{same_Some}
 use Rattle.fm_topo.specs.Topology.{Topology}
 use Rattle.ev_tree.specs.Condition.{Condition}
 use Rattle.ev_tree.specs.Pattern.{Pattern}
@@ -20,7 +21,7 @@ use Rattle.ev_graph.specs.declared.instances.Link.{Link}
 use Rattle.ev_graph.specs.declared.nodes.Node.{Node}
 use Rattle.ev_events.specs.Names.{iterators}
 use Rattle.ev_events.specs.Asking.{condition_names}
-use Rattle.ev_events.proofs.Places.{none_is_not, some_is, there_is, within_is}
+use Rattle.ev_events.proofs.Places.{none_is_not, there_is, within_is}
 use Rattle.ev_inst.specs.Asked.{AreAllGuards, AreGuardsTo}
 use Rattle.ev_guards.specs.Watched.{Asked, Guarded}
 use Rattle.ev_inst.specs.Asked.{asked_if, asked_of, guard_if, guards_to}
@@ -415,7 +416,7 @@ module _ (topology : Topology) (nodes : List Node) (ds : List Derivation)
   mapped_at : (ks : List Derivation) (i : ℕ) (d : Derivation) → slice_get ks i ≡ Some d
       → slice_get (map (derived topology nodes) ks) i ≡ Some (derived topology nodes d)
   mapped_at [] i d h = none_is_not d h
-  mapped_at (k ∷ ks) zero d h = ap (λ z. Some (derived topology nodes z)) (some_is k d h)
+  mapped_at (k ∷ ks) zero d h = ap (λ z. Some (derived topology nodes z)) (same_Some k d h)
   mapped_at (k ∷ ks) (suc i) d h = mapped_at ks i d h
 
   guards_links : (i e : ℕ) → is_guarded value i e ≡ true

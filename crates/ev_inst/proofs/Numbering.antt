@@ -10,10 +10,10 @@ use Rattle.std.specs.Map.{keys_of}
 use Rattle.std.specs.Ordering.{is_lt}
 use Rattle.std.specs.declared.cmp.Ordering.TheVariants.{Equal}
 use Rattle.std.specs.Cmp.{tied_itself}
-use Rattle.std.proofs.lemmas.Bool.{cases_Bool, eq-eqb, eqb-true, false≢true, and_parts}
+use Rattle.std.proofs.lemmas.Bool.{cases_Bool, eq-eqb, eqb-true, false≢true, and_parts, or_right}
 use Rattle.std.proofs.lemmas.Bool.Decides.{nat_tests}
 use Rattle.std.proofs.lemmas.List.Folds.{list_any_more, list_any-append}
-use Rattle.std.proofs.lemmas.Option.{get_or_from_slice_get, slice_get-get_or}
+use Rattle.std.proofs.lemmas.Option.{get_or_from_slice_get, slice_get-get_or, same_Some}
 use Rattle.fm_bytes.proofs.Booleans.{and_true}
 use Rattle.fm_name.specs.Path.{names_of}
 use Rattle.fm_name.specs.Events.{event_cmp, event_cmp_total}
@@ -27,7 +27,7 @@ use Rattle.ev_graph.specs.Sets.{ascends_by, is_member}
 use Rattle.ev_graph.specs.declared.nodes.Node.{Node}
 use Rattle.ev_graph.proofs.Ascending.{rises_by}
 use Rattle.ev_events.specs.Fits.{fits, fitting, has_names, places_with}
-use Rattle.ev_events.proofs.Places.{any_found, none_is_not, same_tests, some_is, within_is}
+use Rattle.ev_events.proofs.Places.{any_found, none_is_not, same_tests, within_is}
 use Rattle.ev_events.proofs.Agreeing.{names_same, same_from}
 use Rattle.ev_events.proofs.Grouped.{names_all}
 use Rattle.ev_events.specs.Nodes.{node_name}
@@ -65,21 +65,17 @@ place_is test at (place ∷ more) k n h =
           else places_with test (suc at) more) j ≡ Some n
           → Placed at (place ∷ more)
       by again true so zero e =
-          let is = some_is at n e in
+          let is = same_Some at n e in
           (0, place.0, (let z : n ≡ at + 0 = omega (arith, is) in z), refl, so)
       by again true so (suc j) e = later (again j n e)
       by again false so j e = later (again j n e)
-
-or_later : (a b : Bool) → b ≡ true → (a || b) ≡ true
-or_later true b h = refl
-or_later false b h = h
 
 in_places : (f : ℕ → Bool) (test : List ℕ → Bool) (at : ℕ) (more : Topology) (i : ℕ)
     (path : List ℕ) → slice_get (keys_of more) i ≡ Some path → test path ≡ true
     → f (at + i) ≡ true → list_any f (places_with test at more) ≡ true
 in_places f test at [] i path s t h = none_is_not path s
 in_places f test at (place ∷ more) zero path s t h =
-    let so : test place.0 ≡ true = ap test (some_is place.0 path s) ∙ t in
+    let so : test place.0 ≡ true = ap test (same_Some place.0 path s) ∙ t in
     let same : at + 0 ≡ at = omega arith in
     rw so (ap (λ (b : Bool). b || list_any f (places_with test (suc at) more))
     (ap f (sym same) ∙ h))
@@ -87,7 +83,7 @@ in_places f test at (place ∷ more) (suc i) path s t h =
     let same : at + suc i ≡ suc at + i = omega arith in
     let later = in_places f test (suc at) more i path s t (ap f (sym same) ∙ h) in
     elim (cases_Bool (test place.0)) [
-      | inl so ↦ rw so (or_later (f at) _ later)
+      | inl so ↦ rw so (or_right (f at) _ later)
       | inr not_so ↦ rw not_so later
     ]
 
@@ -251,7 +247,7 @@ module _ (topology : Topology) (nodes : List Node) (ordered : AreOrderedNodes to
             mapped_at : (xs : List Node) (i : ℕ) → slice_get xs i ≡ Some node
                 → slice_get (map node_name xs) i ≡ Some node.name
             mapped_at [] i h = none_is_not node h
-            mapped_at (x ∷ xs) zero h = ap (λ o. Some (node_name o)) (some_is x node h)
+            mapped_at (x ∷ xs) zero h = ap (λ o. Some (node_name o)) (same_Some x node h)
             mapped_at (x ∷ xs) (suc i) h = mapped_at xs i h
 
   or_again : (a b c : Bool) → ((a || b) || c) ≡ (a || (b || c))

@@ -5,8 +5,9 @@ use Rattle.std.proofs.Common.{slice_get, filter_map, Option, Some, None, refl, s
 use Rattle.std.proofs.Common.{if◌then◌else◌, append-nil, append_assoc}
 use Rattle.std.specs.List.{list_any, list_all}
 use Rattle.std.specs.Map.{keys_of}
-use Rattle.std.proofs.lemmas.Bool.{false≢true}
+use Rattle.std.proofs.lemmas.Bool.{false≢true, or_right}
 use Rattle.std.proofs.lemmas.List.Elements.{filter_map-append}
+use Rattle.std.proofs.lemmas.Option.{same_Some}
 use Rattle.fm_name.specs.Path.{names_of}
 use Rattle.fm_topo.specs.Topology.{Topology}
 use Rattle.ev_tree.specs.Pattern.{Pattern, view_option, view_pattern}
@@ -16,7 +17,7 @@ use Rattle.ev_join.specs.Tables.{RisesFrom, TableValue}
 use Rattle.ev_graph.specs.Sets.{is_member}
 use Rattle.ev_graph.specs.declared.nodes.Node.{Node}
 use Rattle.ev_events.proofs.Joining.{pattern_there}
-use Rattle.ev_events.proofs.Places.{none_is_not, some_is}
+use Rattle.ev_events.proofs.Places.{none_is_not}
 use Rattle.ev_events.specs.Giving.{giving}
 use Rattle.ev_events.specs.Nodes.{node_name}
 use Rattle.ev_events.specs.Placed.{IsAmongNames}
@@ -202,11 +203,8 @@ asks_at ps i p less is asks =
           → list_any (λ q. asks_if q.cond) qs ≡ true
       at_place [] j h = none_is_not (view_pattern p) h
       at_place (q ∷ qs) zero h =
-          let same = some_is q (view_pattern p) h in
+          let same = same_Some q (view_pattern p) h in
           ap (λ (x : Bool). x || list_any (λ z. asks_if z.cond) qs)
           (ap (λ (z : Pattern). asks_if z.cond) same ∙ asks)
       at_place (q ∷ qs) (suc j) h =
-          either (asks_if q.cond) (list_any (λ z. asks_if z.cond) qs) (at_place qs j h) where
-            either : (x y : Bool) → y ≡ true → (x || y) ≡ true
-            either true y k = refl
-            either false y k = k
+          or_right (asks_if q.cond) (list_any (λ z. asks_if z.cond) qs) (at_place qs j h)

@@ -14,7 +14,8 @@
 //! **Promises.** [`instantiate`] answers just this graph and the number of skipped candidates, or
 //! `Nodes` or `Links` exactly where these limits are passed. That `Graph::build` refuses nothing
 //! that is made so is proved: a checked file keeps what each refusal is of
-//! (`proofs/Buildable.antt`). Want of memory is the one other answer.
+//! (`proofs/Buildable.antt`). [`make_guards`] answers the guards of just the links of that graph
+//! which a payload can break. Want of memory is the one other answer.
 #![tactic(auto)]
 
 mod asked;

@@ -68,8 +68,7 @@ fn made_of(
 
 /// What a checked rule file comes to over a topology: its graph, and how many candidates are
 /// skipped. `Nodes` exactly where there are more than 65,536 events, and else `Links` exactly where
-/// the candidates of all propagations have more than 1,048,576 links. No more candidates are looked
-/// at than the limit allows.
+/// the candidates of all propagations have more than 1,048,576 links.
 pub fn instantiate(alloc: Global, checked: &Checked, topo: &Topo) -> Result<Made, InstFault>
     ensures made { IfOk result (IsMadeOf checked.now topo.now) }
     ensures fault { IfErr result (IsInstFault checked.now topo.now) }

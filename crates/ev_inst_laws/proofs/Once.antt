@@ -6,6 +6,7 @@ use Rattle.std.specs.List.{list_any, cons_option}
 use Rattle.std.specs.Cmp.Lexicographic.{pointwise}
 use Rattle.std.proofs.lemmas.Bool.{cases_Bool, false≢true}
 use Rattle.std.proofs.lemmas.Bool.Decides.{nat_tests}
+use Rattle.std.proofs.lemmas.Option.{same_Some}
 use Rattle.fm_bytes.proofs.Booleans.{and_true}
 use Rattle.ev_tree.specs.declared.tree.Declared.{Declared}
 use Rattle.ev_tree.specs.declared.tree.Statement.{Statement}
@@ -19,7 +20,7 @@ use Rattle.ev_check.specs.Faults.{Passes}
 use Rattle.ev_check.specs.Lawful.{file_events, spec_event}
 use Rattle.ev_check.specs.Sound.{IsSound}
 use Rattle.ev_events.proofs.Agreeing.{same_from}
-use Rattle.ev_events.proofs.Places.{none_is_not, some_is}
+use Rattle.ev_events.proofs.Places.{none_is_not}
 use Rattle.ev_events.specs.Nodes.{file_engines, spec_engine}
 use Rattle.ev_events.proofs.Keeping.{all_names}
 use Rattle.ev_events.proofs.Wholeness.{given_at}
@@ -35,7 +36,7 @@ stands_declared : (ds : List Declared) (i : ℕ) (d : Declared) → slice_get ds
     → is_declared ds d ≡ true
 stands_declared [] i d h = none_is_not d h
 stands_declared (e ∷ ds) zero d h =
-    let same : e ≡ d = some_is e d h in
+    let same : e ≡ d = same_Some e d h in
     let here : is_alike d e ≡ true =
     subst (λ (x : Declared). is_alike d x ≡ true) (sym same) (alike_itself d) in
     ap (λ (b : Bool). b || list_any (is_alike d) ds) here
@@ -124,7 +125,7 @@ refused false e = refl
 new_event : (before : List Statement) (s : Statement) (d : Declared) → event_in s ≡ Some d
     → twice_after before s ≡ None → is_declared (events_in before) d ≡ false
 new_event before (statements.Event place e attrs) d is h =
-    ap (is_declared (events_in before)) (sym (some_is e d is))
+    ap (is_declared (events_in before)) (sym (same_Some e d is))
     ∙ refused (is_declared (events_in before) e) h
 new_event before (statements.Engine place e attrs) d is h = none_is_not d is
 new_event before (statements.Prop place left n k right) d is h = none_is_not d is
@@ -133,7 +134,7 @@ new_engine : (before : List Statement) (s : Statement) (d : Declared) → engine
     → twice_after before s ≡ None → is_declared (engines_in before) d ≡ false
 new_engine before (statements.Event place e attrs) d is h = none_is_not d is
 new_engine before (statements.Engine place e attrs) d is h =
-    ap (is_declared (engines_in before)) (sym (some_is e d is))
+    ap (is_declared (engines_in before)) (sym (same_Some e d is))
     ∙ refused (is_declared (engines_in before) e) h
 new_engine before (statements.Prop place left n k right) d is h = none_is_not d is
 

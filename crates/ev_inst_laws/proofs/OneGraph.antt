@@ -4,6 +4,7 @@ use Rattle.std.proofs.Common.{Some, None, refl, sym, ap, ◌∙◌, subst}
 use Rattle.std.specs.Ordering.{is_lt}
 use Rattle.std.specs.Cmp.{tied_itself}
 use Rattle.std.proofs.lemmas.Bool.{false≢true}
+use Rattle.std.proofs.lemmas.Option.{same_Some}
 use Rattle.fm_name.specs.Events.{event_cmp_total}
 use Rattle.fm_name.specs.Path.{names_of}
 use Rattle.fm_name.specs.declared.events.EventName.{EventName}
@@ -22,7 +23,6 @@ use Rattle.ev_graph.specs.declared.nodes.Node.{Node}
 use Rattle.ev_graph.specs.declared.nodes.NodeKind.{NodeKind}
 use Rattle.ev_graph.specs.declared.nodes.NodeKind.TheVariants as nodes
 use Rattle.ev_graph.specs.declared.nodes.EngineSpec.{EngineSpec}
-use Rattle.ev_events.proofs.Places.{some_is}
 use Rattle.ev_events.specs.Placed.{IsAmongNames, IsAt, is_before_name}
 use Rattle.ev_events.specs.Nodes.{AreEngines, AreNodes, IsEngineAt, IsKindAt, engine_name}
 use Rattle.ev_events.specs.Nodes.{node_name, spec_engine}
@@ -141,7 +141,7 @@ module _ (specs : List SerdSpec) (engines : List EventName) (path : List ℕ)
   engine_number : (e m n : ℕ) → IsEngineAt specs engines e path m
       → IsEngineAt specs engines e path n → m ≡ n
   engine_number e m n a b =
-      let same : a.spec ≡ b.spec = some_is a.spec b.spec (sym a.declared ∙ b.declared) in
+      let same : a.spec ≡ b.spec = same_Some a.spec b.spec (sym a.declared ∙ b.declared) in
       let named : SerdSpec → EventName = λ s. record { class = s.engine.class; path = path } in
       once engines up m n (named a.spec) a.stands
       (b.stands ∙ ap (λ (s : SerdSpec). Some (named s)) (sym same))
@@ -187,7 +187,7 @@ module _ (f copy : CheckedFile) (topology : Topology) (declares : DeclaresOnce f
   named_at : {X : Type 0} (name : X → EventName) (xs ys : List X) → map name xs ≡ map name ys
       → (i : ℕ) (x y : X) → slice_get xs i ≡ Some x → slice_get ys i ≡ Some y → name x ≡ name y
   named_at name xs ys names i x y s t =
-      some_is (name x) (name y) (sym (at_map name xs i x s)
+      same_Some (name x) (name y) (sym (at_map name xs i x s)
       ∙ ap (λ (l : List EventName). slice_get l i) names ∙ at_map name ys i y t)
 
   node_one : (i : ℕ) (n m : Node) → slice_get ns i ≡ Some n → slice_get ms i ≡ Some m → n ≡ m
@@ -204,7 +204,7 @@ module _ (f copy : CheckedFile) (topology : Topology) (declares : DeclaresOnce f
       (at_map spec_event f.events a.number a.spec a.declared)
       (at_map spec_event f.events b.number b.spec declared ∙ ap Some (sym event)) in
       let spec : a.spec ≡ b.spec =
-      some_is a.spec b.spec
+      same_Some a.spec b.spec
       (sym a.declared ∙ ap (λ (k : ℕ). slice_get f.events k) number ∙ declared) in
       let of_engines : IsKindAt f.engines (map engine_name gs) m.name.path b.spec.kind m.kind =
       subst (λ (l : List SerdSpec). IsKindAt l (map engine_name gs) m.name.path b.spec.kind m.kind)
@@ -238,10 +238,10 @@ module _ (f copy : CheckedFile) (topology : Topology) (declares : DeclaresOnce f
       (at_map spec_engine f.engines a.number a.is.spec a.is.declared)
       (at_map spec_engine f.engines b.number b.is.spec declared ∙ ap Some (sym engine)) in
       let spec : a.is.spec ≡ b.is.spec =
-      some_is a.is.spec b.is.spec
+      same_Some a.is.spec b.is.spec
       (sym a.is.declared ∙ ap (λ (k : ℕ). slice_get f.engines k) number ∙ declared) in
       let event : a.is.event ≡ b.is.event =
-      some_is a.is.event b.is.event
+      same_Some a.is.event b.is.event
       (sym a.is.trips ∙ ap (λ (l : SerdSpec). slice_get f.events l.trip) spec
       ∙ ap (λ (l : List EventSpec). slice_get l b.is.spec.trip) (sym same.events_are)
       ∙ b.is.trips) in

@@ -2,8 +2,9 @@
 use Rattle.std.proofs.Common.{◌≡◌, ℕ, zero, suc, Bool, true, List, [], ◌∷◌, length, slice_get}
 use Rattle.std.proofs.Common.{Some, refl, sym, subst, arith}
 use Rattle.std.proofs.lemmas.Bool.{and_parts}
+use Rattle.std.proofs.lemmas.Option.{same_Some}
 use Rattle.ev_graph.specs.Sets.{ascends_by}
-use Rattle.ev_events.proofs.Places.{none_is_not, some_is}
+use Rattle.ev_events.proofs.Places.{none_is_not}
 
 -- each item of the one stands in the other
 abbrev pub AreWithin : {X : Type 0} → List X → List X → Type 0
@@ -22,7 +23,7 @@ module _ {X : Type 0} (before : X → X → Bool)
       → slice_get xs k ≡ Some y → before x y ≡ true
   first_before x [] k y h s = none_is_not y s
   first_before x (z ∷ zs) zero y h s =
-      subst (λ (w : X). before x w ≡ true) (some_is z y s)
+      subst (λ (w : X). before x w ≡ true) (same_Some z y s)
       (and_parts (before x z) (ascends_by before (z ∷ zs)) h).0
   first_before x (z ∷ zs) (suc k) y h s =
       let p = and_parts (before x z) (ascends_by before (z ∷ zs)) h in
@@ -31,8 +32,8 @@ module _ {X : Type 0} (before : X → X → Bool)
   first_one : (x y : X) (xs ys : List X) → ascends_by before (x ∷ xs) ≡ true
       → ascends_by before (y ∷ ys) ≡ true → (i : ℕ) → slice_get (y ∷ ys) i ≡ Some x
       → (j : ℕ) → slice_get (x ∷ xs) j ≡ Some y → x ≡ y
-  first_one x y xs ys h k zero s j t = sym (some_is y x s)
-  first_one x y xs ys h k (suc i) s zero t = some_is x y t
+  first_one x y xs ys h k zero s j t = sym (same_Some y x s)
+  first_one x y xs ys h k (suc i) s zero t = same_Some x y t
   first_one x y xs ys h k (suc i) s (suc j) t =
       absurd (never x (trans x y x (first_before x xs j y h t) (first_before y ys i x k s)))
 
@@ -44,7 +45,7 @@ module _ {X : Type 0} (before : X → X → Bool)
       by : (i : ℕ) (z : X) → slice_get xs i ≡ Some z → (j : ℕ) → slice_get (x ∷ ys) j ≡ Some z
           → (k : ℕ) × (slice_get ys k ≡ Some z)
       by i z s zero t =
-          absurd (never x (subst (λ (w : X). before x w ≡ true) (sym (some_is x z t))
+          absurd (never x (subst (λ (w : X). before x w ≡ true) (sym (same_Some x z t))
           (first_before x xs i z h s)))
       by i z s (suc j) t = (j, t)
 

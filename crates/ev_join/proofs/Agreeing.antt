@@ -12,6 +12,7 @@ use Rattle.std.proofs.lemmas.List.Sums.{prefix_len_passes, prefix_len_stops, pre
 use Rattle.std.proofs.lemmas.List.Sums.{prefix_len-drop_no, prefix_len-drop_yes}
 use Rattle.std.proofs.lemmas.List.Sums.{prefix_len-le-length}
 use Rattle.std.proofs.lemmas.Option.{slice_get-get_or}
+use Rattle.std.proofs.lemmas.Bool.{false_from_ne_true}
 use Rattle.ev_join.specs.declared.table.Row.{Row}
 use Rattle.ev_join.specs.Order.{IsNotBefore, is_not_before, is_begun, placing}
 use Rattle.ev_join.specs.Tables.{TableValue, IsTable}
@@ -51,16 +52,12 @@ front_fails p (x ∷ xs) (suc i) h fails =
     (λ k d l r. fails (suc k) d (omega arith) (omega arith)))
 
 -- where a list is parted, its front that passes is all that passes
-pub no_pass : (b : Bool) → (b ≡ true → ⊥) → b ≡ false
-no_pass true h = absurd (h refl)
-no_pass false h = refl
-
 pub begun_parted : {X : Type 0} (p : X → Bool) (xs : List X) (n : ℕ) → n ≡ prefix_len p xs
     → IsPartitionedBy p xs
     → AllWithin (λ y. p y ≡ true) xs 0 n × AllWithin (λ y. p y ≡ false) xs n (length xs)
 begun_parted p xs n e parted = (
   λ k d low less. prefix_len_passes p xs k d (omega (arith, e, less)),
-  λ k d low less. no_pass (p (get_or xs k d)) (λ so.
+  λ k d low less. false_from_ne_true (p (get_or xs k d)) (λ so.
       let stop : p (get_or xs n d) ≡ false =
       rw e (prefix_len_stops p xs d (omega (arith, e, low, less))) in
       true≢false (sym (parted n k d low less so) ∙ stop)),

@@ -4,11 +4,11 @@ use Rattle.std.proofs.Common.{length, get_or}
 use Rattle.std.proofs.Common.{refl, arith, ap, sym, ◌∙◌}
 use Rattle.std.specs.List.{AllWithin}
 use Rattle.std.proofs.lemmas.List.{get_or_read}
+use Rattle.std.proofs.lemmas.Bool.{false_from_ne_true}
 use Rattle.ev_join.specs.declared.table.Row.{Row}
 use Rattle.ev_join.specs.Order.{is_not_before}
 use Rattle.ev_join.specs.Tables.{TableValue, IsTable}
 use Rattle.ev_join.specs.Search.{IsFirstFrom}
-use Rattle.ev_join.proofs.Agreeing.{no_pass}
 use Rattle.ev_join.proofs.Seeking.{parted_before}
 
 unnot : (b : Bool) → not b ≡ true → b ≡ false
@@ -28,7 +28,7 @@ module _ (t : TableValue) (h : IsTable t) (k : List ℕ) where
       → is_not_before r.values k ≡ true
       → AllWithin (λ (s : Row). before s ≡ false) t.rows at (length t.rows)
   behind at r lt is here i d low less =
-      no_pass (before (get_or t.rows i d)) (λ so.
+      false_from_ne_true (before (get_or t.rows i d)) (λ so.
       let e : before (get_or t.rows at d) ≡ true = parted_before t h k at i d low less so in
       let same : r ≡ get_or t.rows at d = get_or_read t.rows at r lt is d in
       let wrong : not true ≡ true = ap not (sym here) ∙ (ap before same ∙ e) in

@@ -14,9 +14,8 @@
 //! iterators so that this happens only where nothing ties them.
 //!
 //! **Promises.** [`join`] answers all candidates, each once, in order, and the number of their
-//! links, where these are no more than its limit, and else refuses. It does no more work than the
-//! links up to the limit ask for. [`in_order`] puts bindings in order. Want of memory is the one
-//! other answer.
+//! links, where these are no more than its limit, and else refuses. [`in_order`] puts bindings in
+//! order. Want of memory is the one other answer.
 #![tactic(auto)]
 
 mod join_fault;

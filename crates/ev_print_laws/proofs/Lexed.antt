@@ -1,21 +1,21 @@
 -- The tokens of a text carry nothing but what is read again when it is printed.
-use Rattle.std.proofs.Common.{◌≡◌, ◌⊎◌, inl, inr, ℕ, suc, ◌+◌, ◌-◌, ◌*◌, ◌/◌, ◌%◌, ◌^◌, ◌<◌, ◌≤◌}
+use Rattle.std.proofs.Common.{◌≡◌, ◌⊎◌, inl, inr, ℕ, suc, ◌+◌, ◌-◌, ◌^◌, ◌<◌, ◌≤◌}
 use Rattle.std.proofs.Common.{Bool, true, false, ◌&&◌, ◌||◌, ◌==◌, nat_lt, nat_le, List, [], ◌∷◌}
-use Rattle.std.proofs.Common.{◌++◌, length, take, drop, map, Option, Some, None, if◌then◌else◌}
+use Rattle.std.proofs.Common.{◌++◌, length, take, drop, Option, Some, None, if◌then◌else◌}
 use Rattle.std.proofs.Common.{refl, sym, ◌∙◌, ap, subst, append_assoc, length-append, arith}
 use Rattle.std.specs.Char.{is_ascii_alphabetic, is_ascii_digit}
 use Rattle.std.specs.Fmt.{decimal}
 use Rattle.std.specs.List.{list_all, prefix_len}
 use Rattle.std.specs.Option.{option_map, is_none}
 use Rattle.std.proofs.lemmas.Bool.Decides.{nat_tests}
-use Rattle.std.proofs.lemmas.Bool.{le-leb, leb-true}
+use Rattle.std.proofs.lemmas.Bool.{le-leb, leb-true, and_from, or_left, or_right}
 use Rattle.std.proofs.lemmas.Fmt.{decimal_is_IsNumeral}
 use Rattle.std.proofs.lemmas.Option.{same_Some}
 use Rattle.fm_bytes.specs.Decimals.{are_digits, leads_plainly, number_of, within, digits_within}
 use Rattle.fm_bytes.proofs.Booleans.{and_parts}
 use Rattle.fm_bytes.proofs.Numerals.{decimal_numeral}
 use Rattle.std.proofs.lemmas.List.{take_at, drop_at, length-take-le, map-append, take-append-drop}
-use Rattle.std.proofs.lemmas.List.Folds.{list_all-append, length-prefix_len}
+use Rattle.std.proofs.lemmas.List.Folds.{length-prefix_len}
 use Rattle.fm_name.specs.Class.{is_class}
 use Rattle.ev_lex.specs.Bytes.{count_while, opens, opens_word, is_word_byte, is_text_byte, is_blank}
 use Rattle.ev_lex.specs.Bytes.{is_in_line, int_value}
@@ -56,10 +56,6 @@ and_one false c f = f
 and_two : (a c : Bool) → (a && c) ≡ true → c ≡ true
 and_two true c f = f
 and_two false c f = absurd (cc)
-
-and_both : (a c : Bool) → a ≡ true → c ≡ true → (a && c) ≡ true
-and_both true c e f = f
-and_both false c e f = absurd (cc)
 
 count-prefix : (test : ℕ → Bool) (bs : List ℕ) → count_while test bs ≡ prefix_len test bs
 count-prefix test bs = length-prefix_len test bs
@@ -367,11 +363,7 @@ take_more : (m b : ℕ) (bs : List ℕ) → take (1 + m) (b ∷ bs) ≡ b ∷ ta
 take_more m b bs = ap (λ n. take n (b ∷ bs)) (let e : 1 + m ≡ suc m = omega arith in e)
 
 on_word : (b : ℕ) (bs : List ℕ) → is_word_byte b ≡ true → goes_on b bs ≡ true
-on_word b bs e = or_one (is_word_byte b) ((b == 45 || b == 46) && opens_word bs) e
-  where
-    or_one : (a c : Bool) → a ≡ true → (a || c) ≡ true
-    or_one true c f = refl
-    or_one false c f = absurd (cc)
+on_word b bs e = or_left (is_word_byte b) ((b == 45 || b == 46) && opens_word bs) e
 
 joined_opens : (b : ℕ) (bs : List ℕ) → goes_on b bs ≡ true → (c : Bool) → is_word_byte b ≡ c
     → ((is_word_byte b ≡ true) ⊎ (((b == 45 || b == 46) ≡ true) × (opens_word bs ≡ true)))
@@ -401,17 +393,13 @@ still_on : (b : ℕ) (bs rest : List ℕ) → goes_on b bs ≡ true
     → goes_on b (take (word_length bs) bs ++ rest) ≡ true
 still_on b bs rest e = by_cases (joined_opens b bs e (is_word_byte b) refl)
   where
-    or_two : (a c : Bool) → c ≡ true → (a || c) ≡ true
-    or_two true c f = refl
-    or_two false c f = f
-
     by_cases : ((is_word_byte b ≡ true) ⊎ (((b == 45 || b == 46) ≡ true) × (opens_word bs ≡ true)))
         → goes_on b (take (word_length bs) bs ++ rest) ≡ true
     by_cases (inl w) = on_word b (take (word_length bs) bs ++ rest) w
     by_cases (inr j) =
-        or_two (is_word_byte b)
+        or_right (is_word_byte b)
         ((b == 45 || b == 46) && opens_word (take (word_length bs) bs ++ rest))
-        (and_both (b == 45 || b == 46) (opens_word (take (word_length bs) bs ++ rest)) j.0
+        (and_from (b == 45 || b == 46) (opens_word (take (word_length bs) bs ++ rest)) j.0
         (word_opens bs rest j.1))
 
 length_again : (bs rest : List ℕ)

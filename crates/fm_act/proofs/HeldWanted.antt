@@ -10,14 +10,11 @@ use Rattle.std.proofs.lemmas.List.Elements.{Contains-append_left}
 use Rattle.std.proofs.lemmas.List.Elements.{Contains-append_right, Contains-append_cases}
 use Rattle.std.proofs.lemmas.List.Elements.{Contains-push_cases}
 use Rattle.std.proofs.lemmas.Map.Views.{btree_set_contains_iff, btree_set_contains_from_list}
+use Rattle.std.proofs.lemmas.Bool.{cases_Bool}
 use Rattle.fm_name.specs.Order.{path_cmp}
 use Rattle.fm_name.specs.OrderLaws.{path_cmp_total, path_tie}
 use Rattle.fm_act.specs.Changes.{AddsPaths, TakesPaths}
 use Rattle.fm_act.specs.Reconciled.{is_of_kind, BecomesWanted, HoldsWanted}
-
-cases_of_bool : (b : Bool) → (b ≡ true) ⊎ (b ≡ false)
-cases_of_bool true = inl refl
-cases_of_bool false = inr refl
 
 -- ---- what a filter keeps
 
@@ -99,7 +96,7 @@ holds_wanted kind wanted listed wants holds ys zs ready takes adds = λ q.
           wish.0 (mine.0 (neither (contains path_cmp wants q)
           (λ n. left.0 (others.1 (there.1 left.1, n))))))
           ((adds q).0 c)),
-      (λ both. (adds q).1 (elim (cases_of_bool (contains path_cmp holds q)) [
+      (λ both. (adds q).1 (elim (cases_Bool (contains path_cmp holds q)) [
         | inl e ↦ inr ((takes q).1 (
           (λ m. not_both (contains path_cmp wants q) (mine.1 (wish.1 both)) (others.0 m).1),
           there.0 e,

@@ -19,9 +19,10 @@ pub enum ActFault {
 /// Why actuators do not all hold what is wanted.
 #[derive(Clone, Copy, Debug, PartialEq, Eq)]
 pub enum ActRefused {
-    /// The actuator at this place failed, and none before it did. Those behind it went on.
+    /// The actuator at this place failed, and none before it did. Those that did not fail hold what
+    /// is wanted.
     Act { index: u32 },
-    /// Memory was wanted and not to be had. The actuators behind were left alone.
+    /// Memory was wanted and not to be had.
     NoMemory,
 }
 

@@ -3,8 +3,8 @@
 //! An `Actuator` is for resources of one kind: those whose path ends in a part of that name. It
 //! holds a set of paths, and takes a path in or out at a call. `reconcile` brings each of a list of
 //! actuators to hold exactly the wanted paths of its kind: it lists what an actuator holds, takes
-//! back what is not wanted, and retires what is missing. A path that is held and wanted costs no
-//! call. An actuator whose call fails is left as it is then, and the others go on.
+//! back what is not wanted, and retires what is missing. Where an actuator fails, the others are
+//! brought there all the same, and nothing is said of what it holds then.
 //!
 //! Contracts see an actuator as its kind, the paths that it holds, where it tells them, and its
 //! count of failures (`specs/Reconciled`, `ActuatorState`). What the calls do to the set is said

@@ -51,10 +51,10 @@ pub fn settle_actuators<A: ActCalls>(
     }
 }
 
-/// Brings each actuator to hold exactly the wanted paths whose last name is its kind. An actuator
-/// whose call fails is left as it is then, and the others go on; the first such is answered. Want
-/// of memory ends the work on all. What is said of paths is said of actuators that held at most
-/// 65,536.
+/// Brings each actuator to hold exactly the wanted paths whose last name is its kind. Where some
+/// fail, the others are brought there all the same, and the first that failed is answered. After
+/// want of memory nothing is said of what any holds. What is said of paths is said of actuators
+/// that held at most 65,536.
 pub fn reconcile(
     alloc: Global,
     acts: &mut [Box<dyn Actuator + Send>],

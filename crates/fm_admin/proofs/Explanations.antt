@@ -12,7 +12,7 @@ use Rattle.fm_store.specs.StoreOf.{StoreOf, StoreStandsFor, force_at}
 use Rattle.fm_admin.specs.Explaining.{IsExplanationOf, IsTextOfFound}
 use Rattle.fm_admin.specs.Rows.{row_with}
 use Rattle.fm_admin.specs.Telling.{IsDrainedOf}
-use Rattle.fm_admin.proofs.Tellings.{drained_same}
+use Rattle.fm_drain.proofs.BasedBooks.{drained_same}
 
 -- the number of the configuration in force is that of the book
 pub force_is : {D M : Type 0} (g : Ghosts D) (fresh : List ModuleState) (store : StoreOf D M)

@@ -46,7 +46,8 @@ use Rattle.fm_admin.specs.Telling.{TellRefused, WasDrained}
 use Rattle.fm_command.specs.declared.request.RepairOrder.{RepairOrder}
 use Rattle.fm_admin.specs.declared.repairing.Repaired.{Repaired}
 use Rattle.fm_admin.proofs.Repairs.{accepted_alike}
-use Rattle.fm_admin.proofs.Tellings.{drained_same, refused_on, tell_full, told_on}
+use Rattle.fm_admin.proofs.Tellings.{refused_on, tell_full, told_on}
+use Rattle.fm_drain.proofs.BasedBooks.{drained_same}
 
 module _ {M : Type 0} (m : ModuleGhosts M) where
   -- a hand at the end has the state of its module in the drained book

@@ -37,7 +37,8 @@ use Rattle.fm_admin.specs.Repairing.{TellsRepaired, TookOne}
 use Rattle.fm_admin.specs.Telling.{IsDrainedOf, TellRefused, TellsBook}
 use Rattle.fm_admin.specs.Telling.{WasDrained}
 use Rattle.fm_admin.specs.declared.repairing.Repaired.{Repaired}
-use Rattle.fm_admin.proofs.Tellings.{drained_same, tell_full}
+use Rattle.fm_admin.proofs.Tellings.{tell_full}
+use Rattle.fm_drain.proofs.BasedBooks.{drained_same}
 
 -- an entry that is no Reload may come at any place
 no_reload : (known n : ℕ) (e : Entry) → is_reload e ≡ false → ReloadsRise known n (e ∷ [])

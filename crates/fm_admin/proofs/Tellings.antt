@@ -1,5 +1,5 @@
 -- What a drain and a reading of the fault log come to.
-use Rattle.std.proofs.Common.{◌≡◌, inl, inr, ℕ, ◌≤◌, length, true, ◌==◌, List, [], map, Option}
+use Rattle.std.proofs.Common.{◌≡◌, inl, inr, ℕ, ◌≤◌, length, true, ◌==◌, List, map}
 use Rattle.std.proofs.Common.{Some, None}
 use Rattle.std.proofs.Common.{Result, Ok, Err, IfOk, IfErr, IsTrue, refl, sym, ◌∙◌, ap, subst}
 use Rattle.std.specs.List.{slice_get}
@@ -15,7 +15,7 @@ use Rattle.fm_core.specs.Hands.{HandOf}
 use Rattle.fm_core.specs.declared.module.Module.{Ghosts as ModuleGhosts}
 use Rattle.fm_core.proofs.Drains.{cursor_of}
 use Rattle.fm_core.proofs.Lists.{list_all_get}
-use Rattle.fm_core.proofs.Runs.{ends_drained, run_lawful, with_none}
+use Rattle.fm_core.proofs.Runs.{ends_drained, run_lawful}
 use Rattle.fm_core.proofs.Tests.{true_eq}
 use Rattle.fm_drain.specs.DrainCalls.{AllFollow, AreAtCursors, DrainDoes, DrainsOnBook}
 use Rattle.fm_drain.specs.DrainCalls.{IsAtCursor, IsStopped, OnlyCommitted, StaysOpen, StopsFull}
@@ -46,14 +46,8 @@ use Rattle.fm_store.proofs.StoreReads.{like_through, store_reads}
 use Rattle.fm_admin.specs.Telling.{IsDrainedOf, IsFaultyOf, StandsTold}
 use Rattle.fm_admin.specs.Telling.{TellRefused, TellsBook, WasDrained}
 use Rattle.fm_drain.proofs.Left.{moments_read, moments_still}
-
-none_some : {X : Type 0} {x : X} {o : Option X} → o ≡ None → o ≡ Some x → ⊥
-none_some {x = x} none some =
-    let both : None ≡ Some x = sym none ∙ some in
-    cc
-
-pub drained_same : (one other : Book) → DrainAlike one other → drained one ≡ drained other
-drained_same one other alike = sym (with_none one) ∙ (alike [] ∙ with_none other)
+use Rattle.fm_core.proofs.Options.{none_some}
+use Rattle.fm_drain.proofs.BasedBooks.{drained_same}
 
 -- works that bring each module to its end drain a book
 pub drained_of : (k : StoreBook) (works : List ℕ) → IsLawful k.book

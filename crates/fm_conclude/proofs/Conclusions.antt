@@ -6,15 +6,13 @@ use Rattle.std.proofs.lemmas.Result.{IfOk-weaker, IfErr-weaker}
 use Rattle.fm_outer.specs.Failures.{Rose}
 use Rattle.fm_outer.specs.declared.disk.Disk.{Ghosts}
 use Rattle.fm_outer.proofs.Moments.{OnlyNow}
-use Rattle.fm_core.specs.Book.{Book, ModuleState, is_done, next_number}
+use Rattle.fm_core.specs.Book.{ModuleState, is_done, next_number}
 use Rattle.fm_core.specs.Drained.{Drained, drained}
 use Rattle.fm_core.specs.Hands.{HandOf}
 use Rattle.fm_core.specs.declared.module.Module.{Ghosts as ModuleGhosts}
-use Rattle.fm_core.proofs.Runs.{with_none}
 use Rattle.fm_entry.specs.declared.entry.Entry.{Entry}
 use Rattle.fm_logs.specs.Contents.{Contents}
 use Rattle.fm_logs.specs.LogReads.{ReadsSpoken, UnreadLog}
-use Rattle.fm_logs.specs.LogsBook.{DrainAlike}
 use Rattle.fm_logs.specs.LogsOf.{LogsOf}
 use Rattle.fm_logs.specs.StoreBook.{StoreBook}
 use Rattle.fm_logs.specs.declared.disks.DiskName.{DiskName}
@@ -37,11 +35,8 @@ use Rattle.fm_conclude.specs.Concluding.{ConcludeRefused, ConcludesBook, FullAtL
 use Rattle.fm_conclude.specs.Concluding.{NoDiskFailed, StandsConcluded, TellsOf}
 use Rattle.fm_conclude.specs.declared.concluding.Conclusion.{Conclusion}
 use Rattle.fm_conclude.proofs.Counts.{others_read}
-
-none_some : {X : Type 0} {x : X} {o : Option X} → o ≡ None → o ≡ Some x → ⊥
-none_some {x = x} none some =
-    let both : None ≡ Some x = sym none ∙ some in
-    cc
+use Rattle.fm_core.proofs.Options.{none_some}
+use Rattle.fm_drain.proofs.BasedBooks.{drained_same}
 
 err_ok : {X Y : Type 0} {x : X} {y : Y} → Err y ≡ Ok x → ⊥
 err_ok same = cc
@@ -53,9 +48,6 @@ count_of g fresh store k st =
     let base : store.logs.base ≡ k.book.base = st.base_is in
     let count : length store.logs.entries ≡ length k.book.entries = ap length st.entries_are in
     omega (arith, base, count)
-
-drained_same : (one other : Book) → DrainAlike one other → drained one ≡ drained other
-drained_same one other alike = sym (with_none one) ∙ (alike [] ∙ with_none other)
 
 module _ {D M : Type 0} (g : Ghosts D) where
   -- ---- refusals

@@ -1,6 +1,6 @@
 -- Work alone: what it keeps of a core, and how far the modules come.
 use Rattle.std.proofs.Common.{◌≡◌, ◌≢◌, ℕ, suc, ◌+◌, ◌-◌, ◌<◌, ◌≤◌, Bool, true, ◌&&◌, ◌==◌, IsTrue}
-use Rattle.std.proofs.Common.{List, [], ◌∷◌, length, map, get_or, Option, Some, None, Result, Ok}
+use Rattle.std.proofs.Common.{append-nil, append_assoc, ◌++◌, List, [], ◌∷◌, length, map, get_or, Option, Some, None, Result, Ok}
 use Rattle.std.proofs.Common.{Err, OnOk, OnErr, ◌⊎◌, inl, inr, refl, sym, ◌∙◌, ap, subst, arith}
 use Rattle.std.specs.List.{slice_get, list_all}
 use Rattle.std.proofs.lemmas.Bool.{cases_eq, cases_lt}
@@ -11,7 +11,8 @@ use Rattle.fm_core.specs.Hands.{Shown}
 use Rattle.fm_core.specs.Book.{ModuleState, Book, next_number, worked, worked_at, worked_on}
 use Rattle.fm_core.specs.Book.{is_done, state_at, with_entries}
 use Rattle.fm_entry.specs.declared.spoken.Spoken.{Spoken}
-use Rattle.fm_core.specs.Meaning.{State}
+use Rattle.fm_core.specs.Meaning.{State, says_of}
+use Rattle.fm_core.specs.Folds.{records_at}
 use Rattle.fm_core.specs.Records.{of_module}
 use Rattle.fm_core.specs.Drained.{Ended, ended, drained}
 use Rattle.fm_core.specs.Seen.{Seen, book_of, modules_now, Follows, IsCore, OnlyWorked, HasComeTo}
@@ -29,6 +30,7 @@ record Still (k w : Book) (i : ℕ) : Type 0 where
   entries_same : w.entries ≡ k.entries
   modules_same : w.modules ≡ k.modules
   others : (j : ℕ) → j ≢ i → slice_get w.cursors j ≡ slice_get k.cursors j
+  records_grow : (said : List Spoken) × (w.records ≡ k.records ++ said)
 
 still : (k : Book) (i : ℕ) → Still k k i
 still k i = record {
@@ -37,6 +39,7 @@ still k i = record {
   modules_same = refl;
   others =
       λ j ne. refl;
+  records_grow = ([], sym (append-nil k.records));
 }
 
 still_on : (k : Book) (i : ℕ) (p : ModuleState) (c : ℕ) (found : Option Entry)
@@ -49,6 +52,10 @@ still_on k i p c (Some e) =
       modules_same = refl;
       others =
           λ j ne. get_set_other k.cursors i j (c + 1) ne;
+      records_grow = (
+        records_at p.meaning.own c (says_of p.meaning (state_at k p c) c e),
+        refl,
+      );
     }
 
 still_at : (k : Book) (i : ℕ) (part : Option ModuleState) (cursor : Option ℕ)
@@ -70,6 +77,7 @@ only_same c h = record {
       refl;
   as_many_same = refl;
   drains_same = λ more. refl;
+  records_grow = ([], sym (append-nil c.records));
 }
 
 pub only_equal : (a b c : Seen) → OnlyWorked a b → c ≡ b → OnlyWorked a c
@@ -85,6 +93,11 @@ only_both a b c f g =
       modules_same = g.modules_same ∙ f.modules_same;
       as_many_same = g.as_many_same ∙ f.as_many_same;
       drains_same = λ more. g.drains_same more ∙ f.drains_same more;
+      records_grow = (
+        f.records_grow.0 ++ g.records_grow.0,
+        g.records_grow.1 ∙ ap (λ rs. rs ++ g.records_grow.0) f.records_grow.1
+            ∙ append_assoc a.records f.records_grow.0 g.records_grow.0,
+      );
     }
 
 -- one move of work
@@ -100,6 +113,7 @@ only_worked a b i h g many e =
       as_many_same = many;
       drains_same = λ more. ap (λ k. drained (with_entries k more)) e
           ∙ drained_worked (book_of a) i more h.lawful;
+      records_grow = (s.records_grow.0, ap (λ k. k.records) e ∙ s.records_grow.1);
     }
 
 -- the cursors of the other modules stay

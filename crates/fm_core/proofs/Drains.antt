@@ -1,6 +1,6 @@
 -- What a book drains to, and what each move keeps of it.
 use Rattle.std.proofs.Common.{◌≡◌, ℕ, ◌+◌, ◌-◌, ◌<◌, ◌≤◌, Bool, true, false, cond, ◌&&◌, nat_lt}
-use Rattle.std.proofs.Common.{nat_le, ◌==◌, List, [], ◌∷◌, ◌++◌, length, map, get_or, Option, Some}
+use Rattle.std.proofs.Common.{nat_le, max, ◌==◌, List, [], ◌∷◌, ◌++◌, length, map, get_or, Option, Some}
 use Rattle.std.proofs.Common.{None, refl, sym, ◌∙◌, ap, subst, append-nil, append_assoc}
 use Rattle.std.proofs.Common.{length-append, arith}
 use Rattle.std.proofs.lemmas.List.Elements.{filter-append}
@@ -9,12 +9,14 @@ use Rattle.std.specs.List.{slice_get, slice_set}
 use Rattle.fm_entry.specs.declared.entry.Entry.{Entry}
 use Rattle.fm_entry.specs.declared.list_event.ListEvent.{ListEvent}
 use Rattle.fm_entry.specs.declared.spoken.Spoken.{Spoken}
+use Rattle.fm_entry.specs.Entries.{moment_of}
 use Rattle.fm_core.specs.Meaning.{says_of}
 use Rattle.fm_core.specs.Folds.{state_along, words_along, records_at}
 use Rattle.fm_core.specs.Records.{of_module, numbered_before}
 use Rattle.fm_core.specs.Book.{ModuleState, Book, next_number, state_at, IsPlaced, IsLawful}
 use Rattle.fm_core.specs.Book.{accepted, worked, worked_at, worked_on, floor_of, fallen, fallen_at}
 use Rattle.fm_core.specs.Book.{floored, is_done, based, rebased, with_entries, greatest_of}
+use Rattle.fm_core.specs.Book.{greatest_from}
 use Rattle.fm_core.specs.Drained.{ended, Drained, drained}
 use Rattle.fm_core.proofs.Lists.{filter_swap, map_same, map_map, list_all_get}
 use Rattle.fm_core.proofs.Tests.{true_eq}
@@ -27,11 +29,18 @@ abbrev pub drained_by : Book → List Entry → List Spoken → Drained
 drained_by k es below =
     record {
       count = k.base + length es;
+      moment = greatest_from k.moment es;
       modules = map (λ p. record {
         state = state_along p.meaning p.state k.base es;
         words = of_module p.meaning.own below ++ words_along p.meaning p.state k.base es;
       }) k.modules;
     }
+
+-- the greatest moment of two lists is that of the second, from that of the first
+pub greatest_append : (t : ℕ) (es more : List Entry)
+    → greatest_from t (es ++ more) ≡ greatest_from (greatest_from t es) more
+greatest_append t [] more = refl
+greatest_append t (e ∷ es) more = greatest_append (max t (moment_of e)) es more
 
 -- records from the base on change nothing of what a book drains to, and nor do cursors
 pub drained_beside : (k : Book) (cs : List ℕ) (rs : List Spoken) (es : List Entry)
@@ -199,6 +208,8 @@ based_by_drained k es h true e =
     } in
     let count : next_number k + length es ≡ k.base + length (k.entries ++ es) =
     omega (arith, length-append k.entries es) in
+    let moment : greatest_from (greatest_of k) es ≡ greatest_from k.moment (k.entries ++ es) =
+    sym (greatest_append k.moment k.entries es) in
     let modules : map (ended next) (map (rebased k) k.modules)
     ≡ map (ended (with_entries k es)) k.modules =
     map_map (rebased k) (ended next) k.modules

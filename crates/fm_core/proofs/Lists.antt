@@ -1,8 +1,9 @@
 -- Lists: facts of each element, what a filter keeps, and elements by place.
-use Rattle.std.proofs.Common.{◌≡◌, ◌≢◌, ℕ, zero, suc, ◌+◌, Bool, true, false, ◌&&◌, List, [], ◌∷◌}
+use Rattle.std.proofs.Common.{◌≡◌, ◌≢◌, ℕ, zero, suc, ◌+◌, Bool, true, false, List, [], ◌∷◌}
 use Rattle.std.proofs.Common.{◌++◌, take, map, set, Some, length, refl, ap, add-one, arith}
 use Rattle.std.proofs.lemmas.Option.{same_Some}
 use Rattle.std.specs.List.{AllByRecursion, filter, slice_get, list_all}
+use Rattle.std.proofs.lemmas.Bool.{and_parts}
 
 -- a fact of each element of two lists is one of each element of both
 pub all_append : {X : Type 0} (P : X → Type 0) (xs ys : List X) → AllByRecursion P xs
@@ -136,14 +137,10 @@ pub map_map : {X Y Z : Type 0} (f : X → Y) (g : Y → Z) (xs : List X)
 map_map f g [] = refl
 map_map f g (x ∷ xs) = ap (λ ys. g (f x) ∷ ys) (map_map f g xs)
 
-all_true : (a b : Bool) → (a && b) ≡ true → (a ≡ true) × (b ≡ true)
-all_true true b h = (refl, h)
-all_true false b h = absurd (let no : ⊥ = cc in no)
-
 -- each element of a list that all pass passes
 pub list_all_get : {X : Type 0} (p : X → Bool) (xs : List X) (i : ℕ) (x : X) → list_all p xs ≡ true
     → slice_get xs i ≡ Some x → p x ≡ true
 list_all_get p [] i x a h = absurd (let no : ⊥ = cc in no)
-list_all_get p (y ∷ xs) zero x a h = let f : p y ≡ true = (all_true (p y) (list_all p xs) a).0 in
+list_all_get p (y ∷ xs) zero x a h = let f : p y ≡ true = (and_parts (p y) (list_all p xs) a).0 in
     let e : y ≡ x = cc in rw (← e) f
-list_all_get p (y ∷ xs) (suc i) x a h = list_all_get p xs i x (all_true (p y) (list_all p xs) a).1 h
+list_all_get p (y ∷ xs) (suc i) x a h = list_all_get p xs i x (and_parts (p y) (list_all p xs) a).1 h

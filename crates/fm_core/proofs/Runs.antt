@@ -4,7 +4,7 @@ use Rattle.std.proofs.Common.{nat_le, ◌==◌, List, [], ◌∷◌, ◌++◌, l
 use Rattle.std.proofs.Common.{Some, None, inl, inr, refl, sym, ◌∙◌, ap, subst, append-nil, arith}
 use Rattle.std.proofs.lemmas.List.{length-map, length-set}
 use Rattle.std.proofs.lemmas.Option.{slice_get_within, same_Some}
-use Rattle.std.proofs.lemmas.Bool.{cases_eq}
+use Rattle.std.proofs.lemmas.Bool.{cases_eq, and_parts}
 use Rattle.std.specs.List.{AllByRecursion, slice_get, slice_set}
 use Rattle.fm_entry.specs.declared.entry.Entry.{Entry}
 use Rattle.fm_entry.specs.declared.list_event.ListEvent.{ListEvent}
@@ -141,17 +141,13 @@ fallen_placed k i c d h b low high j q e a' b' =
           placed_beside k cs k.records j q e refl (h.placed j q e a' there)
     ]
 
-and_true : (a b : Bool) → (a && b) ≡ true → (a ≡ true) × (b ≡ true)
-and_true true b h = (refl, h)
-and_true false b h = absurd (let no : ⊥ = cc in no)
-
 fallen_by_lawful : (k : Book) (i c d : ℕ) → IsLawful k → slice_get k.cursors i ≡ Some d
     → (allowed : Bool) → (nat_le (floor_of k i) c && nat_le c d) ≡ allowed
     → IsLawful (cond allowed (record k { cursors = slice_set k.cursors i c }) k)
 fallen_by_lawful k i c d h b false e = h
 fallen_by_lawful k i c d h b true e =
     let parts : (nat_le (floor_of k i) c ≡ true) × (nat_le c d ≡ true) =
-    and_true (nat_le (floor_of k i) c) (nat_le c d) e in
+    and_parts (nat_le (floor_of k i) c) (nat_le c d) e in
     record {
       as_many = length-set k.cursors i c ∙ h.as_many;
       named = h.named;

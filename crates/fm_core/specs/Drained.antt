@@ -6,7 +6,7 @@ use Rattle.fm_core.specs.Meaning.{State}
 use Rattle.fm_core.specs.Folds.{state_along, words_along}
 use Rattle.fm_core.specs.Records.{of_module, numbered_before}
 use Rattle.fm_core.specs.Book.{Book, ModuleState, next_number, state_at, IsLawful, Move, run}
-use Rattle.fm_core.specs.Book.{accepts_of, with_entries, floored}
+use Rattle.fm_core.specs.Book.{accepts_of, with_entries, floored, greatest_of}
 
 -- a module at the end: its state, and all that it ever said
 pub record Ended : Type 0 where
@@ -23,13 +23,19 @@ ended k p =
           ++ words_along p.meaning p.state k.base k.entries;
     }
 
--- a drained book: the number of entries ever, and each module at the end
+-- a drained book: the number of entries ever, their greatest moment, and each module at the end
 pub record Drained : Type 0 where
   pub count : ℕ
+  pub moment : ℕ
   pub modules : List Ended
 
 abbrev pub drained : Book → Drained
-drained k = record { count = next_number k; modules = map (ended k) k.modules }
+drained k =
+    record {
+      count = next_number k;
+      moment = greatest_of k;
+      modules = map (ended k) k.modules;
+    }
 
 -- A book with each module at its floor, as a book is that is read again: it is lawful where the
 -- book is, and drains to the same, also after more entries.

@@ -122,8 +122,8 @@ abbrev pub with_step : Seen → ℕ → Shown → Entry → Seen
 with_step c i h e =
     record c { hands = slice_set c.hands i (stepped h e); records = c.records ++ speech h e }
 
--- One core became another by work alone: it is in order, has the same entries and modules, and
--- drains to the same, also after more entries.
+-- One core became another by work alone: it is in order, has the same entries and modules, drains
+-- to the same, also after more entries, and what was spoken since stands behind the records.
 pub record OnlyWorked (old new : Seen) : Type 0 where
   pub lawful : IsCore new
   pub base_same : new.base ≡ old.base
@@ -132,6 +132,7 @@ pub record OnlyWorked (old new : Seen) : Type 0 where
   pub as_many_same : length new.hands ≡ length old.hands
   pub drains_same : (more : List Entry)
       → drained (with_entries (book_of new) more) ≡ drained (with_entries (book_of old) more)
+  pub records_grow : (said : List Spoken) × (new.records ≡ old.records ++ said)
 
 -- what each module of a core has come to: the state of its hand, and what was spoken of it
 abbrev pub modules_now : Seen → List Ended

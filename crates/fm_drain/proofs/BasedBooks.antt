@@ -132,8 +132,9 @@ module_ends k i p lawful done got =
     ends_drained (book_at_end k) i p lawful got (c.1 ∙ ap Some there)
     ∙ ap (λ (s : State). Some (record { state = s; words = of_module i k.records })) state
 
-drains_same : (one other : Book) → DrainAlike one other → drained one ≡ drained other
-drains_same one other alike = sym (with_none one) ∙ (alike [] ∙ with_none other)
+-- books that drain alike drain to the same
+pub drained_same : (one other : Book) → DrainAlike one other → drained one ≡ drained other
+drained_same one other alike = sym (with_none one) ∙ (alike [] ∙ with_none other)
 
 pub based_of : (k : StoreBook) (works : List ℕ) → IsLawful k.book
     → is_done (store_after works k).book ≡ true
@@ -153,7 +154,7 @@ based_of k works lawful done =
       base_is = ap (λ (b : Book). b.base) end ∙ base;
       none_left = ap (λ (b : Book). b.entries) end;
       ends = λ i p got.
-          ap (λ d. slice_get d.modules i) (sym (drains_same (based w) k.book alike))
+          ap (λ d. slice_get d.modules i) (sym (drained_same (based w) k.book alike))
           ∙ (ap (λ (b : Book). slice_get (drained b).modules i) end
           ∙ (module_ends w i p (subst IsLawful end (lawful_based w worked)) done
           (ap (λ (b : Book). slice_get b.modules i) (sym end) ∙ got)

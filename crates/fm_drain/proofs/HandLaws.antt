@@ -1,5 +1,5 @@
 -- Steps of one hand, one after another.
-use Rattle.std.proofs.Common.{◌≡◌, inl, inr, ℕ, List, [], ◌++◌, Some, None}
+use Rattle.std.proofs.Common.{◌≡◌, inl, inr, ℕ, List, [], ◌++◌, None}
 use Rattle.std.proofs.Common.{Result, Ok, Err, OnOk, IfErr, refl, sym, ◌∙◌, ap, subst}
 use Rattle.fm_outer.specs.Failures.{Rose}
 use Rattle.fm_outer.specs.declared.disk.Disk.{Ghosts}
@@ -21,9 +21,7 @@ use Rattle.fm_drain.specs.DrainLimits.{StepLimit}
 use Rattle.fm_drain.specs.DrainSteps.{HandAnswers, HandDoes, HandOnBook}
 use Rattle.fm_drain.proofs.Works.{works_keep, follows_kept, run_both}
 use Rattle.fm_drain.proofs.Committing.{commits_none, commits_both}
-
-none_some : {X : Type 0} {x : X} → None ≡ Some x → ⊥
-none_some e = cc e
+use Rattle.fm_core.proofs.Options.{none_some}
 
 pub only_then : {D M : Type 0} (old mid new : StoreOf D M) → OnlyCommitted old mid
     → OnlyCommitted mid new → OnlyCommitted old new
@@ -50,7 +48,7 @@ module _ {D M : Type 0} (g : Ghosts D) (m : ModuleGhosts M) where
   stopped_then old mid new i h (Closed name failures) (inl same) why =
       subst (λ (s : StoreOf D M). StoppedAt g m s new i h (Closed name failures)) same why
   stopped_then old mid new i h (Closed name failures) (inr first) why =
-      absurd (none_some (sym first.1 ∙ why.1))
+      absurd (none_some first.1 why.1)
   stopped_then old mid new i h (Full kind) stays why =
       (stays_then old mid new stays why.0, why.1, why.2)
   stopped_then old mid new i h Disk (inl same) why =

@@ -39,6 +39,7 @@ use Rattle.fm_drain.specs.DrainCalls.{IsAtCursor, IsStepPast, MayBePast, OnlyCom
 use Rattle.fm_drain.specs.DrainCalls.{StoppedAt}
 use Rattle.fm_drain.specs.DrainLimits.{StepLimit}
 use Rattle.fm_drain.specs.DrainSteps.{HandDoes, HandOnBook}
+use Rattle.fm_core.proofs.Options.{none_some}
 
 -- there is an element at a place within a list
 pub there : {X : Type 0} (xs : List X) (i : ℕ) → i < length xs
@@ -277,7 +278,7 @@ module _ {D M : Type 0} (g : Ghosts D) (m : ModuleGhosts M) where
       → new.base ≡ old.base → IsStepPast m new.logs i now spoken → FramesShort spoken frame
       → CommitRefused g old.logs new.logs i n frame fault → StoppedAt g m old new i now fault
   stopped_by old new i n now spoken frame (Closed name failures) is_open beside past short why =
-      (same_store old new beside why.0, why.1)
+      absurd (none_some is_open why.1)
   stopped_by old new i n now spoken (Some payload) (Full kind) is_open beside past short why = (
     inl (same_store old new beside why.1.0),
     ap (λ (l : LogsOf D). l.closed) why.1.0 ∙ is_open,
@@ -389,7 +390,7 @@ module _ {D M : Type 0} (g : Ghosts D) (m : ModuleGhosts M) where
       → HandDoes g m store store hand hand (Err (Closed name failures))
   step_closed store hand name failures at closed =
       rests store hand hand (Closed name failures) (λ k base entries follows. follows) (inl at)
-      (refl, closed)
+      (refl, closed, at)
 
   -- after a refusal the store stands for the book still, unless it is closed
   refused_stands : (fresh : List ModuleState) (old new : StoreOf D M) (k : StoreBook) (i n : ℕ)
@@ -404,10 +405,7 @@ module _ {D M : Type 0} (g : Ghosts D) (m : ModuleGhosts M) where
       subst (λ (s : StoreOf D M). StoreStandsFor g fresh s k)
       (sym (same_store old new beside why.1.0)) st
   refused_stands fresh old new k i n (Some payload) Disk beside st why is_open =
-      absurd (none_some (sym is_open ∙ ap (λ (l : LogsOf D). l.closed) why.1.1.logs_are))
-    where
-      none_some : {X : Type 0} {x : X} → None ≡ Some x → ⊥
-      none_some e = cc e
+      absurd (none_some is_open (ap (λ (l : LogsOf D). l.closed) why.1.1.logs_are))
   refused_stands fresh old new k i n (Some payload) NoMemory beside st why is_open = absurd why.1
   refused_stands fresh old new k i n (Some payload) (Damaged name place) beside st why is_open =
       absurd why.1

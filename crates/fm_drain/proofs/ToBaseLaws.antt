@@ -45,11 +45,7 @@ use Rattle.fm_drain.specs.ToBase.{ToBaseRefused, ToBaseOnBook, StandsAtBase}
 use Rattle.fm_drain.proofs.BasedBooks.{based_none, based_of, hands_based}
 use Rattle.fm_drain.proofs.BaseLimitLaws.{checkpoint_limit, drain_limit}
 use Rattle.fm_drain.proofs.Left.{moments_still}
-
-none_some : {X : Type 0} {x : X} {o : Option X} → o ≡ None → o ≡ Some x → ⊥
-none_some {x = x} none some =
-    let both : None ≡ Some x = sym none ∙ some in
-    cc
+use Rattle.fm_core.proofs.Options.{none_some}
 
 -- the disk of the slot that is written next
 next_disk : {D M : Type 0} (f : Bool) (base : StoreOf D M) (newest : Option (Bool × ℕ))

@@ -77,12 +77,13 @@ StaysOpen g old new =
     (new ≡ old) ⊎ ((old.logs.closed ≡ None) × (new.logs.closed ≡ None)
     × (g.failures new.logs.flt.disk ≡ g.failures old.logs.flt.disk))
 
--- Why a drain stopped at the hand of module i: the store was closed before it, or what the module
--- said has no room in the fault log, or the fault log's disk failed. Want of memory alone is free.
+-- Why a drain stopped at the hand of module i: the store was closed before it, and the hand is at
+-- its cursor; or what the module said has no room in the fault log, or the fault log's disk failed.
+-- Want of memory alone is free.
 abbrev pub StoppedAt : {D M : Type 0} → Ghosts D → ModuleGhosts M → StoreOf D M → StoreOf D M → ℕ
     → HandOf M → StoreFault → Type 0
 StoppedAt g m old new i h (Closed name failures) =
-    (new ≡ old) × (old.logs.closed ≡ Some (name, failures))
+    (new ≡ old) × (old.logs.closed ≡ Some (name, failures)) × IsAtCursor m new.logs i h
 StoppedAt g m old new i h (Full kind) =
     StaysOpen g old new × (new.logs.closed ≡ None) × ((spoken : Spoken)
     × IsStepPast m new.logs i h spoken × CannotTake new.logs.flt (spoken_bytes spoken) kind)

@@ -12,6 +12,7 @@ use Rattle.fm_logs.specs.Contents.{Contents}
 use Rattle.fm_logs.specs.ReadsAsBook.{ReadsAsBook}
 use Rattle.fm_logs.specs.StoreBook.{IsLawfulStore, AreOfOneStore}
 use Rattle.fm_init.specs.Making.{IsNewStore, AreFirstModules, new_book}
+use Rattle.fm_core.proofs.Options.{none_some}
 
 -- before any slot is open
 abbrev first_checkpoint : Checkpoint
@@ -19,10 +20,7 @@ first_checkpoint = record { second = false; base = 0; moment = 0; conf = 0; stat
 
 -- each cursor is 0
 zero_there : {A : Type 0} (o : Option A) (c : ℕ) → option_map (λ _. 0) o ≡ Some c → c ≡ 0
-zero_there None c at = absurd (none_some at)
-  where
-    none_some : None ≡ Some c → ⊥
-    none_some e = cc e
+zero_there None c at = absurd (none_some refl at)
 zero_there (Some x) c at = sym (same_Some 0 c at)
 
 first_placed : (fresh : List ModuleState) (conf : Conf) (i : ℕ) (p : ModuleState) (c : ℕ)

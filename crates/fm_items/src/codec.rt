@@ -89,7 +89,7 @@ pub fn room_for<T>(alloc: Global, count: u32) -> Result<Vec<T>, NoMemory>
     Ok(Vec::with_capacity(alloc, count.min(FEW) as usize)?)
 }
 
-/// Reads so many items. It takes memory for those that are there, whatever the number is.
+/// Reads so many items. Before the first one is read, room is taken for four at most.
 pub fn take_items<T: Drop, C: Codec<T>>(
     input: &mut Input,
     alloc: Global,

@@ -17,7 +17,7 @@ use Rattle.fm_outer.proofs.Ranges.{range-range, range-take}
 use Rattle.fm_journal.specs.Format.{header, spelled, records, end_of, IsJournal}
 use Rattle.fm_journal.specs.JournalOf.{JournalOf}
 use Rattle.fm_journal.specs.Keeps.{Keeps}
-use Rattle.fm_journal.specs.Look.{IsRecordAt, HasNoRecord, AnyLength, Shows}
+use Rattle.fm_journal.specs.Look.{IsRecordAt, HasRecord, HasNoRecord, AnyLength, Shows}
 use Rattle.fm_journal.specs.declared.look.Look.TheVariants.{Record}
 use Rattle.fm_journal.proofs.Records.{length-spelled, end_of_is, end_of_push}
 use Rattle.fm_journal.proofs.Records.{length-front, records_append}
@@ -181,6 +181,26 @@ pub shown_is : (bytes : List ℕ) (at next : ℕ) (payload : List ℕ) (gate : �
 shown_is bytes at next payload gate rest shows there =
     let same = same_there bytes at shows.0 payload shows.1 gate shows.2 rest shows.4 there in
     omega (arith, shows.3, ap length same)
+
+-- a record that is shown stands there, with just so many bytes behind its length
+pub shown_stands : (bytes : List ℕ) (at next end : ℕ) → next ≤ end
+    → Shows (take (end + 1) bytes) at (Record next)
+    → HasRecord (λ payload. (length payload ≡ next - at - 5)
+    × (range (at + 5) (next - at - 5) bytes ≡ payload)) (take (end + 1) bytes) at
+shown_stands bytes at next end within shows =
+    let long : length shows.0 ≡ next - at - 5 = omega (arith, shows.3) in (
+      shows.0,
+      shows.1,
+      shows.2,
+      (
+        long,
+        ap (λ (n : ℕ). range (at + 5) n bytes) (sym long)
+            ∙ sym (range-take (at + 5) (length shows.0) (end + 1) bytes
+            (omega (arith, shows.3, within)))
+            ∙ payload_there (take (end + 1) bytes) at shows.0 shows.1 shows.2 shows.4,
+      ),
+      shows.4,
+    )
 
 -- behind the last record there is none
 pub none_at_end : (payloads : List (List ℕ)) (k : ℕ)

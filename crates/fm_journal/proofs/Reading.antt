@@ -12,6 +12,7 @@ use Rattle.fm_journal.specs.Keeps.{Keeps}
 use Rattle.fm_journal.specs.Look.{ShowsNext}
 use Rattle.fm_journal.specs.Reads.{ReadsAt}
 use Rattle.fm_journal.proofs.Places.{none_at_end, inside_end, next_kept, size_kept, payload_kept}
+use Rattle.fm_journal.proofs.Places.{shown_stands}
 
 module _ {D : Type 0} (g : Ghosts D) (journal : JournalOf D) (place room : ℕ) where
   -- at the end of the list
@@ -20,6 +21,7 @@ module _ {D : Type 0} (g : Ghosts D) (journal : JournalOf D) (place room : ℕ) 
   reads_none buffer here = record {
     at_end = search rules;
     within = search rules;
+    stands = tt;
     size_is = λ payloads k keeps at. none_at_end payloads k (sym at ∙ here ∙ keeps.ends);
     payload_is = λ payloads k payload keeps at is fits.
         absurd (omega (arith, inside_end payloads k payload is, at, here, keeps.ends));
@@ -27,8 +29,12 @@ module _ {D : Type 0} (g : Ghosts D) (journal : JournalOf D) (place room : ℕ) 
 
   module _ (next : ℕ) (before : place ≢ journal.end) (later : place + 5 ≤ next)
       (within_end : next ≤ journal.end)
-      (shown : (payloads : List (List ℕ)) (keeps : Keeps g journal payloads)
-      → ShowsNext (take (journal.end + 1) keeps.told.0) place (Some next)) where
+      (shows : (bytes : List ℕ) → g.seen journal.disk ≡ Some bytes
+      → ShowsNext (take (journal.end + 1) bytes) place (Some next)) where
+    shown : (payloads : List (List ℕ)) (keeps : Keeps g journal payloads)
+        → ShowsNext (take (journal.end + 1) keeps.told.0) place (Some next)
+    shown payloads keeps = shows keeps.told.0 keeps.told.1
+
     size_there : (payloads : List (List ℕ)) (k : ℕ) → Keeps g journal payloads
         → place ≡ end_of (take k payloads)
         → Some (next - place - 5) ≡ option_map length (slice_get payloads k)
@@ -56,6 +62,14 @@ module _ {D : Type 0} (g : Ghosts D) (journal : JournalOf D) (place room : ℕ) 
     reads_size buffer short = record {
       at_end = search rules;
       within = omega (arith, later, within_end);
+      stands = λ bytes told.
+          let there = shown_stands bytes place next journal.end within_end (shows bytes told) in (
+            there.0,
+            there.1,
+            there.2,
+            (there.3.0, λ fits. absurd (omega (arith, short, fits))),
+            there.4,
+          );
       size_is = size_there;
       payload_is = λ payloads k payload keeps at is fits.
           absurd (omega (arith, short, fits, long_there payloads k payload keeps at is));
@@ -69,6 +83,19 @@ module _ {D : Type 0} (g : Ghosts D) (journal : JournalOf D) (place room : ℕ) 
     reads_payload front behind read = record {
       at_end = search rules;
       within = omega (arith, later, within_end);
+      stands = λ bytes told.
+          let there = shown_stands bytes place next journal.end within_end (shows bytes told) in
+          let got : front ≡ there.0 = read bytes told ∙ there.3.1 in (
+            there.0,
+            there.1,
+            there.2,
+            (
+              there.3.0,
+              λ fits. ap (λ (l : List ℕ). take (next - place - 5) (l ++ behind)) got
+                  ∙ take_at there.0 behind (next - place - 5) there.3.0,
+            ),
+            there.4,
+          );
       size_is = size_there;
       payload_is = λ payloads k payload keeps at is fits.
           let there = long_there payloads k payload keeps at is in

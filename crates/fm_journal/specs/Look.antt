@@ -14,6 +14,11 @@ pub record IsRecordAt (bytes : List ℕ) (at : ℕ) (payload : List ℕ) (gate :
   pub short : length payload ≤ 2 ^ 28
   pub sized : at + 5 + length payload < 2 ^ 40
 
+-- a record stands at the place, of a payload of which P holds
+abbrev pub HasRecord : (List ℕ → Type 0) → List ℕ → ℕ → Type 0
+HasRecord P bytes at = (payload : List ℕ) × (gate : ℕ) × (rest : List ℕ) × P payload
+    × IsRecordAt bytes at payload gate rest
+
 -- a length of any payload
 abbrev pub AnyLength : ℕ → Type 0
 AnyLength n = Unit {0}

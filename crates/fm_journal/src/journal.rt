@@ -12,7 +12,7 @@ ghost use Rattle.fm_journal.specs.JournalOf.{blank_journal, appended};
 ghost use Rattle.fm_journal.specs.Keeps.{Keeps};
 ghost use Rattle.fm_journal.specs.Look.{AnyLength};
 ghost use Rattle.fm_journal.specs.Pieces.{IsPiece};
-ghost use Rattle.fm_journal.specs.Reads.{ReadsAt};
+ghost use Rattle.fm_journal.specs.Reads.{ReadsAt, StandsAt};
 ghost use Rattle.fm_journal.specs.declared.fault.JournalFault.{JournalFault};
 ghost use Rattle.fm_journal.specs.declared.fault.JournalFault.TheVariants.{Closed as IsClosedAt};
 
@@ -157,6 +157,8 @@ impl<D: Disk> Journal<D> {
         ensures found { IfOk result (λ size. (payloads : List (List ℕ)) (k : ℕ)
             → Keeps D.Disk self.old payloads → place ≡ end_of (take k payloads)
             → size ≡ option_map length (slice_get payloads k)) }
+        ensures stands { IfOk result (λ size. IfSome size (λ n.
+            StandsAt D.Disk self.old place (λ payload. length payload ≡ n))) }
         ensures at_end { IfOk result (λ size. IsNone size ↔ place ≡ self.old.end) }
         ensures within { IfOk result (λ size. IfSome size (λ n. place + 5 + n ≤ self.old.end)) }
         ensures same { self.new ≡ record self.old { disk = self.new.disk } }
@@ -185,6 +187,8 @@ impl<D: Disk> Journal<D> {
             → Keeps D.Disk self.old payloads → place ≡ end_of (take k payloads)
             → slice_get payloads k ≡ Some payload
             → (into.new ≡ payload) × (next ≡ end_of (take (k + 1) payloads))) }
+        ensures stands { OnOk result
+            (StandsAt D.Disk self.old place (λ payload. payload ≡ into.new)) }
         ensures within { IfOk result (λ next. (next ≡ place + 5 + length into.old)
             × (next ≤ self.old.end)) }
         ensures same { self.new ≡ record self.old { disk = self.new.disk } }

@@ -1,9 +1,9 @@
 //! A journal: one list of payloads on one disk, to which payloads are added one at a time.
 //!
-//! The disk begins with a header, eight letters and the first number. Records follow: a gate byte,
-//! the payload's length and the payload. A gate byte 1 is open and every other closed, and the list
-//! ends at the first closed gate. What stands behind that gate is not read, so a body that was torn
-//! in the writing does no harm there.
+//! The disk begins with a header, eight characters and the first number. Records follow: a gate
+//! byte, the payload's length and the payload. A gate byte 1 is open and every other closed, and
+//! the list ends at the first closed gate. What stands behind that gate is not read, so a body that
+//! was torn in the writing does no harm there.
 //!
 //! An append writes the length, the payload and a further closed gate behind the closed gate, and
 //! syncs. Only then it writes 1 over the gate, and syncs again. A crash in the first part leaves
@@ -27,7 +27,8 @@
 //!   journal, with the place where the reading stopped. It writes nothing, and reads the disk once,
 //!   in pieces of 64 KiB.
 //! - `size` and `read` give the payloads by their places, and say where the next one stands.
-//!   `read_piecewise` gives them one after another through a `Piece` of the disk.
+//!   `read_piecewise` gives them one after another through a `Piece` of the disk. At any place, of
+//!   the list or not, each gives only what a record that stands there has.
 //!
 //! After a failed write or sync nobody knows what the disk holds, so the journal is closed from
 //! then on and answers `Closed` until its disk is opened again. `Disk` comes only where the disk's

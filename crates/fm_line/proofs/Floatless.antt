@@ -1,17 +1,15 @@
 -- No float stands in what a list is as JSON.
 use Rattle.std.proofs.Common.{◌≡◌, ℕ, ℤ, pos, negsuc, List, [], ◌∷◌, Bool, true, false, ◌||◌}
-use Rattle.std.proofs.Common.{Ordering, Less, Equal, Greater, refl, ap, ◌∙◌, nat_cmp}
+use Rattle.std.proofs.Common.{Ordering, Less, Equal, Greater, refl, nat_cmp}
 use Rattle.std.specs.Ordering.{match_ordering}
 use Rattle.std.specs.Cmp.Lexicographic.{slice_cmp}
+use Rattle.std.proofs.lemmas.Bool.{or_from}
 use Rattle.serde_json.specs.Data.{Data, Members, no_members, member, put}
 use Rattle.serde_json.specs.Find.{is_float, of_integer}
 use Rattle.serde_json.specs.Written.{has_float, items_have_float, members_have_float}
 use Rattle.fm_nv.specs.Data as nv
 use Rattle.fm_line.specs.Printed.{data_of, lists_items, members_onto, payload_data, numbers_items}
 use Rattle.fm_line.specs.Printed.{texts_items, report_data}
-
-neither : (a b : Bool) → a ≡ false → b ≡ false → (a || b) ≡ false
-neither a b p q = ap (λ t. t || b) p ∙ q
 
 first_of_neither : (a b : Bool) → (a || b) ≡ false → a ≡ false
 first_of_neither true b h = h
@@ -30,14 +28,14 @@ chosen Greater a b c p q r = r
 
 put_floatless : (k : List ℕ) (d : Data) (ms : Members) → has_float d ≡ false
     → members_have_float ms ≡ false → members_have_float (put k d ms) ≡ false
-put_floatless k d no_members p q = neither (has_float d) false p refl
+put_floatless k d no_members p q = or_from (has_float d) false p refl
 put_floatless k d (member l e ms) p q =
     chosen (slice_cmp nat_cmp k l) (member k d (member l e ms)) (member l d ms)
     (member l e (put k d ms))
-    (neither (has_float d) (has_float e || members_have_float ms) p q)
-    (neither (has_float d) (members_have_float ms) p
+    (or_from (has_float d) (has_float e || members_have_float ms) p q)
+    (or_from (has_float d) (members_have_float ms) p
     (second_of_neither (has_float e) (members_have_float ms) q))
-    (neither (has_float e) (members_have_float (put k d ms))
+    (or_from (has_float e) (members_have_float (put k d ms))
     (first_of_neither (has_float e) (members_have_float ms) q)
     (put_floatless k d ms p (second_of_neither (has_float e) (members_have_float ms) q)))
 
@@ -67,7 +65,7 @@ mutual
   lists_floatless : (ls : nv.Lists) → items_have_float (lists_items ls) ≡ false
   lists_floatless nv.no_lists = refl
   lists_floatless (nv.list_then ps ls) =
-      neither (members_have_float (members_onto no_members ps)) (items_have_float (lists_items ls))
+      or_from (members_have_float (members_onto no_members ps)) (items_have_float (lists_items ls))
       (onto_floatless no_members ps refl) (lists_floatless ls)
 
   onto_floatless : (found : Members) (ps : nv.Pairs) → members_have_float found ≡ false
@@ -83,4 +81,4 @@ payload_floatless ps = onto_floatless no_members ps refl
 pub report_floatless : (class path : List ℕ) (moment : ℕ) (ps : nv.Pairs)
     → has_float (report_data class path moment ps) ≡ false
 report_floatless class path moment ps =
-    neither (has_float (payload_data ps)) false (payload_floatless ps) refl
+    or_from (has_float (payload_data ps)) false (payload_floatless ps) refl

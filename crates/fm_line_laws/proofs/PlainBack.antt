@@ -1,12 +1,12 @@
 -- What is printed in the plain form reads as the entry.
-use Rattle.std.proofs.Common.{◌≡◌, ℕ, zero, suc, ◌+◌, ◌-◌, ◌^◌, ◌<◌, ◌≤◌, ◌==◌, ◌&&◌, ◌++◌, ◌∷◌, []}
-use Rattle.std.proofs.Common.{List, Bool, true, false, cond, length, take, Some, None, Err, IsTrue}
+use Rattle.std.proofs.Common.{◌≡◌, ℕ, zero, suc, ◌+◌, ◌-◌, ◌^◌, ◌<◌, ◌≤◌, ◌==◌, ◌++◌, ◌∷◌, []}
+use Rattle.std.proofs.Common.{List, false, cond, length, take, Some, None, Err, IsTrue}
 use Rattle.std.proofs.Common.{refl, ap, ◌∙◌, arith, nat_lt, get_or, slice_index, length-append}
 use Rattle.std.proofs.Common.{decimal}
 use Rattle.std.specs.Char.{digit_value}
 use Rattle.std.specs.Str.{IsAscii}
 use Rattle.std.specs.Str.Parse.{AllDigits}
-use Rattle.std.proofs.lemmas.Bool.{lt-ltb, le-ltb, ltb-true}
+use Rattle.std.proofs.lemmas.Bool.{lt-ltb, le-ltb, ltb-true, and_right}
 use Rattle.std.proofs.lemmas.Bool.Decides.{nat_tests}
 use Rattle.std.proofs.lemmas.Fmt.{decimal_is_IsNumeral, decimal_nonempty}
 use Rattle.std.proofs.lemmas.List.{get_or-append_right}
@@ -110,16 +110,12 @@ decimal_ends n fits =
           (omega arith));
     }
 
-no_both : (a b : Bool) → b ≡ false → (a && b) ≡ false
-no_both true b h = h
-no_both false b h = refl
-
 -- such a line keeps its last byte
 return_kept : (line : List ℕ) → EndsPlainly line → without_return line ≡ line
 unfolding without_return
 return_kept line h =
     ap (λ t. cond t (take (length line - 1) line) line)
-    (no_both (nat_lt 0 (length line)) (slice_index line (length line - 1) == 13) h.last)
+    (and_right (nat_lt 0 (length line)) (slice_index line (length line - 1) == 13) h.last)
 
 -- a line within the limit is what its content says
 pub line_is : (line : List ℕ) → length line ≤ line_limit → EndsPlainly line

@@ -82,5 +82,5 @@ pub slots_caused : {D : Type 0} (g : Ghosts D) (known : ℕ) (a b new_a new_b : 
     → SlotsCause g known a b new_a new_b (fault_of_slots fault)
 slots_caused g known a b new_a new_b SlotFailed cause = cause
 slots_caused g known a b new_a new_b (SlotDamaged second place) cause = λ x y told_a told_b.
-    pair_damaged known second place x y cause.0 (cause.2 x y told_a told_b)
+    pair_damaged known second place x y cause.0 (cause.3 x y told_a told_b)
 slots_caused g known a b new_a new_b SlotWantsMemory cause = tt

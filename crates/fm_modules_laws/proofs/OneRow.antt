@@ -3,6 +3,7 @@ use Rattle.std.proofs.Common.{◌≡◌, ℕ, zero, suc, List, [], ◌∷◌, Op
 use Rattle.std.proofs.Common.{◌∙◌, subst}
 use Rattle.std.specs.List.{slice_get}
 use Rattle.std.specs.Option.{option_map}
+use Rattle.std.proofs.lemmas.Option.{none-some, same_Some}
 use Rattle.fm_core.specs.Book.{ModuleState}
 use Rattle.fm_saved.specs.declared.conf.Conf.{Conf}
 use Rattle.fm_topo.specs.Topology.{Topology, topology_of}
@@ -90,21 +91,15 @@ graph_one topo text x f g skipped a is_rules is_graph =
     (sound_of text a.checked a.is_rules) (rule_files_one text a.checked f a.is_rules is_rules)
     a.makes.is_made.graph is_graph).0
 
-none_is : {X : Type 0} (x : X) → None ≡ Some x → ⊥
-none_is x is = cc
-
-some_is : {X : Type 0} (w x : X) → Some w ≡ Some x → w ≡ x
-some_is w x is = cc
-
 -- one of a list, and its own in another
 pub each_at : {A B : Type 0} (has : A → B → Type 0) (xs : List A) (ys : List B) (i : ℕ) (x : A)
     → EachHas has xs ys → slice_get xs i ≡ Some x
     → (y : B) × (slice_get ys i ≡ Some y) × has x y
-each_at has [] [] i x each at = absurd (none_is x at)
+each_at has [] [] i x each at = absurd (none-some x at)
 each_at has [] (y ∷ ys) i x each at = absurd each
 each_at has (w ∷ xs) [] i x each at = absurd each
 each_at has (w ∷ xs) (y ∷ ys) zero x each at =
-    (y, refl, subst (λ v. has v y) (some_is w x at) each.0)
+    (y, refl, subst (λ v. has v y) (same_Some w x at) each.0)
 each_at has (w ∷ xs) (y ∷ ys) (suc i) x each at = each_at has xs ys i x each.1 at
 
 -- past the end of the one is past that of the other
@@ -113,7 +108,7 @@ each_past : {A B : Type 0} (has : A → B → Type 0) (xs : List A) (ys : List B
 each_past has [] [] i each past = refl
 each_past has [] (y ∷ ys) i each past = absurd each
 each_past has (x ∷ xs) [] i each past = absurd each
-each_past has (x ∷ xs) (y ∷ ys) zero each past = absurd (none_is x (sym past))
+each_past has (x ∷ xs) (y ∷ ys) zero each past = absurd (none-some x (sym past))
 each_past has (x ∷ xs) (y ∷ ys) (suc i) each past = each_past has xs ys i each.1 past
 
 -- the graph of a rule file of a configuration stands in the row

@@ -2,6 +2,7 @@
 use Rattle.std.proofs.Common.{◌≡◌, ℕ, ◌+◌, ◌≤◌, List, length, Bool, true, false, Option, Some, None}
 use Rattle.std.proofs.Common.{refl, sym, ◌∙◌, ap, subst, if◌then◌else◌}
 use Rattle.std.specs.Prelude.{nat_lt}
+use Rattle.std.proofs.lemmas.Option.{same_Some}
 use Rattle.fm_outer.specs.Bytes.{range}
 use Rattle.fm_slots.specs.Format.{SlotOf, IsSlot}
 use Rattle.fm_slots.specs.InForce.{in_force, InForce, IsDamagedPair}
@@ -47,17 +48,14 @@ picked_in_force x y Bad (Open t m) = refl
 picked_in_force x y Bad Closed = refl
 picked_in_force x y Bad Bad = refl
 
-some_same : {X : Type 0} (a b : X) → Some a ≡ Some b → a ≡ b
-some_same a b same = cc same
-
 -- what is picked stands on the disk that it names
 one_stands : (s t n m : ℕ) (test : Bool) (pick : Pick)
     → (if test then at_pick true t m else at_pick false s n) ≡ Some pick
     → StandsAt pick.second (Open s n) (Open t m) pick
 one_stands s t n m true pick is =
-    subst (λ (p : Pick). StandsAt p.second (Open s n) (Open t m) p) (some_same _ pick is) refl
+    subst (λ (p : Pick). StandsAt p.second (Open s n) (Open t m) p) (same_Some _ pick is) refl
 one_stands s t n m false pick is =
-    subst (λ (p : Pick). StandsAt p.second (Open s n) (Open t m) p) (some_same _ pick is) refl
+    subst (λ (p : Pick). StandsAt p.second (Open s n) (Open t m) p) (same_Some _ pick is) refl
 
 none_picked : (pick : Pick) → None ≡ Some pick → ⊥
 none_picked pick is = cc is
@@ -67,13 +65,13 @@ pub picked_stands : (first second : Standing) (pick : Pick)
     → StandsAt pick.second first second pick
 picked_stands (Open s n) (Open t m) pick is = one_stands s t n m (nat_lt s t) pick is
 picked_stands (Open s n) Closed pick is =
-    subst (λ (p : Pick). StandsAt p.second (Open s n) Closed p) (some_same _ pick is) refl
+    subst (λ (p : Pick). StandsAt p.second (Open s n) Closed p) (same_Some _ pick is) refl
 picked_stands (Open s n) Bad pick is =
-    subst (λ (p : Pick). StandsAt p.second (Open s n) Bad p) (some_same _ pick is) refl
+    subst (λ (p : Pick). StandsAt p.second (Open s n) Bad p) (same_Some _ pick is) refl
 picked_stands Closed (Open t m) pick is =
-    subst (λ (p : Pick). StandsAt p.second Closed (Open t m) p) (some_same _ pick is) refl
+    subst (λ (p : Pick). StandsAt p.second Closed (Open t m) p) (same_Some _ pick is) refl
 picked_stands Bad (Open t m) pick is =
-    subst (λ (p : Pick). StandsAt p.second Bad (Open t m) p) (some_same _ pick is) refl
+    subst (λ (p : Pick). StandsAt p.second Bad (Open t m) p) (same_Some _ pick is) refl
 picked_stands Closed Closed pick is = absurd (none_picked pick is)
 picked_stands Closed Bad pick is = absurd (none_picked pick is)
 picked_stands Bad Closed pick is = absurd (none_picked pick is)

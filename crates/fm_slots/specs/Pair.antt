@@ -4,6 +4,7 @@ use Rattle.std.specs.Prelude.{None}
 use Rattle.std.specs.declared.option.Option.{Option}
 use Rattle.fm_outer.specs.Bytes.{range}
 use Rattle.fm_outer.specs.Failures.{Rose}
+use Rattle.fm_outer.specs.Moments.{IsSettled}
 use Rattle.fm_outer.specs.declared.disk.Disk.{Ghosts}
 use Rattle.fm_slots.specs.Format.{SlotOf}
 use Rattle.fm_slots.specs.InForce.{IsDamagedPair}
@@ -80,11 +81,12 @@ PickCause g a b new_a new_b Disk =
 PickCause g a b new_a new_b NoMemory = AreKept g a b new_a new_b
 PickCause g a b new_a new_b (Damaged second place) = ⊥
 
--- Of `newest`: `Disk` only where the count of one of the disks rose; `Damaged` at 0 only where that
--- slot is damaged, the second only beside a first that isn't; and else want of memory.
+-- Of `newest`: `Disk` only where the count of one of the disks rose; `Damaged` at 0 only where both
+-- disks were synced and that slot is damaged, the second only beside a first that isn't; and else
+-- want of memory.
 abbrev pub NewestCause : {D : Type 0} → Ghosts D → D → D → D → D → SlotFault → Type 0
 NewestCause g a b new_a new_b (Damaged second place) =
-    (place ≡ 0) × AreKept g a b new_a new_b × ((x y : List ℕ) → g.seen a ≡ Some x
+    (place ≡ 0) × AreKept g a b new_a new_b × (IsSettled g new_a × IsSettled g new_b) × ((x y : List ℕ) → g.seen a ≡ Some x
     → g.seen b ≡ Some y → IsDamagedPair second x y)
 NewestCause g a b new_a new_b Disk =
     Rose (g.failures a) (g.failures new_a) ⊎ Rose (g.failures b) (g.failures new_b)

@@ -3,6 +3,7 @@ use Rattle.std.proofs.Common.{◌≡◌, ◌≢◌, ℕ, zero, suc, Bool, true, 
 use Rattle.std.proofs.Common.{◌∷◌, drop, take, map, filter_map, slice_get, Option, Some, None}
 use Rattle.std.proofs.Common.{Err, Result, if◌then◌else◌, refl, sym, ap, ◌∙◌, subst, arith}
 use Rattle.std.specs.List.{list_any}
+use Rattle.std.proofs.lemmas.Option.{same_Some}
 use Rattle.fm_name.specs.Category.{category_of}
 use Rattle.ev_lex.specs.Cut.{IsCut, IsStuck, AreTokens, line_at}
 use Rattle.ev_lex.specs.Pieces.{line_after, piece, size}
@@ -199,19 +200,17 @@ effects_seen events (statements.Prop place left n k right) =
     (λ q. declared_number events (pattern_subject q)) (λ p. refl) right)
 
 -- ---- lists
-item_one : {X : Type 0} (x y : X) → Some x ≡ Some y → x ≡ y
-item_one x y h = cc
 
 viewed_at : {A B : Type 0} (view : A → B) (xs : List A) (i : ℕ) (x : A) → slice_get xs i ≡ Some x
     → slice_get (map view xs) i ≡ Some (view x)
 viewed_at view [] i x h = absurd (none_found x h)
-viewed_at view (y ∷ ys) zero x h = ap (λ z. Some (view z)) (item_one y x h)
+viewed_at view (y ∷ ys) zero x h = ap (λ z. Some (view z)) (same_Some y x h)
 viewed_at view (y ∷ ys) (suc i) x h = viewed_at view ys i x h
 
 seen_at : {A B : Type 0} (view : A → B) (xs : List A) (i : ℕ) (y : B)
     → slice_get (map view xs) i ≡ Some y → (x : A) × (slice_get xs i ≡ Some x) × (view x ≡ y)
 seen_at view [] i y h = absurd (none_found y h)
-seen_at view (x ∷ xs) zero y h = (x, refl, item_one (view x) y h)
+seen_at view (x ∷ xs) zero y h = (x, refl, same_Some (view x) y h)
 seen_at view (x ∷ xs) (suc i) y h = seen_at view xs i y h
 
 taken_seen : {A B : Type 0} (view : A → B) (xs : List A) (j : ℕ)

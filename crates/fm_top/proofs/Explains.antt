@@ -1,5 +1,5 @@
 -- From an open store of which a case is explained to what its disks hold.
-use Rattle.std.proofs.Common.{◌≡◌, ◌∙◌, inl, inr, ℕ, List, Option, None, Some, Result, Ok, Err}
+use Rattle.std.proofs.Common.{◌≡◌, inl, inr, ℕ, List, Option, None, Some, Result, Ok, Err}
 use Rattle.std.proofs.Common.{IfErr, OnOk, refl, sym, subst}
 use Rattle.std.specs.Global.{Vec}
 use Rattle.std.specs.Option.{option_map}
@@ -35,18 +35,14 @@ use Rattle.fm_top.specs.Kept.{BookAt}
 use Rattle.fm_top.specs.Limits.{draining_limit}
 use Rattle.fm_top.specs.Outside.{Tells, disks_at}
 use Rattle.fm_top.proofs.Accepts.{opening_account, opening_stops}
-use Rattle.fm_top.proofs.Fmds.{OpenAt}
-use Rattle.fm_top.proofs.OpenedDisks.{none_rose, opened_at, some_rose, store_left}
+use Rattle.fm_top.proofs.OpenedDisks.{OpenAt, OpenFor, each_opened, none_rose, open_for, opened_at}
+use Rattle.fm_top.proofs.OpenedDisks.{some_rose, store_left}
 use Rattle.fm_top.proofs.RowGraphs.{explanation_at}
 use Rattle.fm_top.proofs.SixDisks.{all_only_read, rose_any, none_counts}
-use Rattle.fm_top.proofs.Texts.{OpenFor, left_drained, open_for, same_counts, told_limit}
+use Rattle.fm_top.proofs.Texts.{left_drained, same_counts, told_limit}
 use Rattle.fm_top.proofs.Texts.{told_refused}
 use Rattle.fm_top.proofs.WorkLimits.{work_limit}
-
-none_some : {X : Type 0} {x : X} {o : Option X} → o ≡ None → o ≡ Some x → ⊥
-none_some {x = x} none some =
-    let both : None ≡ Some x = sym none ∙ some in
-    cc
+use Rattle.fm_core.proofs.Options.{none_some}
 
 -- the bytes of a text, if there is one
 abbrev bytes_of : Option (Vec ℕ) → Option (List ℕ)
@@ -117,15 +113,6 @@ module _ {D : Type 0} (g : Ghosts D) (disks disks_now : Disks D)
   at_told : (told : Contents) → Tells (disks_at g disks) told → OpenAt g first hands conf told
   at_told = opened_at g disks disks_now first new hands conf opened
 
-  -- of each book that the contents read as
-  each_book : (told : Contents) → Tells (disks_at g disks) told → (IsSo : BookAt told → Type 0)
-      → ((book : BookAt told) → OpenFor g first hands conf book → IsSo book)
-      → HoldsOfBook told IsSo
-  each_book told tells IsSo so = let one = at_told told tells in record {
-    stood = one.stood;
-    each = λ book. so book (open_for g first hands conf told one book);
-  }
-
   on_book : (answer : Result (Option (Vec ℕ)) StoreFault) (told : Contents) (stood : BookAt told)
       → OpenFor g first hands conf stood → ExplainDone g uuid first new hands conf answer
       → ExplainOnBook g uuid stood.fresh (figures_of first) new stood.book conf answer
@@ -135,7 +122,7 @@ module _ {D : Type 0} (g : Ghosts D) (disks disks_now : Disks D)
       → (told : Contents) → Tells (disks_at g disks) told
       → HoldsOfBook told (ExplainedOf uuid told (disks_at g disks_now) (bytes_of text))
   explained text did told tells =
-      each_book told tells (ExplainedOf uuid told (disks_at g disks_now) (bytes_of text))
+      each_opened g disks disks_now first new hands conf opened told tells (ExplainedOf uuid told (disks_at g disks_now) (bytes_of text))
       (λ book at. let on = on_book (Ok text) told book at did in record {
         left = λ image leaves.
             on.after image (store_left g disks disks_now first new are image leaves);
@@ -146,7 +133,7 @@ module _ {D : Type 0} (g : Ghosts D) (disks disks_now : Disks D)
       → (told : Contents) → Tells (disks_at g disks) told
       → HoldsOfBook told (LikeBook told (disks_at g disks_now))
   like_book fault did told tells =
-      each_book told tells (LikeBook told (disks_at g disks_now))
+      each_opened g disks disks_now first new hands conf opened told tells (LikeBook told (disks_at g disks_now))
       (λ book at. record {
         left = λ image leaves. (on_book (Err fault) told book at did).left image
             (store_left g disks disks_now first new are image leaves);

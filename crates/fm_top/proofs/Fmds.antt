@@ -27,10 +27,10 @@ use Rattle.fm_entry.specs.declared.entry.Entry.{Entry}
 use Rattle.fm_init.specs.Making.{AreFirstModules}
 use Rattle.fm_journal.specs.declared.fault.FullKind.{FullKind}
 use Rattle.fm_line.specs.Lines.{lines_of}
-use Rattle.fm_logs.specs.Contents.{Contents, AreTold, WereOnlyRead, active_of_two, content_named}
+use Rattle.fm_logs.specs.Contents.{Contents, AreTold, WereOnlyRead, active_of_two}
 use Rattle.fm_logs.specs.Contents.{disk_named, with_logs}
 use Rattle.fm_logs.specs.ReadsAsBook.{ReadsAsBook}
-use Rattle.fm_logs.specs.StoreBook.{StoreBook, force_now, store_floored}
+use Rattle.fm_logs.specs.StoreBook.{StoreBook, store_floored}
 use Rattle.fm_logs.specs.declared.disks.DiskName.{DiskName}
 use Rattle.fm_logs.specs.declared.disks.DiskName.TheVariants.{Conf as ConfDisk, ErrA, ErrB, SlotA}
 use Rattle.fm_logs.specs.declared.disks.DiskName.TheVariants.{SlotB, Flt}
@@ -52,7 +52,7 @@ use Rattle.fm_drain.specs.ToBase.{IsBasedOf}
 use Rattle.fm_sources.specs.declared.sources.Sources.{Sources}
 use Rattle.fm_store.specs.Opened.{NoneFailed, RoseOnAny}
 use Rattle.fm_store.specs.StoreCalls.{next_entry}
-use Rattle.fm_store.specs.StoreLeft.{store_disk, AreDisksOf, EachLeft, StoreIsLeft}
+use Rattle.fm_store.specs.StoreLeft.{store_disk, AreDisksOf, EachLeft}
 use Rattle.fm_store.specs.StoreOf.{StoreOf, StoreStandsFor}
 use Rattle.fm_store.proofs.OpeningLaws.{reads_as_book}
 use Rattle.fm_store.proofs.StoreReads.{entries_left, left_active, records_left, says_left}
@@ -61,14 +61,15 @@ use Rattle.fm_top.specs.Fmd.{ConcludingStops, DrainedFrom, KeepSame, StoreConclu
 use Rattle.fm_top.specs.Fmd.{StoreDiffers, StoreRan, StoreStops}
 use Rattle.fm_top.specs.FmdStore.{StoreFinished, StoreHalts, StoreIsOther, StoreWorks}
 use Rattle.fm_top.specs.Headline.{HoldsOfBook}
-use Rattle.fm_top.specs.Kept.{BookAt, IsAsRead}
+use Rattle.fm_top.specs.Kept.{IsAsRead}
 use Rattle.fm_top.specs.Limits.{concluding_limit}
-use Rattle.fm_top.specs.Outside.{Tells, Leaves, disks_at}
+use Rattle.fm_top.specs.Outside.{Tells, disks_at}
 use Rattle.fm_top.proofs.Accepts.{disks_account, grew_of, of_no_stream, opening_account}
 use Rattle.fm_top.proofs.Accepts.{opening_stops}
-use Rattle.fm_top.proofs.BookHeld.{same_book}
+use Rattle.fm_top.proofs.OpenedDisks.{OpenAt, none_rose, open_for, opened_at, some_rose}
+use Rattle.fm_top.proofs.OpenedDisks.{store_left}
 use Rattle.fm_top.proofs.Exactness.{exact_with}
-use Rattle.fm_top.proofs.SixDisks.{told_all, images_all, all_only_read, rose_any, none_counts}
+use Rattle.fm_top.proofs.SixDisks.{all_only_read, rose_any, none_counts}
 use Rattle.fm_top.proofs.WorkLimits.{work_limit}
 
 -- ---- hands
@@ -152,15 +153,6 @@ module _ {D M : Type 0} (g : Ghosts D) where
 
 -- ---- what was opened
 
--- The store stands for the book that the contents read as, hands follow it, and a configuration is
--- in force in it.
-pub record OpenAt {D : Type 0} (g : Ghosts D) (store : StoreOf D DiagnoserOf)
-    (hands : List (HandOf DiagnoserOf)) (conf : Conf) (c : Contents) : Type 0 where
-  pub stood : BookAt c
-  pub stands : StoreStandsFor g stood.fresh store stood.book
-  pub follow : AllFollow diagnosers stood.book.book hands
-  pub in_force : slice_get stood.book.confs (force_now stood.book) ≡ Some conf
-
 pub open_at : {D : Type 0} (g : Ghosts D) (c : Contents) (opened : OpenStore D)
     → OpensStore g c opened → OpenAt g opened.store opened.hands.items opened.conf c
 open_at g c opened opens = record {
@@ -232,54 +224,29 @@ module _ {D : Type 0} (g : Ghosts D) (first between new : StoreOf D DiagnoserOf)
       → AreDisksOf new disks_now → (told : Contents) → OpenAt g first hands conf told
       → HoldsOfBook told (DrainedFrom told (disks_at g disks_now) entries conclusion.summary.items
       conclusion.wanted)
-  drained_from conclusion done book disks_now are told one =
-      let left_of : (image : Contents) → Leaves (disks_at g disks_now) image
-      → StoreIsLeft g new image =
-      λ image leaves name.
-      subst (λ (d : D). g.images d (content_named name image)) (sym (are name))
-      (images_all g disks_now image leaves name) in record {
-        stood = one.stood;
-        each = λ stood.
-            let same : (one.stood.fresh ≡ stood.fresh) × (one.stood.book ≡ stood.book) =
-            same_book told one.stood stood in
-            let at : OpenAt g first hands conf told = record {
-              stood = stood;
-              stands = subst (λ (ms : List ModuleState). StoreStandsFor g ms first stood.book)
-                  same.0
-                  (subst (λ (k : StoreBook). StoreStandsFor g one.stood.fresh first k) same.1
-                  one.stands);
-              follow = subst (λ (k : StoreBook). AllFollow diagnosers k.book hands) same.1
-                  one.follow;
-              in_force = subst
-                  (λ (k : StoreBook). slice_get k.confs (force_now k) ≡ Some conf) same.1
-                  one.in_force;
-            } in
-            let ends = (took_concludes (Ok conclusion) book told at).done in record {
-              left = λ image leaves. record {
-                read = store_floored ends.based;
-                reads = reads_floored g stood.fresh new ends.based ends.stands image
-                    (left_of image leaves);
-                based_is = floored_based (store_with stood.book entries) ends.based ends.based_is;
-              };
-              exact = exact_with g told stood between new entries
-                  (took.book stood.fresh stood.book at.stands) done;
-              summary_is = ends.tells.summary;
-              wanted_are = ends.tells.wanted;
-            };
-      }
-
--- each book that the contents read as is one that the store stands for
-pub stands_each : {D : Type 0} (g : Ghosts D) (first : StoreOf D DiagnoserOf)
-    (hands : List (HandOf DiagnoserOf)) (conf : Conf) (told : Contents)
-    → (one : OpenAt g first hands conf told) → (stood : BookAt told)
-    → StoreStandsFor g stood.fresh first stood.book × AllFollow diagnosers stood.book.book hands
-stands_each g first hands conf told one stood =
-    let same : (one.stood.fresh ≡ stood.fresh) × (one.stood.book ≡ stood.book) =
-    same_book told one.stood stood in (
-      subst (λ (ms : List ModuleState). StoreStandsFor g ms first stood.book) same.0
-          (subst (λ (k : StoreBook). StoreStandsFor g one.stood.fresh first k) same.1 one.stands),
-      subst (λ (k : StoreBook). AllFollow diagnosers k.book hands) same.1 one.follow,
-    )
+  drained_from conclusion done book disks_now are told one = record {
+    stood = one.stood;
+    each = λ stood.
+        let held = open_for g first hands conf told one stood in
+        let at : OpenAt g first hands conf told = record {
+          stood = stood;
+          stands = held.stands;
+          follow = held.follow;
+          in_force = held.in_force;
+        } in
+        let ends = (took_concludes (Ok conclusion) book told at).done in record {
+          left = λ image leaves. record {
+            read = store_floored ends.based;
+            reads = reads_floored g stood.fresh new ends.based ends.stands image
+                (store_left g disks_now disks_now first new are image leaves);
+            based_is = floored_based (store_with stood.book entries) ends.based ends.based_is;
+          };
+          exact = exact_with g told stood between new entries
+              (took.book stood.fresh stood.book held.stands) done;
+          summary_is = ends.tells.summary;
+          wanted_are = ends.tells.wanted;
+        };
+  }
 
 -- ---- the whole work on a store
 
@@ -294,12 +261,7 @@ module _ {D : Type 0} (g : Ghosts D)
     (opened : (c : Contents) → AreTold g disks c → OpenAt g first hands conf c)
     (are : AreDisksOf new disks_now) where
   at_told : (told : Contents) → Tells (disks_at g disks) told → OpenAt g first hands conf told
-  at_told told tells = opened told (told_all g disks told tells)
-
-  left_of : (image : Contents) → Leaves (disks_at g disks_now) image → StoreIsLeft g new image
-  left_of image leaves name =
-      subst (λ (d : D). g.images d (content_named name image)) (sym (are name))
-      (images_all g disks_now image leaves name)
+  at_told = opened_at g disks disks_now first new hands conf opened
 
   as_kept : IsAsRead conf got → KeepSame (disks_at g disks) got
   as_kept same told tells = let at = at_told told tells in
@@ -327,7 +289,9 @@ module _ {D : Type 0} (g : Ghosts D)
         took = λ told tells. let at = at_told told tells in record {
           stood = at.stood;
           numbered = λ i. at.stands.base_is i + length (at.stands.entries_are i);
-          left = λ image leaves. (concludes told at).left image (left_of image leaves);
+          left = λ image leaves.
+              (concludes told at).left image
+              (store_left g disks disks_now first new are image leaves);
           limit = tt;
         };
       };
@@ -358,11 +322,11 @@ module _ {D : Type 0} (g : Ghosts D)
       (concluding_limit (entries_of (lines_of finished.ran.read))) kind
       (λ told tells. (at_told told tells).stood)
       (λ told tells book.
-      let at = stands_each g first hands conf told (at_told told tells) book in (
-        at.0,
+      let at = open_for g first hands conf told (at_told told tells) book in (
+        at.stands,
         took_limit g first finished.between new hands conf
             (entries_of (lines_of finished.ran.read)) finished.ran.took kind finished.book
-            book.fresh book.book at.0 at.1,
+            book.fresh book.book at.stands at.follow,
       ))
   unconcluded (store.Closed name failures) finished = tt
   unconcluded store.NoMemory finished = tt
@@ -432,19 +396,19 @@ module _ {D : Type 0} (g : Ghosts D)
   none_failed : (conclusion : Conclusion)
       → StoreFinished g first new hands input input_now out out_now (Ok conclusion)
       → NoneFailed g disks disks_now
-  none_failed conclusion finished name =
-      sym (ap g.failures (are name)) ∙ finished.quiet name ∙ finished.ran.took.counts name
-      ∙ kept name
+  none_failed conclusion finished =
+      none_rose g disks disks_now first new are kept
+      (λ name. finished.quiet name ∙ finished.ran.took.counts name)
 
   rose_concluding : (fault : StoreFault) → Disk ≡ of_store fault
       → StoreFinished g first new hands input input_now out out_now (Err fault)
       → RoseOnAny g disks disks_now
   rose_concluding store.Disk is finished =
-      let (name, rose) = finished.refused.1 in (
+      let (name, rose) = finished.refused.1 in
+      some_rose g disks disks_now first new are kept (
         name,
-        subst (λ (d : D). Rose (g.failures (disk_named name disks)) (g.failures d)) (are name)
-            (subst (λ n. Rose n (g.failures (store_disk name new)))
-            (finished.ran.took.counts name ∙ kept name) rose),
+        subst (λ n. Rose n (g.failures (store_disk name new))) (finished.ran.took.counts name)
+            rose,
       )
   rose_concluding (store.Closed name failures) is finished =
       absurd (let e : Some (name, failures) ≡ None =

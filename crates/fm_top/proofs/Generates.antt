@@ -36,15 +36,15 @@ use Rattle.fm_top.specs.Generate.{GenerateTried, Generates, LinesTried, ListsGen
 use Rattle.fm_top.specs.Generate.{StoreGenerates, StoreUnbegun, TookUntil, UnbegunStops}
 use Rattle.fm_top.specs.GenerateStart.{AreGenerated, AreGeneratedAt}
 use Rattle.fm_top.specs.Headline.{HoldsOfBook, LikeBook}
-use Rattle.fm_top.specs.Kept.{BookAt}
+use Rattle.fm_top.specs.Init.{AreUnwritten}
 use Rattle.fm_top.specs.Limits.{concluding_limit}
 use Rattle.fm_top.specs.Outside.{Tells, disks_at}
 use Rattle.fm_top.proofs.Accepts.{grew_of, opening_account, opening_stops}
-use Rattle.fm_top.proofs.Fmds.{OpenAt, drained_from, stands_each, took_concludes, took_limit}
-use Rattle.fm_top.proofs.OpenedDisks.{none_rose, opened_at, some_rose, store_left}
+use Rattle.fm_top.proofs.Fmds.{drained_from, took_concludes, took_limit}
+use Rattle.fm_top.proofs.OpenedDisks.{OpenAt, each_opened, none_rose, open_for, opened_at}
+use Rattle.fm_top.proofs.OpenedDisks.{some_rose, store_left}
 use Rattle.fm_top.proofs.SixDisks.{all_only_read, rose_any, none_counts}
 use Rattle.fm_top.proofs.Taking.{until_other}
-use Rattle.fm_top.proofs.Texts.{OpenFor, open_for}
 use Rattle.fm_top.proofs.WorkLimits.{work_limit}
 
 -- ---- a store that was not opened
@@ -83,24 +83,16 @@ module _ {D : Type 0} (g : Ghosts D) (disks disks_now : Disks D)
     (kept : (name : DiskName)
     → g.failures (store_disk name first) ≡ g.failures (disk_named name disks))
     (opened : (c : Contents) → AreTold g disks c → OpenAt g first hands conf c)
-    (are : AreDisksOf new disks_now) where
+    (are : AreDisksOf new disks_now)
+    (read : (name : DiskName) → OnlyRead g (disk_named name disks) (store_disk name first)) where
   at_told : (told : Contents) → Tells (disks_at g disks) told → OpenAt g first hands conf told
   at_told = opened_at g disks disks_now first new hands conf opened
-
-  -- of each book that the contents read as
-  of_each : (told : Contents) → Tells (disks_at g disks) told → (IsSo : BookAt told → Type 0)
-      → ((book : BookAt told) → OpenFor g first hands conf book → IsSo book)
-      → HoldsOfBook told IsSo
-  of_each told tells IsSo so = let one = at_told told tells in record {
-    stood = one.stood;
-    each = λ book. so book (open_for g first hands conf told one book);
-  }
 
   -- the entries are those of each book
   generates : (entries : List Entry) → StoreGenerates number first conf entries
       → Generates number (disks_at g disks) entries
   generates entries so told tells =
-      of_each told tells (λ stood. AreGeneratedAt number stood entries) (λ book at.
+      each_opened g disks disks_now first new hands conf opened told tells (λ stood. AreGeneratedAt number stood entries) (λ book at.
       let moment = moment_at_end g book.fresh first book.book at.stands in record {
         conf = conf;
         in_force = at.in_force;
@@ -112,7 +104,7 @@ module _ {D : Type 0} (g : Ghosts D) (disks disks_now : Disks D)
   like_book : new ≡ first → (told : Contents) → Tells (disks_at g disks) told
       → HoldsOfBook told (LikeBook told (disks_at g disks_now))
   like_book same told tells =
-      of_each told tells (LikeBook told (disks_at g disks_now)) (λ book at. record {
+      each_opened g disks disks_now first new hands conf opened told tells (LikeBook told (disks_at g disks_now)) (λ book at. record {
         left = λ image leaves.
             store_reads g book.fresh new book.book
             (subst (λ (s : StoreOf D DiagnoserOf). StoreStandsFor g book.fresh s book.book)
@@ -120,9 +112,20 @@ module _ {D : Type 0} (g : Ghosts D) (disks disks_now : Disks D)
             (store_left g disks disks_now first new are image leaves);
       })
 
+  untouched : new ≡ first → AreUnwritten (disks_at g disks) (disks_at g disks_now)
+  untouched same =
+      let still : AreDisksOf first disks_now =
+      subst (λ (s : StoreOf D DiagnoserOf). AreDisksOf s disks_now) same are in
+      all_only_read g disks disks_now
+      (λ name. subst (λ (d : D). OnlyRead g (disk_named name disks) d) (still name) (read name))
+
   unbegun : (stop : Stop) → new ≡ first → StartStops (greatest_at first) stop
       → StoreUnbegun (disks_at g disks) (disks_at g disks_now) stop
-  unbegun stop same why = record { why = by_stop stop why; holds = like_book same }
+  unbegun stop same why = record {
+    why = by_stop stop why;
+    untouched = untouched same;
+    holds = like_book same;
+  }
     where
       by_stop : (stop : Stop) → StartStops (greatest_at first) stop
           → UnbegunStops (disks_at g disks) stop
@@ -149,6 +152,7 @@ module _ {D : Type 0} (g : Ghosts D) (disks disks_now : Disks D)
       entries = entries;
       are = generates entries so;
       text_is = text_is;
+      untouched = untouched same;
       holds = like_book same;
     };
     counts = none_counts g disks disks_now
@@ -167,8 +171,7 @@ module _ {D : Type 0} (g : Ghosts D) (disks disks_now : Disks D)
   -- ---- entries
 
   module _
-      (seen_is_image : (disk : D) (c : List ℕ) → g.seen disk ≡ Some c → g.images disk c)
-      (read : (name : DiskName) → OnlyRead g (disk_named name disks) (store_disk name first)) where
+      (seen_is_image : (disk : D) (c : List ℕ) → g.seen disk ≡ Some c → g.images disk c) where
     until_grew : (entries : List Entry) (stop : Stop) → TookUntil (Recorded g first new) entries
         stop
         → TookUntil (Grew (disks_at g disks) (disks_at g disks_now) (next_entry first.logs)) entries
@@ -209,26 +212,25 @@ module _ {D : Type 0} (g : Ghosts D) (disks disks_now : Disks D)
   -- why the store was not concluded
   unconcluded :
       (seen_is_image : (disk : D) (c : List ℕ) → g.seen disk ≡ Some c → g.images disk c)
-      (read : (name : DiskName) → OnlyRead g (disk_named name disks) (store_disk name first))
       (fault : StoreFault)
       → (finished : GenerateFinished g number first new hands conf (Err fault))
       → ConcludingStops (concluding_limit finished.entries) (disks_at g disks) (of_store fault)
-  unconcluded seen_is_image read store.Disk finished = tt
-  unconcluded seen_is_image read (store.Full kind) finished =
+  unconcluded seen_is_image store.Disk finished = tt
+  unconcluded seen_is_image (store.Full kind) finished =
       work_limit g seen_is_image disks first read (concluding_limit finished.entries) kind
       (λ told tells. (at_told told tells).stood)
       (λ told tells book.
-      let at = stands_each g first hands conf told (at_told told tells) book in (
-        at.0,
+      let at = open_for g first hands conf told (at_told told tells) book in (
+        at.stands,
         took_limit g first finished.between new hands conf finished.entries finished.took kind
-            finished.book book.fresh book.book at.0 at.1,
+            finished.book book.fresh book.book at.stands at.follow,
       ))
-  unconcluded seen_is_image read (store.Closed name failures) finished = tt
-  unconcluded seen_is_image read store.NoMemory finished = tt
-  unconcluded seen_is_image read (store.Damaged disk place) finished = λ told tells.
+  unconcluded seen_is_image (store.Closed name failures) finished = tt
+  unconcluded seen_is_image store.NoMemory finished = tt
+  unconcluded seen_is_image (store.Damaged disk place) finished = λ told tells.
       (took_concludes g first finished.between new hands conf finished.entries finished.took
       (Err (store.Damaged disk place)) finished.book told (at_told told tells)).undamaged
-  unconcluded seen_is_image read store.Exists finished = absurd finished.refused
+  unconcluded seen_is_image store.Exists finished = absurd finished.refused
 
   -- ---- the counts of the disks
 
@@ -275,8 +277,7 @@ module _ {D : Type 0} (g : Ghosts D) (disks disks_now : Disks D)
   }
 
   module _
-      (seen_is_image : (disk : D) (c : List ℕ) → g.seen disk ≡ Some c → g.images disk c)
-      (read : (name : DiskName) → OnlyRead g (disk_named name disks) (store_disk name first)) where
+      (seen_is_image : (disk : D) (c : List ℕ) → g.seen disk ≡ Some c → g.images disk c) where
     halts_went : (stop : Stop) → GenerateHalts g number first new hands conf stop
         → GenerateStops number (disks_at g disks) (disks_at g disks_now) stop
     halts_went stop (inl (same, why)) = inr (inl (unbegun stop same why))
@@ -284,7 +285,7 @@ module _ {D : Type 0} (g : Ghosts D) (disks disks_now : Disks D)
       entries = entries;
       are = generates entries so;
       next = next_entry first.logs;
-      ran = until_grew seen_is_image read entries stop until;
+      ran = until_grew seen_is_image entries stop until;
     })))
     halts_went stop (inr (inr (fault, is, finished))) = inr (inr (inr (record {
       entries = finished.entries;
@@ -292,7 +293,7 @@ module _ {D : Type 0} (g : Ghosts D) (disks disks_now : Disks D)
       next = next_entry first.logs;
       took = all_grew (Err fault) finished;
       why = subst (ConcludingStops (concluding_limit finished.entries) (disks_at g disks)) (sym is)
-          (unconcluded seen_is_image read fault finished);
+          (unconcluded seen_is_image fault finished);
     })))
 
     pub generate_halted : (stop : Stop) → GenerateHalts g number first new hands conf stop

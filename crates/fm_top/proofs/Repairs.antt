@@ -46,23 +46,18 @@ use Rattle.fm_top.specs.Accepting.{DisksAccount}
 use Rattle.fm_top.specs.Admin.{AdminRefused}
 use Rattle.fm_top.specs.DrainedBook.{ReadsDrained}
 use Rattle.fm_top.specs.Fmd.{ConcludingStops}
-use Rattle.fm_top.specs.Headline.{HoldsOfBook}
 use Rattle.fm_top.specs.Kept.{BookAt}
 use Rattle.fm_top.specs.Outside.{Tells, Leaves, disks_at}
 use Rattle.fm_top.specs.Repair.{MayHaveRepair, RepairDone, RepairHalts, RepairOnBook, RepairTried}
 use Rattle.fm_top.specs.Repair.{RepairedOf, UnmarkedOf, repair_limit}
 use Rattle.fm_top.specs.RepairEntry.{IsEntryAt, IsEntryOf, order_by}
 use Rattle.fm_top.proofs.Accepts.{limit_of, opening_account, opening_stops}
-use Rattle.fm_top.proofs.Fmds.{OpenAt}
-use Rattle.fm_top.proofs.OpenedDisks.{none_rose, opened_at, some_rose, store_left}
+use Rattle.fm_top.proofs.OpenedDisks.{OpenAt, OpenFor, each_opened, none_rose, open_for, opened_at}
+use Rattle.fm_top.proofs.OpenedDisks.{some_rose, store_left}
 use Rattle.fm_top.proofs.SixDisks.{all_only_read, rose_any, none_counts}
-use Rattle.fm_top.proofs.Texts.{OpenFor, left_drained, open_for, same_counts, told_refused}
+use Rattle.fm_top.proofs.Texts.{left_drained, same_counts, told_refused}
 use Rattle.fm_top.proofs.WorkLimits.{told_seen, work_limit}
-
-none_some : {X : Type 0} {x : X} {o : Option X} → o ≡ None → o ≡ Some x → ⊥
-none_some {x = x} none some =
-    let both : None ≡ Some x = sym none ∙ some in
-    cc
+use Rattle.fm_core.proofs.Options.{none_some}
 
 -- ---- an open store
 
@@ -271,15 +266,6 @@ module _ {D : Type 0} (g : Ghosts D) (disks disks_now : Disks D)
   entry_at told stood at e is =
       record { conf = conf; in_force = at.in_force; entry_is = is }
 
-  -- of each book that the contents read as
-  each_book : (told : Contents) → Tells (disks_at g disks) told → (IsSo : BookAt told → Type 0)
-      → ((book : BookAt told) → OpenFor g first hands conf book → IsSo book)
-      → HoldsOfBook told IsSo
-  each_book told tells IsSo so = let one = at_told told tells in record {
-    stood = one.stood;
-    each = λ book. so book (open_for g first hands conf told one book);
-  }
-
   repaired_of : (one : Repaired) (told : Contents) (stood : BookAt told)
       → OpenFor g first hands conf stood
       → RepairOnBook g asked stood.fresh first new stood.book conf (Ok (Some one))
@@ -392,7 +378,7 @@ module _ {D : Type 0} (g : Ghosts D) (disks disks_now : Disks D)
       → RepairTried asked (disks_at g disks) (disks_at g disks_now) (Ok one)
   repair_tried one did = record {
     went = λ told tells.
-        each_book told tells (RepairedOf asked told (disks_at g disks_now) one)
+        each_opened g disks disks_now first new hands conf opened told tells (RepairedOf asked told (disks_at g disks_now) one)
         (λ book at. repaired_of one told book at
         (did.book book.fresh book.book at.stands at.follow));
     counts = none_counts g disks disks_now
@@ -405,7 +391,7 @@ module _ {D : Type 0} (g : Ghosts D) (disks disks_now : Disks D)
     went = inr (inl (record {
       why = refl;
       holds = λ told tells.
-          each_book told tells (UnmarkedOf asked told (disks_at g disks_now))
+          each_opened g disks disks_now first new hands conf opened told tells (UnmarkedOf asked told (disks_at g disks_now))
           (λ book at. unmarked_of told book at
           (did.book book.fresh book.book at.stands at.follow));
     }));
@@ -421,7 +407,7 @@ module _ {D : Type 0} (g : Ghosts D) (disks disks_now : Disks D)
     went = inr (inr (record {
       why = unrepaired_why seen_is_image read fault did;
       holds = λ told tells.
-          each_book told tells (MayHaveRepair asked told (disks_at g disks_now))
+          each_opened g disks disks_now first new hands conf opened told tells (MayHaveRepair asked told (disks_at g disks_now))
           (λ book at. may_have fault told book at
           (did.book book.fresh book.book at.stands at.follow));
     }));

@@ -36,7 +36,8 @@ use Rattle.fm_top.specs.declared.tasks.TaskDone.{TaskDone}
 use Rattle.fm_top.specs.declared.tasks.TaskDone.TheVariants.{Nothing, Concluded, Text, Repaired}
 use Rattle.fm_top.proofs.Accepts.{not_opened, opened_ran}
 use Rattle.fm_top.proofs.Explains.{explain_halted, explain_tried, explain_unopened}
-use Rattle.fm_top.proofs.Fmds.{OpenAt, unopened_ran, worked_ran}
+use Rattle.fm_top.proofs.Fmds.{unopened_ran, worked_ran}
+use Rattle.fm_top.proofs.OpenedDisks.{OpenAt}
 use Rattle.fm_top.proofs.Generates.{generate_halted, generate_tried, generate_unopened}
 use Rattle.fm_top.proofs.Generates.{lines_halted, lines_tried, lines_unopened}
 use Rattle.fm_top.proofs.Repairs.{repair_halted, repair_tried, repair_unopened}
@@ -128,21 +129,22 @@ module _ {D : Type 0} (g : Ghosts D)
   )
   task_ran (Generate number) (Ok (Concluded conclusion)) does counts_input counts_out = (
     does.1,
-    generate_tried g disks disks_now first new hands conf number kept opened are conclusion does.2,
+    generate_tried g disks disks_now first new hands conf number kept opened are read conclusion
+        does.2,
   )
   task_ran (Generate number) (Err stop) does counts_input counts_out = (
     does.1,
-    generate_halted g disks disks_now first new hands conf number kept opened are seen_is_image
-        read stop does.2,
+    generate_halted g disks disks_now first new hands conf number kept opened are read
+        seen_is_image stop does.2,
   )
   task_ran (GeneratedLines number) (Ok (Text text)) does counts_input counts_out = (
     does.1,
-    lines_tried g disks disks_now first new hands conf number kept opened are text
+    lines_tried g disks disks_now first new hands conf number kept opened are read text
         does.2,
   )
   task_ran (GeneratedLines number) (Err stop) does counts_input counts_out = (
     does.1,
-    lines_halted g disks disks_now first new hands conf number kept opened are stop
+    lines_halted g disks disks_now first new hands conf number kept opened are read stop
         does.2,
   )
   task_ran _ _ does counts_input counts_out = absurd does

@@ -3,7 +3,6 @@ use Rattle.std.proofs.Common.{◌≡◌, inl, inr, ℕ, List, None, Some, Result
 use Rattle.std.proofs.Common.{IfErr, refl}
 use Rattle.std.proofs.Common.{sym, ◌∙◌, ap, subst, arith}
 use Rattle.std.specs.Global.{Vec}
-use Rattle.std.specs.List.{slice_get}
 use Rattle.dx_engine.specs.Diagnosers.{DiagnoserOf, diagnosers}
 use Rattle.fm_admin.specs.Telling.{IsFaultyOf, StandsTold, TellRefused, TellsBook, WasDrained}
 use Rattle.fm_admin.proofs.Tellings.{tell_full}
@@ -12,15 +11,15 @@ use Rattle.fm_answers.specs.Stops.{of_store}
 use Rattle.fm_answers.specs.declared.stops.Stop.{Stop}
 use Rattle.fm_command.specs.declared.words.AdminCommand.{AdminCommand}
 use Rattle.fm_command.specs.declared.words.AdminCommand.TheVariants.{Faulty}
-use Rattle.fm_conclude.specs.Concluding.{NoDiskFailed, SomeDiskFailed}
+use Rattle.fm_conclude.specs.Concluding.{NoDiskFailed}
 use Rattle.fm_core.specs.Book.{ModuleState}
 use Rattle.fm_core.specs.Drained.{drained}
 use Rattle.fm_core.specs.Hands.{HandOf}
 use Rattle.fm_core.proofs.Drains.{drained_floored}
 use Rattle.fm_drain.specs.DrainCalls.{AllFollow}
-use Rattle.fm_logs.specs.Contents.{Contents, AreTold, WereOnlyRead, active_of_two, content_named}
+use Rattle.fm_logs.specs.Contents.{Contents, AreTold, WereOnlyRead, active_of_two}
 use Rattle.fm_logs.specs.Contents.{disk_named}
-use Rattle.fm_logs.specs.StoreBook.{StoreBook, force_now, store_floored}
+use Rattle.fm_logs.specs.StoreBook.{StoreBook, store_floored}
 use Rattle.fm_logs.specs.declared.disks.DiskName.{DiskName}
 use Rattle.fm_logs.specs.declared.disks.DiskName.TheVariants.{Conf as ConfDisk, ErrA, ErrB, SlotA}
 use Rattle.fm_logs.specs.declared.disks.DiskName.TheVariants.{SlotB, Flt}
@@ -28,13 +27,11 @@ use Rattle.fm_logs.specs.declared.disks.Disks.{Disks}
 use Rattle.fm_logs.specs.declared.fault.StoreFault.{StoreFault}
 use Rattle.fm_logs.specs.declared.fault.StoreFault.TheVariants as store
 use Rattle.fm_modules.specs.OpenStore.{OpenStoreRefused}
-use Rattle.fm_outer.specs.Failures.{Rose}
 use Rattle.fm_outer.specs.Moments.{OnlyRead}
 use Rattle.fm_outer.specs.declared.disk.Disk.{Ghosts}
 use Rattle.fm_saved.specs.declared.conf.Conf.{Conf}
 use Rattle.fm_drain.specs.BaseLimits.{figures_of}
-use Rattle.fm_store.specs.Opened.{NoneFailed, RoseOnAny}
-use Rattle.fm_store.specs.StoreLeft.{store_disk, AreDisksOf, EachLeft, ReadsLike, StoreIsLeft}
+use Rattle.fm_store.specs.StoreLeft.{store_disk, AreDisksOf, EachLeft, ReadsLike}
 use Rattle.fm_store.specs.StoreOf.{StoreOf, StoreStandsFor}
 use Rattle.fm_store.proofs.StoreReads.{left_active, says_left}
 use Rattle.fm_top.specs.Accepting.{DisksAccount}
@@ -46,12 +43,13 @@ use Rattle.fm_top.specs.Fmd.{ConcludingStops}
 use Rattle.fm_top.specs.Headline.{HoldsOfBook, LikeBook}
 use Rattle.fm_top.specs.Kept.{BookAt}
 use Rattle.fm_top.specs.Limits.{DrainLimit}
-use Rattle.fm_top.specs.Outside.{Tells, Leaves, disks_at}
+use Rattle.fm_top.specs.Outside.{Tells, disks_at}
 use Rattle.fm_top.proofs.Accepts.{opening_account, opening_stops}
-use Rattle.fm_top.proofs.BookHeld.{same_book}
-use Rattle.fm_top.proofs.Fmds.{OpenAt, reads_floored}
-use Rattle.fm_top.proofs.SixDisks.{told_all, images_all, all_only_read, rose_any, none_counts}
-use Rattle.fm_top.proofs.WorkLimits.{work_limit}
+use Rattle.fm_top.proofs.Fmds.{reads_floored}
+use Rattle.fm_top.proofs.OpenedDisks.{OpenAt, OpenFor, each_opened, none_rose, open_for, opened_at}
+use Rattle.fm_top.proofs.OpenedDisks.{some_rose, store_left}
+use Rattle.fm_top.proofs.SixDisks.{all_only_read, rose_any, none_counts}
+use Rattle.fm_top.proofs.WorkLimits.{told_seen, work_limit}
 
 -- an object that nothing was done to accounts for any other fault
 pub accounts_still : {T : Type 0} (fault : Stop) (n : ℕ) (r : Result T Stop)
@@ -59,28 +57,6 @@ pub accounts_still : {T : Type 0} (fault : Stop) (n : ℕ) (r : Result T Stop)
 accounts_still fault n (Ok done) none = refl
 accounts_still fault n (Err stop) none =
     (omega arith, λ e. absurd (none (ap (λ s. Err s) e)))
-
--- the store stands for this book that the contents read as, and hands follow it
-pub record OpenFor {D : Type 0} (g : Ghosts D) (first : StoreOf D DiagnoserOf)
-    (hands : List (HandOf DiagnoserOf)) (conf : Conf) {c : Contents} (stood : BookAt c)
-    : Type 0 where
-  pub stands : StoreStandsFor g stood.fresh first stood.book
-  pub follow : AllFollow diagnosers stood.book.book hands
-  pub in_force : slice_get stood.book.confs (force_now stood.book) ≡ Some conf
-
--- so it does for each such book
-pub open_for : {D : Type 0} (g : Ghosts D) (first : StoreOf D DiagnoserOf)
-    (hands : List (HandOf DiagnoserOf)) (conf : Conf) (c : Contents)
-    (one : OpenAt g first hands conf c) (book : BookAt c) → OpenFor g first hands conf book
-open_for g first hands conf c one book =
-    let same : (one.stood.fresh ≡ book.fresh) × (one.stood.book ≡ book.book) =
-    same_book c one.stood book in record {
-      stands = subst (λ (ms : List ModuleState). StoreStandsFor g ms first book.book) same.0
-          (subst (λ (k : StoreBook). StoreStandsFor g one.stood.fresh first k) same.1 one.stands);
-      follow = subst (λ (k : StoreBook). AllFollow diagnosers k.book hands) same.1 one.follow;
-      in_force = subst (λ (k : StoreBook). slice_get k.confs (force_now k) ≡ Some conf) same.1
-          one.in_force;
-    }
 
 -- ---- a store that was not opened
 
@@ -207,12 +183,7 @@ module _ {D : Type 0} (g : Ghosts D) (disks disks_now : Disks D)
     (opened : (c : Contents) → AreTold g disks c → OpenAt g first hands conf c)
     (are : AreDisksOf new disks_now) where
   at_told : (told : Contents) → Tells (disks_at g disks) told → OpenAt g first hands conf told
-  at_told told tells = opened told (told_all g disks told tells)
-
-  left_of : (image : Contents) → Leaves (disks_at g disks_now) image → StoreIsLeft g new image
-  left_of image leaves name =
-      subst (λ (d : D). g.images d (content_named name image)) (sym (are name))
-      (images_all g disks_now image leaves name)
+  at_told = opened_at g disks disks_now first new hands conf opened
 
   module _ (answer : Result (Vec ℕ) StoreFault)
       (did : AdminDone g asked first new hands conf answer) where
@@ -223,57 +194,50 @@ module _ {D : Type 0} (g : Ghosts D) (disks disks_now : Disks D)
 
     like_book : (told : Contents) → Tells (disks_at g disks) told
         → HoldsOfBook told (LikeBook told (disks_at g disks_now))
-    like_book told tells = let one = at_told told tells in record {
-      stood = one.stood;
-      each = λ book. record {
-        left = λ image leaves.
-            (on_book told book (open_for g first hands conf told one book)).left image
-            (left_of image leaves);
-      };
-    }
+    like_book told tells =
+        each_opened g disks disks_now first new hands conf opened told tells
+        (LikeBook told (disks_at g disks_now)) (λ book at. record {
+          left = λ image leaves.
+              (on_book told book at).left image
+              (store_left g disks disks_now first new are image leaves);
+        })
 
   module _
       (seen_is_image : (disk : D) (c : List ℕ) → g.seen disk ≡ Some c → g.images disk c)
       (read : (name : DiskName) → OnlyRead g (disk_named name disks) (store_disk name first)) where
-    -- what the disks tell is left of the opened store
-    seen_left : (told : Contents) → Tells (disks_at g disks) told → StoreIsLeft g first told
-    seen_left told tells name =
-        seen_is_image (store_disk name first) (content_named name told)
-        ((read name).same ∙ told_all g disks told tells name)
-
     log_of : (told : Contents) → Tells (disks_at g disks) told → (book : BookAt told)
         (at : OpenFor g first hands conf book)
         → IsErrorLogOf book.fresh told book.book (error_log first at.stands.older)
-    log_of told tells book at = let left = seen_left told tells in record {
-      second = first.logs.second;
-      says = says_left g book.fresh first book.book told at.stands (left ConfDisk) (left SlotA)
-          (left SlotB);
-      active = record {
-        payloads = at.stands.keep.entry_payloads;
-        journal = at.stands.keep.entries_keep.left (active_of_two first.logs.second told)
-            (left_active g first told (left ErrA) (left ErrB));
-        spelled = at.stands.keep.entries_spelled;
-      };
-    }
+    log_of told tells book at =
+        let left = told_seen g seen_is_image disks first read told tells in record {
+          second = first.logs.second;
+          says = says_left g book.fresh first book.book told at.stands (left ConfDisk) (left SlotA)
+              (left SlotB);
+          active = record {
+            payloads = at.stands.keep.entry_payloads;
+            journal = at.stands.keep.entries_keep.left (active_of_two first.logs.second told)
+                (left_active g first told (left ErrA) (left ErrB));
+            spelled = at.stands.keep.entries_spelled;
+          };
+        }
 
     text_told : (text : Vec ℕ) → AdminDone g asked first new hands conf (Ok text)
         → (told : Contents) → Tells (disks_at g disks) told
         → HoldsOfBook told (ToldOf asked told (disks_at g disks_now) text.items)
-    text_told text did told tells = let one = at_told told tells in record {
-      stood = one.stood;
-      each = λ book.
-          let at : OpenFor g first hands conf book = open_for g first hands conf told one book in
-          let found = on_book (Ok text) did told book at in record {
-            left = λ image leaves. found.after image (left_of image leaves);
-            text_is = record {
-              conf = conf;
-              in_force = at.in_force;
-              log = error_log first at.stands.older;
-              log_is = log_of told tells book at;
-              text_is = found.text_is;
-            };
+    text_told text did told tells =
+        each_opened g disks disks_now first new hands conf opened told tells
+        (ToldOf asked told (disks_at g disks_now) text.items) (λ book at.
+        let found = on_book (Ok text) did told book at in record {
+          left = λ image leaves.
+              found.after image (store_left g disks disks_now first new are image leaves);
+          text_is = record {
+            conf = conf;
+            in_force = at.in_force;
+            log = error_log first at.stands.older;
+            log_is = log_of told tells book at;
+            text_is = found.text_is;
           };
-    }
+        })
 
   -- why it was not told
   untold :
@@ -299,20 +263,10 @@ module _ {D : Type 0} (g : Ghosts D) (disks disks_now : Disks D)
 
   -- ---- the counts of the disks
 
-  none_failed : NoDiskFailed g first new → NoneFailed g disks disks_now
-  none_failed quiet name = sym (ap g.failures (are name)) ∙ quiet name ∙ kept name
-
-  rose_since : SomeDiskFailed g first new → RoseOnAny g disks disks_now
-  rose_since (name, rose) = (
-    name,
-    subst (λ (d : D). Rose (g.failures (disk_named name disks)) (g.failures d)) (are name)
-        (subst (λ n. Rose n (g.failures (store_disk name new))) (kept name) rose),
-  )
-
   untold_account : (fault : StoreFault) → AdminDone g asked first new hands conf (Err fault)
       → DisksAccount {T = List ℕ} (disks_at g disks) (disks_at g disks_now) (Err (of_store fault))
   untold_account store.Disk did =
-      rose_any g disks disks_now (rose_since did.refused)
+      rose_any g disks disks_now (some_rose g disks disks_now first new are kept did.refused)
   untold_account (store.Full kind) did = tt
   untold_account (store.Closed name failures) did =
       absurd (let e : Some (name, failures) ≡ None =
@@ -330,7 +284,8 @@ module _ {D : Type 0} (g : Ghosts D) (disks disks_now : Disks D)
       → TextAsked asked (disks_at g disks) (disks_at g disks_now) (Ok text.items)
   asked_told seen_is_image read text did = record {
     went = text_told seen_is_image read text did;
-    counts = none_counts g disks disks_now (none_failed did.quiet);
+    counts = none_counts g disks disks_now
+        (none_rose g disks disks_now first new are kept did.quiet);
   }
 
   pub asked_untold :

@@ -33,6 +33,7 @@ use Rattle.fm_top.specs.Esc.{TextEnds}
 use Rattle.fm_top.specs.Fmd.{ConcludingStops, DrainedFrom, SettlingEnds}
 use Rattle.fm_top.specs.GenerateStart.{AreGenerated, AreGeneratedAt, BeginsLate}
 use Rattle.fm_top.specs.Headline.{HoldsOfBook, LikeBook}
+use Rattle.fm_top.specs.Init.{AreUnwritten}
 use Rattle.fm_top.specs.Limits.{concluding_limit}
 use Rattle.fm_top.specs.Outside.{DisksAt, Tells}
 
@@ -129,9 +130,10 @@ UnbegunStops disks (Full Numbers) = (told : Contents) → Tells disks told → B
 UnbegunStops disks Memory = Unit {0}
 UnbegunStops disks _ = ⊥
 
--- The store was opened, and nothing generated.
+-- The store was opened, and nothing generated: the disks were read at most.
 pub record StoreUnbegun (disks disks_now : DisksAt) (stop : Stop) : Type 0 where
   pub why : UnbegunStops disks stop
+  pub untouched : AreUnwritten disks disks_now
   pub holds : (told : Contents) → Tells disks told → HoldsOfBook told (LikeBook told disks_now)
 
 -- The first of what was generated was taken, and then the work on the store stopped.
@@ -166,11 +168,13 @@ pub record GenerateTried (number : ℕ) (disks disks_now : DisksAt) (ran : Resul
       (GenerateStops number disks disks_now)
   pub counts : DisksAccount disks disks_now ran
 
--- The text is the lines of what is generated, and each image reads like the book from before.
+-- The text is the lines of what is generated. The disks were read at most, and each image reads
+-- like the book from before.
 pub record LinesTold (number : ℕ) (disks disks_now : DisksAt) (text : List ℕ) : Type 0 where
   pub entries : List Entry
   pub are : Generates number disks entries
   pub text_is : text ≡ lines_text entries
+  pub untouched : AreUnwritten disks disks_now
   pub holds : (told : Contents) → Tells disks told → HoldsOfBook told (LikeBook told disks_now)
 
 -- What was done with the store, of which nothing is asked but its book.

@@ -1,7 +1,8 @@
 use Rattle.std.proofs.Common.{◌≡◌, ◌++◌, ◌∷◌, [], ◌+◌, ◌<◌, Some, None, length, subst, sym}
 use Rattle.std.proofs.Common.{◌∙◌, rules}
+use Rattle.std.proofs.lemmas.List.{nil_from_length}
 use Rattle.ev_join.specs.Search.{GoesOn, IsLeastFrom, steps_left}
-use Rattle.ev_join.proofs.Turns.{Turning, no_items, off_falls, on_falls, turn_off, turn_on}
+use Rattle.ev_join.proofs.Turns.{Turning, off_falls, on_falls, turn_off, turn_on}
 use Rattle.ev_join.proofs.Turns.{turn_over}
 use Rattle.ev_join.proofs.Turns.{turn_whole}
 use Rattle.ev_join.proofs.search.next.Goals as goal
@@ -70,4 +71,4 @@ returns-in-None-pop c =
     c.as_slice.ensures.value c.in-None.ensures in
     let len : length c.turns.front.items ≡ 0 = search rules in
     turn_over tables c.args.count (c.args.front.now.items ++ c.args.value ∷ [])
-    c.turns.front.items [] c.turns.from c.turns.invariant (no_items c.turns.front.items len) none
+    c.turns.front.items [] c.turns.from c.turns.invariant (nil_from_length c.turns.front.items len) none

@@ -50,6 +50,7 @@ returns-in_err-other-clause-cause g c =
     rw (found.1, found.2, judged.0) (
       refl,
       (c.in_ok-first.ensures.cause, c.in_ok-second.ensures.cause),
+      (c.in_ok-first.ensures.settled, c.in_ok-second.ensures.settled),
       λ x y left right.
           second_damaged x y c.in_ok-first.first c.in_ok-second.second
           c.in_ok-one.ensures.whole (c.in_ok-first.ensures.tells x left) judged.1

@@ -17,9 +17,9 @@ returns-then-size-into-clause-found g c =
     c.in_ok-next.ensures.within in
     rw (← c.self.view_is) (reads_size g.D.Disk _ c.args.place _ c.in-Some-2.next
     c.if-place-self.false within.0 within.1
-    (λ payloads keeps. subst (λ (o : Option ℕ).
-    ShowsNext (take (c.self.inside.end + 1) keeps.told.0) c.args.place o) c.in-Some-2.is
-    (c.in_ok-next.ensures.shows keeps.told.0 keeps.told.1))
+    (λ bytes told. subst (λ (o : Option ℕ).
+    ShowsNext (take (c.self.inside.end + 1) bytes) c.args.place o) c.in-Some-2.is
+    (c.in_ok-next.ensures.shows bytes told))
     _ c.if-size-into.true)
 
 pub returns-clause-found : goal.returns-clause-found
@@ -31,9 +31,9 @@ returns-clause-found g c =
     c.in_ok-next.ensures.within in
     rw (← c.self.view_is) (reads_payload g.D.Disk _ c.args.place _ c.in-Some-2.next
     c.if-place-self.false within.0 within.1
-    (λ payloads keeps. subst (λ (o : Option ℕ).
-    ShowsNext (take (c.self.inside.end + 1) keeps.told.0) c.args.place o) c.in-Some-2.is
-    (c.in_ok-next.ensures.shows keeps.told.0 keeps.told.1))
+    (λ bytes told. subst (λ (o : Option ℕ).
+    ShowsNext (take (c.self.inside.end + 1) bytes) c.args.place o) c.in-Some-2.is
+    (c.in_ok-next.ensures.shows bytes told))
     c.copy.new.into _
     (λ bytes told. c.in_ok-copy.ensures.bytes bytes (c.in_ok-next.ensures.still.same ∙ told)
     ∙ ap (λ (n : ℕ). range (c.args.place + 5) n bytes) long))

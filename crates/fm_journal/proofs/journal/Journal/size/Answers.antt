@@ -1,9 +1,10 @@
 -- At the end is no record, and before it the record of a payload that is kept.
-use Rattle.std.proofs.Common.{◌≡◌, ℕ, ◌+◌, ◌-◌, take, Option, Some, sym, ◌∙◌, subst}
+use Rattle.std.proofs.Common.{◌≡◌, ℕ, ◌+◌, ◌-◌, ◌≤◌, ◌^◌, take, Option, Some, IfSome, sym, ◌∙◌}
+use Rattle.std.proofs.Common.{subst}
 use Rattle.std.specs.Prelude.{slice_get, length}
 use Rattle.std.specs.Option.{option_map}
 use Rattle.fm_journal.specs.Look.{ShowsNext}
-use Rattle.fm_journal.proofs.Places.{none_at_end, size_kept}
+use Rattle.fm_journal.proofs.Places.{none_at_end, size_kept, shown_stands}
 use Rattle.fm_journal.proofs.journal.Journal.size.Goals as goal
 
 pub returns-then-place-self-clause-found : goal.returns-then-place-self-clause-found
@@ -24,3 +25,14 @@ returns-clause-found g c =
     (λ same. c.if-place-self.false (at ∙ same))
     (subst (λ (n : ℕ). ShowsNext (take (c.self.inside.end + 1) bytes) n (Some c.in-Some-2.next))
     at shows)))
+
+pub returns-clause-stands : goal.returns-clause-stands
+returns-clause-stands g c =
+    let within = subst (λ (o : Option ℕ). IfSome o (λ next. (c.args.place + 5 ≤ next)
+    × (next ≤ c.self.inside.end) × (next ≤ c.args.place + 5 + 2 ^ 28))) c.in-Some-2.is
+    c.in_ok-next.ensures.within in
+    rw (← c.self.view_is) (λ bytes told.
+    let there = shown_stands bytes c.args.place c.in-Some-2.next c.self.inside.end within.1
+    (subst (λ (o : Option ℕ). ShowsNext (take (c.self.inside.end + 1) bytes) c.args.place o)
+    c.in-Some-2.is (c.in_ok-next.ensures.shows bytes told)) in
+    (there.0, there.1, there.2, there.3.0, there.4))
