@@ -4,7 +4,7 @@ use Rattle.std.proofs.Common.{List, [], ◌∷◌, eqb, ltb, length, get_or, tak
 use Rattle.std.proofs.Common.{refl, sym, ap, subst, ◌∙◌, inl, inr, arith, Some}
 use Rattle.std.specs.List.{filter, list_all, list_any}
 use Rattle.std.proofs.lemmas.Bool.{cases_Bool, and_parts, and_from, or_cases, or_left, or_right}
-use Rattle.std.proofs.lemmas.Bool.{eq-eqb, eqb-true, ltb-true, lt-ltb, false≢true}
+use Rattle.std.proofs.lemmas.Bool.{eq-eqb, eqb-true, ltb-true, false≢true}
 use Rattle.std.proofs.lemmas.Bool.{cond-true, cond-false}
 use Rattle.std.proofs.lemmas.List.{take_more, take_all, length-map, get_or-map}
 use Rattle.std.proofs.lemmas.List.Elements.{filter-append}
@@ -12,6 +12,7 @@ use Rattle.std.proofs.lemmas.Option.{same_Some}
 use Rattle.ev_graph.specs.Sets.{NodeSet, is_member, ascends}
 use Rattle.dx_case.specs.declared.candidate.Candidate.{Candidate}
 use Rattle.dx_case.specs.Candidates.{roots_in}
+use Rattle.dx_live.proofs.Marking.{ascends_cons, ascends_tail}
 
 append_nil : {A : Type 0} (xs : List A) → xs ++ [] ≡ xs
 append_nil [] = refl
@@ -145,25 +146,14 @@ above_all x (z ∷ zs) h y i =
       | inr there ↦ omega (arith, ltb-true x z p.0, above_all z zs p.1 y there)
     ]
 
-ascends_from : (x : ℕ) (xs : List ℕ) → ascends xs ≡ true
-    → ((y : ℕ) → is_member xs y ≡ true → x < y) → ascends (x ∷ xs) ≡ true
-ascends_from x [] h a = refl
-ascends_from x (y ∷ ys) h a =
-    and_from (ltb x y) (ascends (y ∷ ys))
-    (lt-ltb x y (a y (or_left (eqb y y) (is_member ys y) (eq-eqb y y refl)))) h
-
-ascends_rest : (x : ℕ) (xs : List ℕ) → ascends (x ∷ xs) ≡ true → ascends xs ≡ true
-ascends_rest x [] h = refl
-ascends_rest x (y ∷ ys) h = (and_parts (ltb x y) (ascends (y ∷ ys)) h).1
-
 pub ascends_part : {A : Type 0} (f : A → ℕ) (p : A → Bool) (xs : List A)
     → ascends (map f xs) ≡ true → ascends (map f (filter p xs)) ≡ true
 ascends_part f p [] h = refl
 ascends_part {A} f p (x ∷ xs) h =
-    let rest = ascends_part f p xs (ascends_rest (f x) (map f xs) h) in
+    let rest = ascends_part f p xs (ascends_tail (f x) (map f xs) h) in
     elim (cases_Bool (p x)) [
       | inl here ↦ ap (λ (zs : List A). ascends (map f zs)) (yes p x xs here)
-          ∙ ascends_from (f x) (map f (filter p xs)) rest (λ y i.
+          ∙ ascends_cons (f x) (map f (filter p xs)) rest (λ y i.
           let r = made_from f (filter p xs) y i in
           let s = kept_from p xs r.0 r.1 r.2 in
           let P : ℕ → Type 0 = λ z. f x < z in
@@ -191,7 +181,7 @@ same_list (x ∷ xs) (y ∷ ys) a b f h =
             absurd (omega (arith, above_all y ys b x later, above_all x xs a y behind))
       ]
     ] in
-    let rest = same_list xs ys (ascends_rest x xs a) (ascends_rest y ys b)
+    let rest = same_list xs ys (ascends_tail x xs a) (ascends_tail y ys b)
     (λ e i. elim (or_cases (eqb y e) (is_member ys e)
     (f e (or_right (eqb x e) (is_member xs e) i))) [
       | inl here ↦ absurd (omega (arith, above_all x xs a e i, same, eqb-true y e here))

@@ -1,13 +1,12 @@
 -- What searches from a report and from roots meet.
 use Rattle.std.proofs.Common.{◌≡◌, ◌<◌, not, ℕ, zero, suc, true}
-use Rattle.std.proofs.Common.{List, [], ◌∷◌, eqb, leb, cond, length, get_or, refl, sym, ap, subst}
+use Rattle.std.proofs.Common.{List, [], ◌∷◌, eqb, leb, length, get_or, refl, sym, ap, subst}
 use Rattle.std.proofs.Common.{◌∙◌, inl, inr, arith, nat_cmp}
 use Rattle.std.specs.List.{filter, list_all, count_by}
 use Rattle.std.specs.List.Retain.{IsFiltered, DiffersFromLast}
 use Rattle.std.specs.List.Sorted.{IsPermutation, IsSorted}
-use Rattle.std.proofs.lemmas.Bool.{cases_Bool, cases_eq, and_parts, or_left, or_right}
-use Rattle.std.proofs.lemmas.Bool.{eq-eqb, leb-true, cond-false}
-use Rattle.std.proofs.lemmas.List.Sums.{sum_by-cons}
+use Rattle.std.proofs.lemmas.Bool.{cases_eq, and_parts, or_left}
+use Rattle.std.proofs.lemmas.Bool.{eq-eqb, leb-true}
 use Rattle.ev_graph.specs.Sets.{NodeSet, is_member}
 use Rattle.ev_graph.specs.Kinds.{is_root_node, is_report_node}
 use Rattle.ev_graph.specs.Wiring.{Wiring, wiring}
@@ -25,6 +24,7 @@ use Rattle.dx_story.specs.Story.{IsStory}
 use Rattle.dx_live.specs.Region.{AreCounted, AreRising}
 use Rattle.dx_live.proofs.Graphs.{graph_counted, graph_rising}
 use Rattle.dx_live.proofs.Ordered.{once_ascends, once_members}
+use Rattle.dx_live.proofs.Regions.{some_counted}
 use Rattle.dx_case.specs.Candidates.{AreCovered}
 use Rattle.dx_case.specs.Finding.{AreSorted, AreRootsOf}
 
@@ -69,22 +69,6 @@ can_search_backwards v starts nodes places inc n p below = record {
         ap (λ (m : MarkedValue). m.size) n,
       );
 }
-
--- some member of a list is in a set that has some of them
-some_counted : (X : NodeSet) (xs : List ℕ) → 0 < count_by X xs
-    → (x : ℕ) × (is_member xs x ≡ true) × (X x ≡ true)
-some_counted X [] h = absurd (omega (arith, h))
-some_counted X (x ∷ xs) h = elim (cases_Bool (X x)) [
-  | inl here ↦ (x, or_left (eqb x x) (is_member xs x) (eq-eqb x x refl), here)
-  | inr away ↦
-      let p = some_counted X xs (omega (
-        arith,
-        h,
-        sum_by-cons (λ y. cond (X y) 1 0) x xs,
-        cond-false {A = ℕ} (X x) 1 0 away,
-      )) in
-      (p.0, or_right (eqb x p.0) (is_member xs p.0) p.1, p.2)
-]
 
 -- a member of a story other than the root has a cause of lower rank in it
 pub record HasCauseIn (w : Wiring) (rank : ℕ → ℕ) (X : NodeSet) (e : ℕ) : Type 0 where

@@ -1,5 +1,5 @@
 -- The state that a module begins in stands.
-use Rattle.std.proofs.Common.{◌≡◌, ℕ, List, [], ◌∷◌, map, refl, sym, ap, ◌∙◌, subst, IsTrue}
+use Rattle.std.proofs.Common.{◌≡◌, ℕ, List, [], map, refl, sym, ap, ◌∙◌, subst, IsTrue}
 use Rattle.std.specs.List.{AllByRecursion}
 use Rattle.fm_entry.specs.declared.list_event.ListEvent.{ListEvent}
 use Rattle.fm_core.specs.Meaning.{Diagnosis}
@@ -17,11 +17,7 @@ use Rattle.dx_turn.specs.Standing.{still_of}
 use Rattle.dx_turn.specs.Tracking.{kept_of, IsCurrent}
 use Rattle.dx_engine.specs.Standing.{StandingParts, stands_for, AreStanding}
 use Rattle.dx_engine.proofs.Placing.{rates_fresh}
-
-kept_fresh : (es : List EngineSpec)
-    → map (λ (r : RateOf). r.kept) (fresh_rates es) ≡ map (λ (e : EngineSpec). []) es
-kept_fresh [] = refl
-kept_fresh (e ∷ es) = ap (λ (ks : List (List ℕ)). [] ∷ ks) (kept_fresh es)
+use Rattle.dx_turn.proofs.Reloads.{kept_fresh}
 
 -- parts to which nothing has happened
 abbrev pub first_parts : ℕ → List Tracked → List ListEvent → List RateOf → StandingParts

@@ -105,7 +105,7 @@ count_kept X R (x ∷ xs) h =
       away : (y : ℕ) → R y ≡ false → X y ≡ false
       away y f = elim (cases_Bool (X y)) [ inl t ↦ absurd (both_ways (R y) f (h y t)) | inr n ↦ n ]
 
-some_counted : (X : NodeSet) (xs : List ℕ) → 0 < count_by X xs → (x : ℕ) × (is_member xs x ≡ true)
+pub some_counted : (X : NodeSet) (xs : List ℕ) → 0 < count_by X xs → (x : ℕ) × (is_member xs x ≡ true)
     × (X x ≡ true)
 some_counted X [] h = absurd (omega (arith, h))
 some_counted X (x ∷ xs) h = elim (cases_Bool (X x)) [

@@ -4,8 +4,8 @@ use Rattle.std.proofs.Common.{drop}
 use Rattle.std.proofs.Common.{get_or, sym, ap, ◌∙◌, arith, sum, drop-cons, add-one}
 use Rattle.std.proofs.lemmas.List.Sums.{sum_by-cons}
 use Rattle.std.proofs.Common.{map}
-use Rattle.dx_step.specs.Certainty.{share, shares, with_rest, certainties}
-use Rattle.dx_step.proofs.Certain.{certain_all}
+use Rattle.dx_step.specs.Certainty.{share, shares, with_rest}
+use Rattle.dx_step.proofs.Certain.{shares_few}
 
 pub sum_first : (x : ℕ) (xs : List ℕ) → sum (x ∷ xs) ≡ x + sum xs
 sum_first x xs = sum_by-cons (λ n. n) x xs
@@ -28,15 +28,6 @@ few_by (x ∷ xs) h =
     let all = h (omega arith) in
     let same = rest_sum (100 - sum (x ∷ xs)) x xs in
     omega arith
-
--- shares come to no more than 100
-pub shares_few : (rates : List ℕ) → sum (shares rates) ≤ 100
-unfolding certainties
-shares_few rates = few_by (shares rates) (λ some. some_all rates some) where
-  some_all : (rates : List ℕ) → 0 < length (shares rates)
-      → sum (with_rest (100 - sum (shares rates)) (shares rates)) ≡ 100
-  some_all [] some = absurd (omega arith)
-  some_all (r ∷ rates) some = certain_all (r ∷ rates) (omega arith)
 
 -- the shares of rates, where their total is the sum
 pub shares_low : (rates : List ℕ) (total : ℕ) (items : List ℕ) → total ≡ sum rates

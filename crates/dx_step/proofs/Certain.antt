@@ -34,7 +34,7 @@ some_or_none : (n : ℕ) → (n ≡ 0) ⊎ (0 < n)
 some_or_none zero = inl refl
 some_or_none (suc n) = inr (omega arith)
 
-shares_few : (rates : List ℕ) → sum (shares rates) ≤ 100
+pub shares_few : (rates : List ℕ) → sum (shares rates) ≤ 100
 shares_few rates =
     elim (some_or_none (sum rates)) [
       | inl none ↦

@@ -257,7 +257,7 @@ fresh_engines time (e ∷ es) =
     (and_from (are_kept e.n e.t []) true
     (and_from (nat_le 0 e.n) true (le-leb 0 e.n (omega arith)) refl) refl) (fresh_engines time es)
 
-known_there : (k : Configurations) (n : ℕ) → n < known_of k → IsTrue (is_there (found_at k n))
+pub known_there : (k : Configurations) (n : ℕ) → n < known_of k → IsTrue (is_there (found_at k n))
 known_there (Single number x) n h = absurd (omega arith)
 known_there (Listed xs) n h = listed xs n h where
   listed : (xs : List Configuration) (n : ℕ) → n < length xs → IsTrue (is_there (slice_get xs n))

@@ -16,7 +16,7 @@ use Rattle.dx_case.specs.declared.case.Case.{Case}
 use Rattle.dx_case.specs.Cases.{open_of}
 use Rattle.dx_case.specs.Starts.{AreStartsOf}
 use Rattle.dx_serd.specs.Rates.{RateOf, IsLimited}
-use Rattle.dx_state.specs.Configured.{Rules, Configuration, Configurations, Single, Listed}
+use Rattle.dx_state.specs.Configured.{Rules, Configuration}
 use Rattle.dx_state.specs.Configured.{found_at, known_of, configuration_at}
 use Rattle.dx_state.specs.LawfulState.{solved_numbers}
 use Rattle.dx_step.specs.Lawful.{is_there}
@@ -35,6 +35,7 @@ use Rattle.dx_turn.specs.Joining.{turn_of, IsWork, HasGone}
 use Rattle.dx_turn.specs.Reloading.{fresh_rates, with_reload, reloaded_to, HasEnded}
 use Rattle.dx_turn.proofs.Turned.{turned_then, turned_as}
 use Rattle.dx_turn.proofs.Passing.{opens_more}
+use Rattle.dx_step.proofs.Stepping.{known_there}
 
 decide_append : (r : Rules) (xs ys : List OpenCase) (t : Turn)
     → decide_each r (xs ++ ys) t ≡ decide_each r ys (decide_each r xs t)
@@ -127,10 +128,6 @@ get_there [] n h = absurd (omega arith)
 get_there (x ∷ xs) zero h = refl
 get_there (x ∷ xs) (suc n) h = get_there xs n (omega arith)
 
-known_there : (k : Configurations) (n : ℕ) → n < known_of k → IsTrue (is_there (found_at k n))
-known_there (Single number x) n h = absurd (omega arith)
-known_there (Listed xs) n h = get_there xs n h
-
 pub above_there : (d : Ground) (conf : ℕ) → is_above (rules_on d) (state_on d) conf ≡ true
     → IsTrue (is_there (found_at (rules_on d).configurations conf))
 above_there d conf h =
@@ -150,7 +147,7 @@ reload_not d conf w off h = record {
 }
 
 -- one does
-kept_fresh : (es : List EngineSpec)
+pub kept_fresh : (es : List EngineSpec)
     → map (λ (r : RateOf). r.kept) (fresh_rates es) ≡ map (λ (e : EngineSpec). []) es
 kept_fresh [] = refl
 kept_fresh (e ∷ es) = ap (λ (ks : List (List ℕ)). [] ∷ ks) (kept_fresh es)

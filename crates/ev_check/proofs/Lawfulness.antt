@@ -42,11 +42,11 @@ use Rattle.ev_words.specs.Words.{is_odd_count}
 
 -- ---- tests that fail
 
-denied : (a : Bool) → not a ≡ false → a ≡ true
+pub denied : (a : Bool) → not a ≡ false → a ≡ true
 denied true e = refl
 denied false e = absurd (false≢true (sym e))
 
-passed_over : {A : Type 0} (b : Bool) (x : A) (o : Option A) → (if b then Some x else o) ≡ None
+pub passed_over : {A : Type 0} (b : Bool) (x : A) (o : Option A) → (if b then Some x else o) ≡ None
     → (b ≡ false) × (o ≡ None)
 passed_over true x o e = absurd (cc)
 passed_over false x o e = (refl, e)
@@ -209,23 +209,23 @@ given_each events (statements.Prop place left n k right ∷ ss) g = (g.0, given_
 
 -- ---- a file
 
-events_seen : (engines : List Declared) (ss : List Statement)
+pub events_seen : (engines : List Declared) (ss : List Statement)
     → map spec_event (filter_map (event_spec engines) ss) ≡ filter_map event_in ss
 events_seen engines [] = refl
 events_seen engines (statements.Event place d attrs ∷ ss) = ap (λ l. d ∷ l) (events_seen engines ss)
 events_seen engines (statements.Engine place d attrs ∷ ss) = events_seen engines ss
 events_seen engines (statements.Prop place left n k right ∷ ss) = events_seen engines ss
 
-numbers_option : (o : Option ℕ) (a b : List ℕ) → a ≡ b → cons_option o a ≡ cons_option o b
+pub numbers_option : (o : Option ℕ) (a b : List ℕ) → a ≡ b → cons_option o a ≡ cons_option o b
 numbers_option o a b e = ap (cons_option o) e
 
-numbers_seen : (events : List Declared) (ps : List SidePattern)
+pub numbers_seen : (events : List Declared) (ps : List SidePattern)
     → pattern_numbers events (map view_pattern ps) ≡ side_numbers events ps
 numbers_seen events [] = refl
 numbers_seen events (p ∷ ps) =
     numbers_option (declared_number events (subject_of p)) _ _ (numbers_seen events ps)
 
-causes_seen : (events : List Declared) (ss : List Statement)
+pub causes_seen : (events : List Declared) (ss : List Statement)
     → map (linking_causes events) (filter_map linking ss) ≡ filter_map (causes_of events) ss
 causes_seen events [] = refl
 causes_seen events (statements.Event place d attrs ∷ ss) = causes_seen events ss
@@ -234,7 +234,7 @@ causes_seen events (statements.Prop place left n k right ∷ ss) =
     ap (λ l. l ∷ map (linking_causes events) (filter_map linking ss)) (numbers_seen events left)
     ∙ ap (λ ls. side_numbers events left ∷ ls) (causes_seen events ss)
 
-effects_seen : (events : List Declared) (ss : List Statement)
+pub effects_seen : (events : List Declared) (ss : List Statement)
     → map (linking_effects events) (filter_map linking ss) ≡ filter_map (effects_of events) ss
 effects_seen events [] = refl
 effects_seen events (statements.Event place d attrs ∷ ss) = effects_seen events ss

@@ -18,7 +18,7 @@ use Rattle.ev_check.specs.declared.checked.SerdSpec.{SerdSpec}
 use Rattle.ev_graph.specs.Sets.{ascends_by, starts_above}
 use Rattle.ev_graph.specs.declared.nodes.Node.{Node}
 use Rattle.ev_graph.specs.declared.nodes.EngineSpec.{EngineSpec}
-use Rattle.ev_events.proofs.Places.{none_is_not, there_is, within_is}
+use Rattle.ev_events.proofs.Places.{none_is_not, there_is, within_is, get_map}
 use Rattle.ev_events.specs.Placed.{ArePlaced, IsAmongNames, IsAt, is_before_name}
 use Rattle.ev_events.specs.Nodes.{AreEngines, AreEnginesAt, AreEnginesThere, AreNodes, AreNodesAt}
 use Rattle.ev_events.specs.Nodes.{AreNodesThere, ArePlacedEvents, HasEngine}
@@ -26,7 +26,7 @@ use Rattle.ev_events.specs.Nodes.{IsEngineFor, IsEngineOf, IsNodeAt, IsNodeOf}
 use Rattle.ev_events.specs.Nodes.{engine_name, file_engines, node_name}
 use Rattle.ev_events.specs.Nodes.{spec_engine}
 use Rattle.ev_events.specs.Whole.{IsWholeFile}
-use Rattle.ev_events.proofs.Wholeness.{at_map, map_at}
+use Rattle.ev_events.proofs.Wholeness.{at_map}
 
 pub map_long : {X Y : Type 0} (f : X → Y) (xs : List X) → length (map f xs) ≡ length xs
 map_long f [] = refl
@@ -83,7 +83,7 @@ module _ (f : CheckedFile) (topology : Topology) (whole : IsWholeFile f)
     long = placed.long;
     each = λ i k name s t.
         let p = placed.each i k name s t in
-        let e = map_at spec_event f.events k p.declared p.stands in
+        let e = get_map spec_event f.events k p.declared p.stands in
         let at = subst (λ (d : Declared). IsAt topology d name) (sym e.2) p.at in
         record {
           spec = e.0;
@@ -113,7 +113,7 @@ module _ (f : CheckedFile) (topology : Topology) (whole : IsWholeFile f)
     long = others.long;
     each = λ i k name s t.
         let p = others.each i k name s t in
-        let e = map_at spec_engine f.engines k p.declared p.stands in
+        let e = get_map spec_engine f.engines k p.declared p.stands in
         let at = subst (λ (d : Declared). IsAt topology d name) (sym e.2) p.at in
         let w = whole.engines k e.0 e.1 in
         record {

@@ -15,7 +15,7 @@ use Rattle.std.specs.declared.cmp.Ordering.{Ordering}
 use Rattle.std.specs.declared.cmp.Ordering.TheVariants.{Less, Equal, Greater}
 use Rattle.std.proofs.lemmas.Bool.{cases_Bool, false≢true, and_from, or_right}
 use Rattle.std.proofs.lemmas.Bool.Decides.{nat_tests}
-use Rattle.ev_events.proofs.Wholeness.{map_at, at_map}
+use Rattle.ev_events.proofs.Wholeness.{at_map}
 use Rattle.std.proofs.lemmas.List.Folds.{list_any_more}
 use Rattle.std.proofs.lemmas.Map.Entries.{place_from_lookup, btree_map_get_place}
 use Rattle.std.proofs.lemmas.Map.Entries.{length-keys_of, length-values_of}
@@ -29,7 +29,7 @@ use Rattle.fm_topo.specs.Groups.{names_text, places_of, group_of}
 use Rattle.ev_tree.specs.declared.tree.Declared.{Declared}
 use Rattle.ev_graph.specs.Sets.{ascends_by}
 use Rattle.ev_words.specs.Iterators.{same_name}
-use Rattle.ev_events.proofs.Places.{none_is_not, any_found, within_is}
+use Rattle.ev_events.proofs.Places.{none_is_not, any_found, within_is, get_map}
 use Rattle.ev_events.proofs.Agreeing.{same_from}
 use Rattle.ev_events.proofs.Grouped.{names_all, text_of_names}
 use Rattle.ev_events.specs.Placed.{AreKept, AreMore, ArePlaced, IsAt, IsPlaced}
@@ -251,7 +251,7 @@ module _ (topology : Topology) (ds : List Declared) where
       names = keys_of m.entries;
       ascend = sorted_ascend (keys_of m.entries) order;
       each = λ i name s.
-          let e = map_at (λ (p : EventName × ℕ). p.0) m.entries i name s in
+          let e = get_map (λ (p : EventName × ℕ). p.0) m.entries i name s in
           let whole : slice_get m.entries i ≡ Some (name, e.0.1) =
           e.1 ∙ ap (λ (x : EventName). Some (x, e.0.1)) e.2 in
           (e.0.1, kept_at count kept i e.0.1 name whole);

@@ -1,7 +1,7 @@
 -- A checked file keeps what the nodes and engines of its graph rest on.
 use Rattle.std.proofs.Common.{◌≡◌, ℕ, zero, suc, ◌<◌, ◌≤◌, ◌^◌, Bool, true, false, not, ◌||◌}
 use Rattle.std.proofs.Common.{List, [], ◌∷◌, map, filter_map, length, Option, Some, None}
-use Rattle.std.proofs.Common.{slice_get, if◌then◌else◌, refl, sym, ap, ◌∙◌, subst, arith}
+use Rattle.std.proofs.Common.{slice_get, refl, sym, ap, ◌∙◌, subst, arith}
 use Rattle.std.proofs.Common.{position, is_some, inl, inr, min, unwrap_or, nat_le, nat_lt}
 use Rattle.std.specs.List.{list_any, cons_option, position_or_len}
 use Rattle.std.proofs.lemmas.Bool.{false≢true, cases_Bool, and_parts, le-leb, lt-ltb, or_parts}
@@ -33,39 +33,26 @@ use Rattle.ev_check.specs.CheckedFile.{CheckedFile, Linking, event_spec, kind_of
 use Rattle.ev_check.specs.CheckedFile.{serd_spec}
 use Rattle.ev_check.specs.CheckedFile.{view_prop}
 use Rattle.ev_check.specs.Declarations.{declared_number, engine_in, engines_in}
-use Rattle.ev_check.specs.Declarations.{event_in}
 use Rattle.ev_check.specs.Declarations.{events_in, is_alike, is_declared}
 use Rattle.ev_check.specs.Declarations.{is_undeclared_trip, names_undeclared}
 use Rattle.ev_check.specs.Defaults.{first_by, or_else, fit_of, within_of, n_of, t_of}
 use Rattle.ev_check.specs.Drawn.{number_at, trip_among, causes_in, effects_in}
 use Rattle.ev_check.specs.Lawful.{file_events, linking_causes, linking_effects, spec_event}
 use Rattle.ev_check.specs.Sound.{IsSound}
-use Rattle.ev_check.specs.Drawn.{causes_of, effects_of, side_numbers}
-use Rattle.ev_check.specs.Declarations.{subject_of}
-use Rattle.ev_check.specs.Lawful.{pattern_numbers}
-use Rattle.ev_tree.specs.Pattern.{view_pattern}
-use Rattle.ev_tree.specs.declared.tree.SidePattern.{SidePattern}
 use Rattle.ev_check.specs.declared.checked.DeclKind.{DeclKind}
 use Rattle.ev_check.specs.declared.checked.DeclKind.TheVariants as kinds
 use Rattle.ev_check.specs.declared.checked.EventSpec.{EventSpec}
 use Rattle.ev_check.specs.declared.checked.SerdSpec.{SerdSpec}
-use Rattle.ev_events.proofs.Places.{none_is_not, first_found, first_item, any_found}
+use Rattle.ev_events.proofs.Places.{none_is_not, first_found, first_item, any_found, get_map}
 use Rattle.ev_events.proofs.Agreeing.{names_same}
 use Rattle.ev_events.proofs.Grouped.{names_all}
 use Rattle.ev_events.specs.Whole.{category_for, is_limited, IsWholeEvent, IsWholeEngine}
 use Rattle.ev_events.specs.Whole.{IsWholeFile}
 use Rattle.ev_events.specs.Whole.{needs_cause}
+use Rattle.ev_check.proofs.Lawfulness.{denied, passed_over}
+use Rattle.ev_check.proofs.Lawfulness.{causes_seen, effects_seen, events_seen}
 
 -- ---- tests that fail
-
-denied : (a : Bool) → not a ≡ false → a ≡ true
-denied true e = refl
-denied false e = absurd (false≢true (sym e))
-
-passed_over : {A : Type 0} (b : Bool) (x : A) (o : Option A) → (if b then Some x else o) ≡ None
-    → (b ≡ false) × (o ≡ None)
-passed_over true x o e = absurd (cc)
-passed_over false x o e = (refl, e)
 
 -- ---- lists
 -- what is given stands for an item
@@ -90,12 +77,6 @@ given_at {A = A} {B = B} f (x ∷ xs) i y h = by (given_at f xs) (f x) refl i h 
       let more = again n y
       (ap (λ (o : Option B). slice_get (cons_option o (filter_map f xs)) (suc n)) (sym e) ∙ k) in
       (suc more.0, more.1, more.2, more.3)
-
-pub map_at : {A B : Type 0} (f : A → B) (xs : List A) (i : ℕ) (y : B)
-    → slice_get (map f xs) i ≡ Some y → (x : A) × (slice_get xs i ≡ Some x) × (f x ≡ y)
-map_at f [] i y h = none_is_not y h
-map_at f (x ∷ xs) zero y h = (x, refl, same_Some (f x) y h)
-map_at f (x ∷ xs) (suc i) y h = map_at f xs i y h
 
 pub at_map : {A B : Type 0} (f : A → B) (xs : List A) (i : ℕ) (x : A) → slice_get xs i ≡ Some x
     → slice_get (map f xs) i ≡ Some (f x)
@@ -168,40 +149,6 @@ pub declared_at : (ds : List Declared) (d : Declared) (n : ℕ) → declared_num
 declared_at ds d n h =
     let at = placed_item (is_alike d) ds n h in
     (at.0, at.1, alike_names d at.0 at.2, alike_class d at.0 at.2)
-
-events_seen : (engines : List Declared) (ss : List Statement)
-    → map spec_event (filter_map (event_spec engines) ss) ≡ filter_map event_in ss
-events_seen engines [] = refl
-events_seen engines (statements.Event place d attrs ∷ ss) = ap (λ l. d ∷ l) (events_seen engines ss)
-events_seen engines (statements.Engine place d attrs ∷ ss) = events_seen engines ss
-events_seen engines (statements.Prop place left n k right ∷ ss) = events_seen engines ss
-
-numbers_option : (o : Option ℕ) (a b : List ℕ) → a ≡ b → cons_option o a ≡ cons_option o b
-numbers_option o a b e = ap (cons_option o) e
-
-numbers_seen : (events : List Declared) (ps : List SidePattern)
-    → pattern_numbers events (map view_pattern ps) ≡ side_numbers events ps
-numbers_seen events [] = refl
-numbers_seen events (p ∷ ps) =
-    numbers_option (declared_number events (subject_of p)) _ _ (numbers_seen events ps)
-
-causes_seen : (events : List Declared) (ss : List Statement)
-    → map (linking_causes events) (filter_map linking ss) ≡ filter_map (causes_of events) ss
-causes_seen events [] = refl
-causes_seen events (statements.Event place d attrs ∷ ss) = causes_seen events ss
-causes_seen events (statements.Engine place d attrs ∷ ss) = causes_seen events ss
-causes_seen events (statements.Prop place left n k right ∷ ss) =
-    ap (λ l. l ∷ map (linking_causes events) (filter_map linking ss)) (numbers_seen events left)
-    ∙ ap (λ ls. side_numbers events left ∷ ls) (causes_seen events ss)
-
-effects_seen : (events : List Declared) (ss : List Statement)
-    → map (linking_effects events) (filter_map linking ss) ≡ filter_map (effects_of events) ss
-effects_seen events [] = refl
-effects_seen events (statements.Event place d attrs ∷ ss) = effects_seen events ss
-effects_seen events (statements.Engine place d attrs ∷ ss) = effects_seen events ss
-effects_seen events (statements.Prop place left n k right ∷ ss) =
-    ap (λ l. l ∷ map (linking_effects events) (filter_map linking ss)) (numbers_seen events right)
-    ∙ ap (λ ls. side_numbers events right ∷ ls) (effects_seen events ss)
 
 engines_seen : (events : List Declared) (ss : List Statement)
     → map (λ (s : SerdSpec). s.engine) (filter_map (serd_spec events) ss) ≡ filter_map engine_in ss
@@ -398,12 +345,12 @@ module _ (f : CheckedFile) (sound : IsSound f) where
   event_of : (n : ℕ) (d : Declared) → slice_get (events_in sound.statements) n ≡ Some d
       → (e : EventSpec) × (slice_get f.events n ≡ Some e) × (e.event ≡ d)
   event_of n d h =
-      map_at spec_event f.events n d (ap (λ (ds : List Declared). slice_get ds n) events_are ∙ h)
+      get_map spec_event f.events n d (ap (λ (ds : List Declared). slice_get ds n) events_are ∙ h)
 
   engine_of : (n : ℕ) (d : Declared) → slice_get (engines_in sound.statements) n ≡ Some d
       → (s : SerdSpec) × (slice_get f.engines n ≡ Some s) × (s.engine ≡ d)
   engine_of n d h =
-      map_at (λ (s : SerdSpec). s.engine) f.engines n d
+      get_map (λ (s : SerdSpec). s.engine) f.engines n d
       (ap (λ (ds : List Declared). slice_get ds n) engines_are ∙ h)
 
   undeclared_none : (j : ℕ) (s : Statement) → slice_get sound.statements j ≡ Some s

@@ -43,12 +43,12 @@ use Rattle.ev_events.specs.Fits.{fits, has_names}
 use Rattle.ev_events.specs.Names.{iterators}
 use Rattle.ev_events.proofs.Agreeing.{names_same, same_from}
 use Rattle.ev_events.proofs.Grouped.{names_all}
-use Rattle.ev_events.proofs.Places.{any_found, first_found, none_is_not, within_is}
+use Rattle.ev_events.proofs.Places.{any_found, first_found, none_is_not, within_is, get_map}
 use Rattle.ev_events.specs.Nodes.{ArePlacedEvents, engine_name}
 use Rattle.ev_events.specs.Nodes.{node_name}
 use Rattle.ev_events.specs.Whole.{IsWholeFile, needs_cause}
 use Rattle.ev_events.proofs.Keeping.{all_names}
-use Rattle.ev_events.proofs.Wholeness.{alike_class, at_map, map_at}
+use Rattle.ev_events.proofs.Wholeness.{alike_class, at_map}
 use Rattle.ev_inst.specs.Instances.{IsBuildable, instances_of_all}
 use Rattle.ev_inst.specs.Gathering.{is_given}
 use Rattle.ev_inst.specs.Outcomes.{count_of, events_of, instance_of, is_complete, is_dropped}
@@ -133,7 +133,7 @@ origin_at topology nodes (l ∷ ls) (bs ∷ css) n i h =
     elim (append_at (map (instance_of topology nodes l) (filter (is_made topology nodes l) bs))
     (instances_of_all topology nodes ls css) n i h) [
       | inl own ↦
-          let b = map_at (instance_of topology nodes l) (filter (is_made topology nodes l) bs) n i
+          let b = get_map (instance_of topology nodes l) (filter (is_made topology nodes l) bs) n i
           own in
           record {
             place = 0;
@@ -196,7 +196,7 @@ way_snoc causes effects zero x z y h l =
     (y, subst (λ (u : ℕ). Leads causes effects u y) (sym h) l, refl)
 way_snoc causes effects (suc n) x z y h l = (h.0, h.1, way_snoc causes effects n h.0 z y h.2 l)
 
-alike_itself : (d : Declared) → is_alike d d ≡ true
+pub alike_itself : (d : Declared) → is_alike d d ≡ true
 alike_itself d =
     and_true (same_name d.class d.class) _ (same_from d.class d.class refl) (all_names d.names)
 
@@ -467,7 +467,7 @@ module _ (f : CheckedFile) (topology : Topology) (whole : IsWholeFile f) (lawful
       let o = placed.engines_are.each i engine s in
       let w = whole.engines o.number o.is.spec o.is.declared in
       let event : w.event ≡ o.is.event = same_Some w.event o.is.event (sym w.trips ∙ o.is.trips) in
-      let t = map_at node_name nodes engine.trip
+      let t = get_map node_name nodes engine.trip
       (record { class = o.is.event.event.class; path = engine.name.path }) o.is.stands in
       let node = t.0 in
       let facts = node_facts engine.trip node t.1 in
@@ -513,7 +513,7 @@ module _ (f : CheckedFile) (topology : Topology) (whole : IsWholeFile f) (lawful
       (at_map spec_event f.events o.number o.spec o.declared)
       (subst (λ (d : Declared). is_alike (subject_at node) d ≡ true) same
       (alike_itself (subject_at node))) in
-      let e = map_at spec_event f.events found.place found.item found.stands in
+      let e = get_map spec_event f.events found.place found.item found.stands in
       let class : e.0.event.class ≡ node.name.class =
       ap (λ (d : Declared). d.class) e.2 ∙ alike_class (subject_at node) found.item found.passes in
       let kind : is_upset (category_of e.0.event.class) ≡ true =

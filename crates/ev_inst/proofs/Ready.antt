@@ -15,9 +15,9 @@ use Rattle.ev_check.specs.Lawful.{is_vertical_of, pattern_subject, spec_event}
 use Rattle.ev_graph.specs.declared.nodes.EngineSpec.{EngineSpec}
 use Rattle.ev_graph.specs.declared.nodes.Node.{Node}
 use Rattle.ev_events.specs.Bindings.{patterns_of}
-use Rattle.ev_events.proofs.Places.{any_found}
+use Rattle.ev_events.proofs.Places.{any_found, get_map}
 use Rattle.ev_events.specs.Nodes.{ArePlacedEvents, AreNodes}
-use Rattle.ev_events.proofs.Wholeness.{alike_class, alike_names, map_at}
+use Rattle.ev_events.proofs.Wholeness.{alike_class, alike_names}
 use Rattle.ev_inst.specs.Gathering.{AreOrderedNodes, ArePatternsKnown, ArePropsKnown, IsGathered}
 use Rattle.ev_inst.proofs.Buildable.{all_at, append_at}
 
@@ -36,7 +36,7 @@ module _ (f : CheckedFile) (topology : Topology) (nodes : List Node) (engines : 
   known qs declared = record {
     each = λ j q at path s t names.
         let any = any_found (is_alike (pattern_subject q)) (file_events f) (declared j q s) in
-        let e = map_at spec_event f.events any.0 any.1 any.2 in
+        let e = get_map spec_event f.events any.0 any.1 any.2 in
         let class = alike_class (pattern_subject q) any.1 any.3 in
         let named = alike_names (pattern_subject q) any.1 any.3 in
         nodes_are.all any.0 e.0 (record { class = q.class; path = path }) e.1 (record {

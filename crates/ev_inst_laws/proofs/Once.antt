@@ -3,34 +3,27 @@ use Rattle.std.proofs.Common.{◌≡◌, ℕ, zero, suc, ◌<◌, ◌||◌, Bool
 use Rattle.std.proofs.Common.{take, filter_map, slice_get, Option, Some, None, if◌then◌else◌}
 use Rattle.std.proofs.Common.{refl, sym, ap, ◌∙◌, subst, arith, inl, inr, nat_lt}
 use Rattle.std.specs.List.{list_any, cons_option}
-use Rattle.std.specs.Cmp.Lexicographic.{pointwise}
 use Rattle.std.proofs.lemmas.Bool.{cases_Bool, false≢true}
 use Rattle.std.proofs.lemmas.Bool.Decides.{nat_tests}
 use Rattle.std.proofs.lemmas.Option.{same_Some}
-use Rattle.fm_bytes.proofs.Booleans.{and_true}
 use Rattle.ev_tree.specs.declared.tree.Declared.{Declared}
 use Rattle.ev_tree.specs.declared.tree.Statement.{Statement}
 use Rattle.ev_tree.specs.declared.tree.Statement.TheVariants as statements
 use Rattle.ev_words.specs.declared.kinds.CheckKind.TheVariants.{Twice}
-use Rattle.ev_words.specs.Iterators.{same_name}
-use Rattle.ev_check.specs.CheckedFile.{CheckedFile, event_spec, serd_spec}
+use Rattle.ev_check.specs.CheckedFile.{CheckedFile, serd_spec}
 use Rattle.ev_check.specs.Declarations.{engine_in, engines_in, event_in, events_in, is_alike}
 use Rattle.ev_check.specs.Declarations.{is_declared, twice_after}
 use Rattle.ev_check.specs.Faults.{Passes}
 use Rattle.ev_check.specs.Lawful.{file_events, spec_event}
 use Rattle.ev_check.specs.Sound.{IsSound}
-use Rattle.ev_events.proofs.Agreeing.{same_from}
 use Rattle.ev_events.proofs.Places.{none_is_not}
 use Rattle.ev_events.specs.Nodes.{file_engines, spec_engine}
-use Rattle.ev_events.proofs.Keeping.{all_names}
 use Rattle.ev_events.proofs.Wholeness.{given_at}
 use Rattle.ev_inst_laws.specs.Once.{DeclaresOnce}
+use Rattle.ev_check.proofs.Lawfulness.{events_seen}
+use Rattle.ev_inst.proofs.Buildable.{alike_itself}
 
 -- ---- what is declared is alike to itself
-alike_itself : (d : Declared) → is_alike d d ≡ true
-alike_itself d =
-    and_true (same_name d.class d.class) (pointwise same_name d.names d.names)
-    (same_from d.class d.class refl) (all_names d.names)
 
 stands_declared : (ds : List Declared) (i : ℕ) (d : Declared) → slice_get ds i ≡ Some d
     → is_declared ds d ≡ true
@@ -161,12 +154,6 @@ module _ (g : Statement → Option Declared) (ss : List Statement) (passes : Pas
   ]
 
 -- ---- what a checked file declares is what its statements declare
-events_seen : (engines : List Declared) (ss : List Statement)
-    → map spec_event (filter_map (event_spec engines) ss) ≡ filter_map event_in ss
-events_seen engines [] = refl
-events_seen engines (statements.Event place d attrs ∷ ss) = ap (λ l. d ∷ l) (events_seen engines ss)
-events_seen engines (statements.Engine place d attrs ∷ ss) = events_seen engines ss
-events_seen engines (statements.Prop place left n k right ∷ ss) = events_seen engines ss
 
 engines_seen : (events : List Declared) (ss : List Statement)
     → map spec_engine (filter_map (serd_spec events) ss) ≡ filter_map engine_in ss

@@ -28,7 +28,8 @@ use Rattle.ev_events.specs.Nodes.{AreEngines, AreNodes, IsEngineAt, IsKindAt, en
 use Rattle.ev_events.specs.Nodes.{node_name, spec_engine}
 use Rattle.ev_events.proofs.Declaring.{ascends_named, map_long}
 use Rattle.ev_events.proofs.Finding.{before_trans}
-use Rattle.ev_events.proofs.Wholeness.{at_map, map_at}
+use Rattle.ev_events.proofs.Wholeness.{at_map}
+use Rattle.ev_events.proofs.Places.{get_map}
 use Rattle.ev_inst.specs.Instances.{AreCandidatesOf, IsGraphOf, instances_of_all}
 use Rattle.ev_inst.specs.Instances.{skipped_of_all}
 use Rattle.ev_inst.proofs.Deriving.{same_candidates}
@@ -68,7 +69,7 @@ nodes_within : (f copy : CheckedFile) (topology : Topology) → IsCopyOf f copy
     → (ns ms : List Node) (es gs : List EngineSpec) → AreNodes f topology es ns
     → AreNodes copy topology gs ms → AreWithin (map node_name ns) (map node_name ms)
 nodes_within f copy topology same ns ms es gs own other = λ i name s.
-    let node = map_at node_name ns i name s in
+    let node = get_map node_name ns i name s in
     let is = own.each i node.0 node.1 in
     let there = other.all is.number is.spec node.0.name
     (ap (λ (l : List EventSpec). slice_get l is.number) same.events_are ∙ is.declared) is.at in
@@ -79,7 +80,7 @@ engines_within : (f copy : CheckedFile) (topology : Topology) → IsCopyOf f cop
     → (ns ms : List Node) (es gs : List EngineSpec) → AreEngines f topology ns es
     → AreEngines copy topology ms gs → AreWithin (map engine_name es) (map engine_name gs)
 engines_within f copy topology same ns ms es gs own other = λ i name s.
-    let engine = map_at engine_name es i name s in
+    let engine = get_map engine_name es i name s in
     let is = own.each i engine.0 engine.1 in
     let there = other.all is.number is.is.spec engine.0.name
     (ap (λ (l : List SerdSpec). slice_get l is.number) same.engines_are ∙ is.is.declared) is.at in

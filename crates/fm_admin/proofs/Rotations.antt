@@ -40,6 +40,7 @@ use Rattle.fm_store.proofs.StoreReads.{like_through}
 use Rattle.fm_admin.specs.Limits.{DrainOrRotation}
 use Rattle.fm_admin.specs.Rotation.{IsRotated, RotatesDrained, RotationRefused, StandsRotated}
 use Rattle.fm_drain.proofs.Left.{moments_still}
+use Rattle.fm_drain.proofs.ToBaseLaws.{next_disk}
 use Rattle.fm_admin.proofs.Tellings.{closed_why, drain_undamaged, open_before}
 
 -- a limit at which no rotation is made
@@ -47,13 +48,6 @@ abbrev FullAt : {D M : Type 0} → StoreOf D M → List (List ℕ) → FullKind 
 FullAt mid states kind =
     ((mid.logs.closed ≡ None) × (kind ≡ Numbers) × (2 ^ 46 ≤ next_entry mid.logs))
     ⊎ ((next_entry mid.logs < 2 ^ 46) × NextRefused mid (not mid.logs.second) states (Full kind))
-
--- the disk of the slot that is written next
-next_disk : {D M : Type 0} (f : Bool) (store : StoreOf D M) (newest : Option (Bool × ℕ))
-    → fills_second newest ≡ f
-    → store_disk (slot_name (fills_second newest)) store ≡ next_slot store.base newest
-next_disk true store newest is = rw is refl
-next_disk false store newest is = rw is refl
 
 -- the disk of the error journal that is not active
 spare_disk : {D M : Type 0} (second : Bool) (store : StoreOf D M) → store.logs.second ≡ second

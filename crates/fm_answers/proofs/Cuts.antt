@@ -11,23 +11,18 @@ use Rattle.std.specs.List.{onto_first, slice_split, before_first, position_or_le
 use Rattle.std.proofs.lemmas.List.Splits.{slice_split_none, slice_split_at, length-slice_split}
 use Rattle.std.proofs.lemmas.List.Splits.{slice_split-cons_yes, slice_split-cons_no}
 use Rattle.std.proofs.lemmas.List.Sums.{fails_before_first, passes_at_first}
-use Rattle.fm_line.proofs.Cutting.{after_first_ended, lines_from_afresh}
+use Rattle.fm_line.proofs.Cutting.{after_first_ended, lines_from_afresh, lines_of_parts_cons}
 use Rattle.fm_line.specs.Lines.{is_newline, HasNoNewline, kept, lines_of_parts, lines_of}
 use Rattle.fm_line.specs.Lines.{lines_from, ended_lines, ended_line, taken_len}
 use Rattle.fm_line.specs.declared.split.Whole.{Whole}
 use Rattle.fm_answers.specs.Running.{Line}
-
-parts_cons : (x : List ℕ) (parts : List (List ℕ)) → 0 < length parts
-    → lines_of_parts (x ∷ parts) ≡ x ∷ lines_of_parts parts
-parts_cons x [] h = absurd (omega arith)
-parts_cons x (y ∷ more) h = refl
 
 parts_append : (xs parts : List (List ℕ)) → 0 < length parts
     → lines_of_parts (xs ++ parts) ≡ xs ++ lines_of_parts parts
 parts_append [] parts some = refl
 parts_append (x ∷ xs) parts some =
     let more : 0 < length (xs ++ parts) = omega (arith, length-append xs parts) in
-    parts_cons x (xs ++ parts) more ∙ ap (λ l. x ∷ l) (parts_append xs parts some)
+    lines_of_parts_cons x (xs ++ parts) more ∙ ap (λ l. x ∷ l) (parts_append xs parts some)
 
 onto_append : (x : ℕ) (xs ys : List (List ℕ)) → 0 < length xs
     → onto_first x (xs ++ ys) ≡ onto_first x xs ++ ys

@@ -1,7 +1,7 @@
 -- A run over the front of a piece, and then over what follows.
 use Rattle.std.proofs.Common.{◌≡◌, ℕ, ◌+◌, ◌-◌, ◌++◌, List, Bool, length, take, drop, Option, None}
-use Rattle.std.proofs.Common.{sym, subst, arith, length-drop}
-use Rattle.std.proofs.lemmas.List.{take-append-drop, take_all}
+use Rattle.std.proofs.Common.{sym, subst}
+use Rattle.std.proofs.lemmas.List.{take-append-drop}
 use Rattle.std.proofs.Math.Seq.{take-add}
 use Rattle.std.specs.Io.KnownBytes.{Appends}
 use Rattle.fm_entry.specs.declared.entry.Entry.{Entry}
@@ -14,11 +14,6 @@ use Rattle.fm_answers.specs.Halting.{Moved, Halted, StopsIn}
 use Rattle.fm_answers.proofs.Moving.{moved_trans}
 use Rattle.fm_answers.proofs.Halts.{moved_halts, cut_moves, cut_halts}
 use Rattle.fm_answers.proofs.Cuts.{IsTaken, taken_cuts}
-
--- the rest of a piece, as a slice of it gives it
-pub rest_is : (at : ℕ) (piece : List ℕ) → take (length piece - at) (drop at piece) ≡ drop at piece
-rest_is at piece = take_all (length piece - at) (drop at piece)
-    (omega (arith, length-drop at piece))
 
 -- a run over the front of a piece, and then over some more of it
 pub feed_moved : {T : Type 0} (went : T → T → Taken) (next : T → ℕ)

@@ -28,6 +28,7 @@ use Rattle.fm_logs.specs.LogReads.{AreOrdered}
 use Rattle.fm_logs.specs.ReadsAsBook.{EachSpells, SpellsSpoken}
 use Rattle.fm_status.specs.Rows.{case_cmp, case_row, last_word, AreRows}
 use Rattle.fm_status.proofs.CaseOrder.{case_tie, case_total, turned}
+use Rattle.fm_status.proofs.RowLaws.{before_all}
 use Rattle.fm_drain.specs.CaseStatus.{words_in, said_by, IsStatusOf}
 use Rattle.fm_drain.proofs.OrderedRecords.{ordered_alike}
 
@@ -202,12 +203,6 @@ before_none : (c : CaseName) (rows : List ListEvent) → Before c rows → case_
 before_none c [] b = refl
 before_none c (r ∷ rows) b =
     ap (λ o. cond (is_eq o) (Some r) (case_row c rows)) b.0 ∙ before_none c rows b.1
-
-before_all : (c d : CaseName) (rows : List ListEvent) → case_cmp c d ≡ Less → Before d rows
-    → Before c rows
-before_all c d [] e b = tt
-before_all c d (r ∷ rows) e b =
-    (case_total.trans c d r.case e b.0, before_all c d rows e b.1)
 
 row_past : (c : CaseName) (r : ListEvent) (rows : List ListEvent) (o : Ordering)
     → case_cmp c r.case ≡ o → Before r.case rows

@@ -9,16 +9,15 @@ use Rattle.std.proofs.lemmas.Option.{slice_get_within}
 use Rattle.fm_outer.specs.declared.disk.Disk.{Ghosts}
 use Rattle.fm_entry.specs.WordBytes.{spoken_bytes}
 use Rattle.fm_entry.specs.declared.entry.Entry.{Entry}
-use Rattle.fm_entry.specs.declared.list_event.ListEvent.{ListEvent}
 use Rattle.fm_entry.specs.declared.spoken.Spoken.{Spoken}
 use Rattle.fm_core.specs.Book.{Book, ModuleState, IsLawful, state_at, worked}
 use Rattle.fm_core.specs.Folds.{records_at}
 use Rattle.fm_core.specs.Hands.{HandOf, Shown, shown, stepped, spoken_at}
 use Rattle.fm_core.specs.Meaning.{says_of}
-use Rattle.fm_core.specs.Outcome.{kept_of, kept_record}
+use Rattle.fm_core.specs.Outcome.{kept_record}
 use Rattle.fm_core.specs.Seen.{Follows, FollowsAs}
 use Rattle.fm_core.specs.declared.module.Module.{Ghosts as ModuleGhosts}
-use Rattle.fm_core.proofs.Keeping.{follows_step, worked_is}
+use Rattle.fm_core.proofs.Keeping.{follows_step, worked_is, kept_said}
 use Rattle.fm_core.proofs.Lists.{get_set_same, get_set_other}
 use Rattle.fm_journal.specs.Causes.{refusal}
 use Rattle.fm_journal.specs.JournalOf.{JournalOf}
@@ -67,13 +66,6 @@ pub same_store : {D M : Type 0} (old new : StoreOf D M) → new.base ≡ old.bas
 same_store old new beside logs =
     ap (λ l. store_of l new.base) logs ∙ ap (store_of old.logs) beside
 
--- the words of a record, as a list of records
-kept_is : (own n : ℕ) (words : List ListEvent)
-    → kept_of words (record { «module» = own; number = n; events = words })
-    ≡ records_at own n words
-kept_is own n [] = refl
-kept_is own n (w ∷ ws) = refl
-
 -- work on the module of a hand puts what the hand says behind the records
 pub step_says : (k : Book) (h : Shown) (e : Entry) → IsLawful k
     → slice_get k.cursors h.number ≡ Some h.cursor → FollowsAs k h.number h
@@ -91,7 +83,7 @@ step_says k h e lawful at follows found =
     let f : Follows k h.number p h = follows p there_is in
     let said : kept_record (spoken_at h e)
     ≡ records_at p.meaning.own h.cursor (says_of p.meaning (state_at k p h.cursor) h.cursor e) =
-    kept_is h.number h.cursor (says_of h.meaning h.state h.cursor e)
+    kept_said h.number h.cursor (says_of h.meaning h.state h.cursor e)
     ∙ ap (λ (n : ℕ). records_at n h.cursor (says_of h.meaning h.state h.cursor e)) (sym f.own_is)
     ∙ ap (λ m. records_at p.meaning.own h.cursor (says_of m h.state h.cursor e)) f.meaning_is
     ∙ ap (λ s. records_at p.meaning.own h.cursor (says_of p.meaning s h.cursor e)) f.folds in

@@ -48,7 +48,7 @@ use Rattle.fm_drain.proofs.Left.{moments_still}
 use Rattle.fm_core.proofs.Options.{none_some}
 
 -- the disk of the slot that is written next
-next_disk : {D M : Type 0} (f : Bool) (base : StoreOf D M) (newest : Option (Bool × ℕ))
+pub next_disk : {D M : Type 0} (f : Bool) (base : StoreOf D M) (newest : Option (Bool × ℕ))
     → fills_second newest ≡ f
     → store_disk (slot_name (fills_second newest)) base ≡ next_slot base.base newest
 next_disk true store newest is = rw is refl

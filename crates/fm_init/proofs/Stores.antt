@@ -14,6 +14,7 @@ use Rattle.fm_journal.specs.Format.{IsJournal, header, records}
 use Rattle.fm_journal.specs.JournalOf.{JournalOf}
 use Rattle.fm_journal.specs.Keeps.{Keeps}
 use Rattle.fm_journal.proofs.Uniqueness.{same_journal_list}
+use Rattle.fm_journal.proofs.Opened.{two_tellings}
 use Rattle.fm_slots.specs.Format.{IsClosedSlot}
 use Rattle.fm_saved.specs.Confs.{conf_bytes}
 use Rattle.fm_saved.specs.declared.conf.Conf.{Conf}
@@ -28,10 +29,6 @@ use Rattle.fm_outer.specs.Failures.{Rose}
 use Rattle.fm_init.specs.declared.refused.StoreRefused.{StoreRefused}
 use Rattle.fm_init.specs.Making.{HasStore, IsNoneOrConf, MakesStore, AreReady, IsNewStore}
 use Rattle.fm_init.specs.Making.{OnlyLooked, RoseOnOne, InitRefused, InitDoes, disks_back}
-
--- what is told twice is one
-told_twice : (seen : Option (List ℕ)) (a b : List ℕ) → seen ≡ Some a → seen ≡ Some b → a ≡ b
-told_twice seen a b one other = cc
 
 -- a journal with a payload is a store
 store_there : (bytes : List ℕ) (first : ℕ) (payloads : List (List ℕ)) → 0 < length payloads
@@ -53,7 +50,7 @@ module _ {D : Type 0} (g : Ghosts D) (journal : JournalOf D) (seen : Option (Lis
       let positive : 0 < n = grind (arith, nat_tests) in
       let keeps = (found bytes told).1 in
       subst HasStore
-      (told_twice seen keeps.told.0 bytes (sym same ∙ keeps.told.1) told)
+      (two_tellings seen keeps.told.0 bytes (sym same ∙ keeps.told.1) told)
       (store_there keeps.told.0 journal.first (found bytes told).0
       (omega (arith, positive, is, keeps.counted)) keeps.told.2)
 
@@ -63,7 +60,7 @@ module _ {D : Type 0} (g : Ghosts D) (journal : JournalOf D) (seen : Option (Lis
   none_where_none n counts none bytes told first payloads is =
       let zero : n ≡ 0 = grind (arith, nat_tests) in
       let keeps = (found bytes told).1 in
-      let one = told_twice seen keeps.told.0 bytes (sym same ∙ keeps.told.1) told in
+      let one = two_tellings seen keeps.told.0 bytes (sym same ∙ keeps.told.1) told in
       let lists = same_journal_list bytes journal.first first (found bytes told).0 payloads
       (subst (λ (l : List ℕ). IsJournal l journal.first (found bytes told).0) one keeps.told.2)
       is in

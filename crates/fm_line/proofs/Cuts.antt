@@ -1,9 +1,8 @@
 -- The words of a line, cut off one by one.
 use Rattle.std.proofs.Common.{◌≡◌, ℕ, ◌+◌, ◌<◌, ◌∷◌, [], List, length, position, Some, None, refl}
-use Rattle.std.proofs.Common.{sym, ap, ◌∙◌, arith, take, drop, get_or, ◌-◌, length-drop, Err}
+use Rattle.std.proofs.Common.{ap, ◌∙◌, arith, take, drop, get_or, ◌-◌, Err}
 use Rattle.std.specs.List.{slice_split}
 use Rattle.std.proofs.lemmas.List.Splits.{slice_split_none, slice_split_at, length-slice_split}
-use Rattle.std.proofs.Math.Seq.{take-length}
 use Rattle.fm_line.proofs.Places.{fails_all, fails_before, passes_at, parts_at}
 use Rattle.fm_line.specs.Forms.{is_space, words, words_entry}
 use Rattle.fm_line.specs.declared.fault.LineFault.TheVariants.{Shape}
@@ -35,8 +34,3 @@ five_words a b c d (e ∷ more) some = refl
 -- a fifth word, and all that follows, is too much
 pub words_past : (a b c d line : List ℕ) → words_entry (a ∷ b ∷ c ∷ d ∷ words line) ≡ Err Shape
 words_past a b c d line = five_words a b c d (words line) (words_some line)
-
--- the rest of a list is all of the rest
-pub drop_whole : (n : ℕ) (line : List ℕ) → take (length line - n) (drop n line) ≡ drop n line
-drop_whole n line = ap (λ m. take m (drop n line)) (sym (length-drop n line))
-    ∙ take-length (drop n line)

@@ -8,6 +8,7 @@ use Rattle.std.specs.BTreeMap.{insert_entry}
 use Rattle.serde_json.proofs.Views.{members_view-insert_entry, Entry}
 use Rattle.fm_nv.specs.Data.{Pairs, no_pairs, pair, count, from, lists_of, depth, lists_depth}
 use Rattle.fm_line.specs.Printed.{payload_data, lists_items}
+use Rattle.fm_nv.proofs.Places.{from_end}
 
 pub lists_items_lists_of : (ls : List Pairs)
     → lists_items (lists_of ls) ≡ items_of (map payload_data ls)
@@ -21,10 +22,6 @@ depth_of_item [] i d below = absurd (omega arith)
 depth_of_item (ps ∷ ls) zero d below = omega arith
 depth_of_item (ps ∷ ls) (suc i) d below = omega (arith, depth_of_item ls i d (omega arith))
 
-from_count : (ps : Pairs) → from (count ps) ps ≡ no_pairs
-from_count no_pairs = refl
-from_count (pair k d ps) = from_count ps
-
 -- all the pairs of a list stand from its first place on
 pub from_zero : (ps : Pairs) → from 0 ps ≡ ps
 from_zero no_pairs = refl
@@ -32,7 +29,7 @@ from_zero (pair k d ps) = refl
 
 -- and none from its end on
 pub from_end : (ps : Pairs) (n : ℕ) → n ≡ count ps → from n ps ≡ no_pairs
-from_end ps n end = ap (λ m. from m ps) end ∙ from_count ps
+from_end ps n end = ap (λ m. from m ps) end ∙ from_end ps
 
 pub insert_view : (es : List Entry) (k : String Global) (v : Value)
     → members_view (insert_entry string_cmp es k v)

@@ -9,6 +9,7 @@ use Rattle.fm_journal.specs.Format.{IsJournal}
 use Rattle.fm_journal.specs.JournalOf.{JournalOf}
 use Rattle.fm_journal.specs.Keeps.{Keeps}
 use Rattle.fm_journal.proofs.Places.{keeps_read}
+use Rattle.fm_journal.proofs.Opened.{two_tellings}
 use Rattle.fm_logs.specs.ReadsAsBook.{EachSpells, SpellsConf}
 use Rattle.fm_saved.specs.declared.conf.Conf.{Conf}
 use Rattle.fm_looks.specs.Looks.{ConfsKept, LookCause, TookConfs, RefusesConf, fault_seen}
@@ -20,9 +21,6 @@ use Rattle.fm_payloads.specs.declared.fault.ReadingFault.TheVariants.{NoMemory a
 use Rattle.fm_looks.specs.declared.confs.ConfReader.{ConfReader}
 use Rattle.fm_looks.proofs.Spelled.{first_bad}
 
-told_once : (seen : Option (List ℕ)) (a b : List ℕ) → seen ≡ Some a → seen ≡ Some b → a ≡ b
-told_once seen a b one other = cc
-
 module _ {D : Type 0} (g : Ghosts D) where
   -- what a journal keeps is the content of its disk
   pub content_is : (journal : JournalOf D) (payloads : List (List ℕ)) (seen : Option (List ℕ))
@@ -30,7 +28,7 @@ module _ {D : Type 0} (g : Ghosts D) where
       → IsJournal c journal.first payloads
   content_is journal payloads seen c same told keeps =
       subst (λ (bytes : List ℕ). IsJournal bytes journal.first payloads)
-      (told_once seen keeps.told.0 c (sym same ∙ keeps.told.1) told) keeps.told.2
+      (two_tellings seen keeps.told.0 c (sym same ∙ keeps.told.1) told) keeps.told.2
 
   -- a journal that was only read keeps what it kept
   pub keeps_still : (old new : JournalOf D) (payloads : List (List ℕ))

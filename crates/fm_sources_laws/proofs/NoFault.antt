@@ -44,7 +44,8 @@ use Rattle.fm_sources.specs.Rules.{IsRuleFile, IsRulesFault}
 use Rattle.fm_sources.specs.declared.faults.RulesKind.{RulesKind}
 use Rattle.fm_sources.specs.declared.faults.RulesKind.TheVariants as kinds
 use Rattle.fm_sources_laws.proofs.OneFile.{all_seen, engines_same, events_same, given_same}
-use Rattle.fm_sources_laws.proofs.OneFile.{nothing_begins, one_piece, rules_one, tokens_one}
+use Rattle.fm_sources_laws.proofs.OneFile.{nothing_begins, rules_one}
+use Rattle.ev_lex.proofs.Reach.{one_reading}
 
 -- ---- a text that is cut into pieces is nowhere stuck
 none_found : {X : Type 0} (x : X) → ◌≡◌ {A = Option X} None (Some x) → ⊥
@@ -59,7 +60,7 @@ stuck_is_not_cut line text [] rest (p ∷ ps) cut left stuck all =
 stuck_is_not_cut line text (q ∷ qs) rest [] cut left stuck all =
     nothing_begins line text q all cut.0
 stuck_is_not_cut line text (q ∷ qs) rest (p ∷ ps) cut left stuck all =
-    let same : p ≡ q = one_piece p q (sym all.0 ∙ cut.0) in
+    let same : p ≡ q = same_Some p q (sym all.0 ∙ cut.0) in
     stuck_is_not_cut (line_after line q) (drop (size q) text) qs rest ps cut.1 left stuck
     (subst (λ (r : Piece). IsCut (line_after line r) (drop (size r) text) ps []) same all.1)
 
@@ -320,7 +321,7 @@ no_fault text f place kinds.Length a h =
 no_fault text f place kinds.Token a h = not_stuck text place a.tokens a.has.has.tokens_are h.1
 no_fault text f place kinds.Grammar a h =
     let same : a.tokens ≡ h.0 =
-    tokens_one text a.tokens h.0 a.has.has.tokens_are h.1.tokens_are in
+    one_reading text a.tokens h.0 a.has.has.tokens_are h.1.tokens_are in
     h.2.fault.missing (view_tree a.tree)
     (subst (λ (l : List Token). file (view_tree a.tree) (toks text l)) same a.has.grammar)
 no_fault text f place (kinds.Check kind) a h =

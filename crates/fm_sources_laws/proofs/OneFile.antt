@@ -1,10 +1,9 @@
 -- A text is cut into tokens in one way, these spell one list of rules, and rules come to one file.
-use Rattle.std.proofs.Common.{◌≡◌, ℕ, Bool, true, List, [], ◌∷◌, drop, map, filter_map, Option}
+use Rattle.std.proofs.Common.{◌≡◌, ℕ, Bool, List, [], ◌∷◌, map, filter_map, Option}
 use Rattle.std.proofs.Common.{Some, None, refl, sym, ap, ◌∙◌, subst, unwrap_or}
 use Rattle.std.specs.List.{cons_option}
 use Rattle.fm_name.specs.Category.{category_of}
-use Rattle.ev_lex.specs.Cut.{AreTokens, IsCut, tokens_from}
-use Rattle.ev_lex.specs.Pieces.{line_after, piece, size}
+use Rattle.ev_lex.specs.Pieces.{piece}
 use Rattle.ev_lex.specs.declared.piece.Piece.{Piece}
 use Rattle.ev_lex.specs.declared.token.Token.{Token}
 use Rattle.ev_tree.specs.Grammar.{file}
@@ -25,39 +24,20 @@ use Rattle.ev_check.specs.Drawn.{number_at}
 use Rattle.ev_check.specs.declared.checked.EventSpec.{EventSpec}
 use Rattle.ev_check.specs.declared.checked.SerdSpec.{SerdSpec}
 use Rattle.fm_sources.specs.Rules.{HasStatements, IsRuleFile}
+use Rattle.ev_lex.proofs.Reach.{one_reading}
 
 -- ---- tokens
-pub one_piece : (p q : Piece) → Some p ≡ Some q → p ≡ q
-one_piece p q e = cc
-
 pub nothing_begins : (line : Bool) (text : List ℕ) (p : Piece) → text ≡ []
     → piece line text ≡ Some p → ⊥
 unfolding piece
 nothing_begins line text p e h =
     let none : ◌≡◌ {A = Option Piece} None (Some p) = ap (piece line) (sym e) ∙ h in cc
 
-pieces_one : (line : Bool) (text : List ℕ) (ps qs : List Piece) → IsCut line text ps []
-    → IsCut line text qs [] → ps ≡ qs
-pieces_one line text [] [] a b = refl
-pieces_one line text [] (q ∷ qs) a b = absurd (nothing_begins line text q a b.0)
-pieces_one line text (p ∷ ps) [] a b = absurd (nothing_begins line text p b a.0)
-pieces_one line text (p ∷ ps) (q ∷ qs) a b =
-    let same : p ≡ q = one_piece p q (sym a.0 ∙ b.0) in
-    let rest : IsCut (line_after line p) (drop (size p) text) qs [] =
-    subst (λ (r : Piece). IsCut (line_after line r) (drop (size r) text) qs []) (sym same) b.1 in
-    let more = pieces_one (line_after line p) (drop (size p) text) ps qs a.1 rest in
-    λ i. same i ∷ more i
-
-pub tokens_one : (text : List ℕ) (ts us : List Token) → AreTokens text ts → AreTokens text us
-    → ts ≡ us
-tokens_one text ts us a b =
-    a.read ∙ ap (tokens_from 0) (pieces_one true text a.pieces b.pieces a.cut b.cut) ∙ sym b.read
-
 -- ---- rules
 pub rules_one : (text : List ℕ) (ts us : List Token) (t u : Tree) → HasStatements text ts t
     → HasStatements text us u → view_tree t ≡ view_tree u
 rules_one text ts us t u a b =
-    let same : ts ≡ us = tokens_one text ts us a.has.tokens_are b.has.tokens_are in
+    let same : ts ≡ us = one_reading text ts us a.has.tokens_are b.has.tokens_are in
     let spelled : file (view_tree u) (toks text ts) =
     subst (λ (l : List Token). file (view_tree u) (toks text l)) (sym same) b.grammar in
     file_one (toks text ts) (view_tree t, []) (view_tree u)

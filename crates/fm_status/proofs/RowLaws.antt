@@ -81,7 +81,7 @@ before_put c [] w e b = (e, tt)
 before_put c (r ∷ rows) w e b =
     before_at (case_cmp w.case r.case) c r w rows e b (before_put c rows w e b.1)
 
-before_all : (c d : CaseName) (rows : List ListEvent) → case_cmp c d ≡ Less → Before d rows
+pub before_all : (c d : CaseName) (rows : List ListEvent) → case_cmp c d ≡ Less → Before d rows
     → Before c rows
 before_all c d [] e b = tt
 before_all c d (r ∷ rows) e b =

@@ -1,8 +1,9 @@
 use Rattle.std.proofs.Common.{◌∙◌, arith, refl, rules}
 use Rattle.std.proofs.lemmas.Result.{err_from_is_err_and}
 use Rattle.fm_answers.proofs.Moving.{moved_nil}
-use Rattle.fm_answers.proofs.Feeding.{rest_is, feed_moved, feed_halted}
+use Rattle.fm_answers.proofs.Feeding.{feed_moved, feed_halted}
 use Rattle.fm_answers.proofs.reading.Reading.feed.Goals as goal
+use Rattle.fm_entry.proofs.Places.{drop_whole}
 
 pub piece-init : goal.piece-init
 piece-init g c = record {
@@ -25,7 +26,7 @@ returns-in_err-at-clause-halted g c =
     (g.K.Sink.put_bytes c.piece.out) (g.K.Sink.put_bytes c.step.new.out)
     g.T.Taker.TELLS_NUMBERS c.args.piece.now _ c.piece.at c.args.self.now.splitter.pending
     c.piece.self.splitter.pending c.args.self.now.lines c.piece.self.lines _
-    (rest_is c.piece.at c.args.piece.now) c.piece.invariant.moved c.in_err-at.ensures.halted)
+    (drop_whole c.piece.at c.args.piece.now) c.piece.invariant.moved c.in_err-at.ensures.halted)
 
 pub piece-preserved : goal.piece-preserved
 piece-preserved g c = record {
@@ -37,7 +38,7 @@ piece-preserved g c = record {
       c.args.self.now.splitter.pending c.piece.self.splitter.pending
       c.step.new.self.splitter.pending c.args.self.now.lines c.piece.self.lines
       c.step.new.self.lines
-      (rest_is c.piece.at c.args.piece.now) c.piece.invariant.moved c.in_ok-at.ensures.moved;
+      (drop_whole c.piece.at c.args.piece.now) c.piece.invariant.moved c.in_ok-at.ensures.moved;
   grew = omega (arith, c.in_ok-at.ensures.grew, c.piece.invariant.grew);
   ready = c.in_ok-at.ensures.ready;
   same_taker = c.step.ensures.same_taker ∙ c.piece.invariant.same_taker;
