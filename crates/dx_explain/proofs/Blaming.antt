@@ -1,10 +1,10 @@
 -- The roots that explain a case are listed in order, each once.
 use Rattle.std.proofs.Common.{◌≡◌, ◌<◌, ◌&&◌, ◌++◌, ℕ, zero, suc, Bool, true, false, List, []}
-use Rattle.std.proofs.Common.{◌∷◌, eqb, ltb, length, slice_get, refl, sym, ap, subst, ◌∙◌, inl, inr}
+use Rattle.std.proofs.Common.{◌∷◌, length, slice_get, refl, sym, ap, subst, ◌∙◌, inl, inr}
 use Rattle.std.proofs.Common.{arith}
 use Rattle.std.specs.List.{filter}
-use Rattle.std.proofs.lemmas.Bool.{cases_Bool, cases_eq, and_parts, and_from, lt-ltb}
-use Rattle.std.proofs.lemmas.Bool.{or_left, or_right, eq-eqb, false≢true}
+use Rattle.std.proofs.lemmas.Bool.{cases_Bool, cases_eq, and_parts, and_from}
+use Rattle.std.proofs.lemmas.Bool.{false≢true}
 use Rattle.std.proofs.lemmas.Bool.{cond-true, cond-false}
 use Rattle.std.proofs.lemmas.List.Elements.{filter-append}
 use Rattle.ev_graph.specs.Sets.{is_member, ascends}
@@ -20,6 +20,7 @@ use Rattle.dx_explain.specs.Cases.{cuts_of, blamed}
 use Rattle.dx_explain.specs.CaseLaws.{BlamedIs, BlamedAscends}
 use Rattle.dx_explain.proofs.Telling.{kind_below}
 use Rattle.dx_explain.proofs.Meaning.{explaining}
+use Rattle.dx_explain.proofs.Listed.{ascends_push}
 
 append_nil : (xs : List ℕ) → xs ++ [] ≡ xs
 append_nil [] = refl
@@ -42,17 +43,6 @@ in_number (suc n) e i = elim (in_push (numbers_below n) n e i) [
   | inl old ↦ omega (arith, in_number n e old)
   | inr last ↦ omega (arith, last)
 ]
-
-ascends_push : (xs : List ℕ) (y : ℕ) → ascends xs ≡ true
-    → ((e : ℕ) → is_member xs e ≡ true → e < y) → ascends (xs ++ y ∷ []) ≡ true
-ascends_push [] y h b = refl
-ascends_push (x ∷ []) y h b =
-    and_from (ltb x y) (ascends (y ∷ []))
-    (lt-ltb x y (b x (or_left (eqb x x) false (eq-eqb x x refl)))) refl
-ascends_push (x ∷ z ∷ zs) y h b =
-    let p = and_parts (ltb x z) (ascends (z ∷ zs)) h in
-    and_from (ltb x z) (ascends ((z ∷ zs) ++ y ∷ [])) p.0
-    (ascends_push (z ∷ zs) y p.1 (λ e i. b e (or_right (eqb x e) (is_member (z ∷ zs) e) i)))
 
 -- those of them that pass a test ascend
 below_ascends : (p : ℕ → Bool) (n : ℕ) → ascends (filter p (numbers_below n)) ≡ true

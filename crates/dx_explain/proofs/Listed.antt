@@ -22,7 +22,7 @@ same_answer a b f h = elim (cases_Bool a) [
 same_set : (X Y : NodeSet) → IsSubset X Y → IsSubset Y X → X ≡ Y
 same_set X Y f h = λ i. λ e. same_answer (X e) (Y e) (f e) (h e) i
 
-ascends_push : (xs : List ℕ) (y : ℕ) → ascends xs ≡ true
+pub ascends_push : (xs : List ℕ) (y : ℕ) → ascends xs ≡ true
     → ((e : ℕ) → is_member xs e ≡ true → e < y) → ascends (xs ++ y ∷ []) ≡ true
 ascends_push [] y h b = refl
 ascends_push (x ∷ []) y h b =

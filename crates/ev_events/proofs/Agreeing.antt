@@ -1,6 +1,6 @@
 -- A path fits a pattern under a binding just where it agrees with itself and its instances at the
 -- columns are what the binding gives to them.
-use Rattle.std.proofs.Common.{◌≡◌, ◌<◌, ◌&&◌, ◌==◌, ℕ, suc, zero, Bool, true, false}
+use Rattle.std.proofs.Common.{◌≡◌, ◌<◌, ◌&&◌, ◌==◌, ℕ, suc, Bool, true, false}
 use Rattle.std.proofs.Common.{List, [], ◌∷◌, ◌++◌, length, map, slice_get, slice_index}
 use Rattle.std.proofs.Common.{unwrap_or, Option, Some, option_and_then}
 use Rattle.std.proofs.Common.{refl, sym, ap, ◌∙◌, arith}
@@ -27,7 +27,7 @@ use Rattle.ev_events.specs.declared.slots.Slot.TheVariants.{Like}
 use Rattle.ev_events.specs.declared.slots.Column.{Column}
 use Rattle.ev_events.proofs.Places.{none_is_not, same_tests, that_is, is_that_from, there_is}
 use Rattle.ev_events.proofs.Places.{within_is, index_is, get_is, get_map, pairs_at, pairs_from}
-use Rattle.ev_events.proofs.Places.{first_found, any_found}
+use Rattle.ev_events.proofs.Places.{first_found, any_found, map_there}
 use Rattle.ev_events.proofs.Columns.{number_in, Each, each_at, IsColumn, columns_are}
 use Rattle.ev_events.proofs.Columns.{columns_have}
 
@@ -242,12 +242,7 @@ module _ (vs : List (List ℕ)) (parts : List Part) (b xs : List ℕ) (full : le
         → keeps xs (slot_of parts p) x ≡ true
     keep_at i p x s t =
         pairs_at (λ (q : Slot × ℕ). keeps xs q.0 q.1) (slots_of parts) xs i (slot_of parts p) x keep
-        (map_get (slot_of parts) parts i p s) t where
-          map_get : {X Y : Type 0} (f : X → Y) (ys : List X) (j : ℕ) (y : X)
-              → slice_get ys j ≡ Some y → slice_get (map f ys) j ≡ Some (f y)
-          map_get f [] j y h = none_is_not y h
-          map_get f (z ∷ ys) zero y h = ap (λ w. Some (f w)) (same_Some z y h)
-          map_get f (z ∷ ys) (suc j) y h = map_get f ys j y h
+        (map_there (slot_of parts) parts i p s) t
 
     column_value : (i : ℕ) (p : Part) (v : List ℕ) (s : slice_get parts i ≡ Some p)
         (h : iterator_of p ≡ Some v)

@@ -18,7 +18,8 @@ use Rattle.ev_check.specs.declared.checked.SerdSpec.{SerdSpec}
 use Rattle.ev_graph.specs.Sets.{ascends_by, starts_above}
 use Rattle.ev_graph.specs.declared.nodes.Node.{Node}
 use Rattle.ev_graph.specs.declared.nodes.EngineSpec.{EngineSpec}
-use Rattle.ev_events.proofs.Places.{none_is_not, there_is, within_is, get_map}
+use Rattle.ev_events.proofs.Places.{none_is_not, there_is, within_is, get_map, map_there}
+use Rattle.ev_events.proofs.Joining.{map_push}
 use Rattle.ev_events.specs.Placed.{ArePlaced, IsAmongNames, IsAt, is_before_name}
 use Rattle.ev_events.specs.Nodes.{AreEngines, AreEnginesAt, AreEnginesThere, AreNodes, AreNodesAt}
 use Rattle.ev_events.specs.Nodes.{AreNodesThere, ArePlacedEvents, HasEngine}
@@ -26,7 +27,6 @@ use Rattle.ev_events.specs.Nodes.{IsEngineFor, IsEngineOf, IsNodeAt, IsNodeOf}
 use Rattle.ev_events.specs.Nodes.{engine_name, file_engines, node_name}
 use Rattle.ev_events.specs.Nodes.{spec_engine}
 use Rattle.ev_events.specs.Whole.{IsWholeFile}
-use Rattle.ev_events.proofs.Wholeness.{at_map}
 
 pub map_long : {X Y : Type 0} (f : X → Y) (xs : List X) → length (map f xs) ≡ length xs
 map_long f [] = refl
@@ -57,7 +57,7 @@ module _ (f : CheckedFile) (topology : Topology) (whole : IsWholeFile f)
   engine_there d name at n s stands same =
       others.all n (record { class = s.engine.class; path = name.path }) (record {
         declared = s.engine;
-        stands = at_map spec_engine f.engines n s stands;
+        stands = map_there spec_engine f.engines n s stands;
         at = record {
           class = refl;
           number = at.number;
@@ -99,7 +99,7 @@ module _ (f : CheckedFile) (topology : Topology) (whole : IsWholeFile f)
   event_there d name at n e stands same =
       placed.all n (record { class = e.event.class; path = name.path }) (record {
         declared = e.event;
-        stands = at_map spec_event f.events n e stands;
+        stands = map_there spec_event f.events n e stands;
         at = record {
           class = refl;
           number = at.number;
@@ -141,7 +141,7 @@ module _ (f : CheckedFile) (topology : Topology) (whole : IsWholeFile f)
     node_of i node s =
         let named : slice_get names i ≡ Some node.name =
         ap (λ (xs : List EventName). slice_get xs i) (sym node_names)
-        ∙ at_map node_name ns i node s in
+        ∙ map_there node_name ns i node s in
         let within = within_is names i node.name named in
         let long = placed.long in
         let number = there_is numbers i (omega (arith, within, long)) in
@@ -149,7 +149,7 @@ module _ (f : CheckedFile) (topology : Topology) (whole : IsWholeFile f)
         let n = nodes_at.each i number.0 node s number.1 in
         let same : n.spec.event ≡ p.declared =
         same_Some n.spec.event p.declared
-        (sym (at_map spec_event f.events number.0 n.spec n.declared) ∙ p.stands) in
+        (sym (map_there spec_event f.events number.0 n.spec n.declared) ∙ p.stands) in
         record {
           number = number.0;
           spec = n.spec;
@@ -163,7 +163,7 @@ module _ (f : CheckedFile) (topology : Topology) (whole : IsWholeFile f)
     engine_of i engine s =
         let named : slice_get engines i ≡ Some engine.name =
         ap (λ (xs : List EventName). slice_get xs i) (sym engine_names)
-        ∙ at_map engine_name es i engine s in
+        ∙ map_there engine_name es i engine s in
         let within = within_is engines i engine.name named in
         let long = others.long in
         let number = there_is serds i (omega (arith, within, long)) in
@@ -171,7 +171,7 @@ module _ (f : CheckedFile) (topology : Topology) (whole : IsWholeFile f)
         let n = engines_at.each i number.0 engine s number.1 in
         let same : n.spec.engine ≡ p.declared =
         same_Some n.spec.engine p.declared
-        (sym (at_map spec_engine f.engines number.0 n.spec n.declared) ∙ p.stands) in
+        (sym (map_there spec_engine f.engines number.0 n.spec n.declared) ∙ p.stands) in
         record {
           number = number.0;
           is = n;
@@ -189,7 +189,7 @@ module _ (f : CheckedFile) (topology : Topology) (whole : IsWholeFile f)
           subst (λ (xs : List EventName). IsAmongNames xs name) (sym node_names)
           (placed.all k name (record {
             declared = spec.event;
-            stands = at_map spec_event f.events k spec s;
+            stands = map_there spec_event f.events k spec s;
             at = at;
           }));
     }
@@ -205,7 +205,7 @@ module _ (f : CheckedFile) (topology : Topology) (whole : IsWholeFile f)
           subst (λ (xs : List EventName). IsAmongNames xs name) (sym engine_names)
           (others.all k name (record {
             declared = spec.engine;
-            stands = at_map spec_engine f.engines k spec s;
+            stands = map_there spec_engine f.engines k spec s;
             at = at;
           }));
     }
@@ -234,11 +234,6 @@ push_at (z ∷ xs) x y (suc j) h = elim (push_at xs x y j h) [
   | inl own ↦ inl own
   | inr last ↦ let same = last.0 in inr (omega (arith, same), last.1)
 ]
-
-map_push : {X Y : Type 0} (f : X → Y) (xs : List X) (x : X)
-    → map f (xs ++ x ∷ []) ≡ map f xs ++ f x ∷ []
-map_push f [] x = refl
-map_push f (y ∷ xs) x = ap (λ (zs : List _). f y ∷ zs) (map_push f xs x)
 
 -- names that are the first of others, and one more
 module _ {X : Type 0} (key : X → EventName) (names : List EventName) (i : ℕ) (name : EventName)

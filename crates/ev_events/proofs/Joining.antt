@@ -24,7 +24,7 @@ use Rattle.ev_events.specs.Fits.{fitting}
 use Rattle.ev_events.specs.Bindings.{IsBinding, AreBindings, AreAllBindings, candidate_links}
 use Rattle.ev_events.specs.Bindings.{patterns_of}
 use Rattle.ev_events.specs.Sheets.{IsTableOf, AreTablesOf}
-use Rattle.ev_events.proofs.Places.{none_is_not}
+use Rattle.ev_events.proofs.Places.{none_is_not, map_there}
 
 -- one table more
 pub tables_more : (topology : Topology) (vs : List (List ℕ)) (qs : List Pattern)
@@ -36,16 +36,10 @@ tables_more topology vs (p ∷ qs) [] q t h own = absurd h
 tables_more topology vs (p ∷ qs) (u ∷ ts) q t h own =
     (h.0, tables_more topology vs qs ts q t h.1 own)
 
-map_push : {X Y : Type 0} (f : X → Y) (xs : List X) (x : X)
+pub map_push : {X Y : Type 0} (f : X → Y) (xs : List X) (x : X)
     → map f (xs ++ x ∷ []) ≡ map f xs ++ f x ∷ []
 map_push f [] x = refl
 map_push f (y ∷ xs) x = ap (λ (zs : List _). f y ∷ zs) (map_push f xs x)
-
-pub map_there : {X Y : Type 0} (f : X → Y) (xs : List X) (j : ℕ) (x : X) → slice_get xs j ≡ Some x
-    → slice_get (map f xs) j ≡ Some (f x)
-map_there f [] j x at = none_is_not x at
-map_there f (y ∷ xs) zero x at = ap (λ z. Some (f z)) (same_Some y x at)
-map_there f (y ∷ xs) (suc j) x at = map_there f xs j x at
 
 -- the pattern at a place
 pub pattern_there : (ps : List SidePattern) (j : ℕ) (x d : SidePattern) → j < length ps

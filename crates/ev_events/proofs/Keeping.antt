@@ -15,7 +15,6 @@ use Rattle.std.specs.declared.cmp.Ordering.{Ordering}
 use Rattle.std.specs.declared.cmp.Ordering.TheVariants.{Less, Equal, Greater}
 use Rattle.std.proofs.lemmas.Bool.{cases_Bool, false≢true, and_from, or_right}
 use Rattle.std.proofs.lemmas.Bool.Decides.{nat_tests}
-use Rattle.ev_events.proofs.Wholeness.{at_map}
 use Rattle.std.proofs.lemmas.List.Folds.{list_any_more}
 use Rattle.std.proofs.lemmas.Map.Entries.{place_from_lookup, btree_map_get_place}
 use Rattle.std.proofs.lemmas.Map.Entries.{length-keys_of, length-values_of}
@@ -29,7 +28,7 @@ use Rattle.fm_topo.specs.Groups.{names_text, places_of, group_of}
 use Rattle.ev_tree.specs.declared.tree.Declared.{Declared}
 use Rattle.ev_graph.specs.Sets.{ascends_by}
 use Rattle.ev_words.specs.Iterators.{same_name}
-use Rattle.ev_events.proofs.Places.{none_is_not, any_found, within_is, get_map}
+use Rattle.ev_events.proofs.Places.{none_is_not, any_found, within_is, get_map, map_there}
 use Rattle.ev_events.proofs.Agreeing.{same_from}
 use Rattle.ev_events.proofs.Grouped.{names_all, text_of_names}
 use Rattle.ev_events.specs.Placed.{AreKept, AreMore, ArePlaced, IsAt, IsPlaced}
@@ -173,7 +172,7 @@ entry_at (e ∷ es) (suc i) k name s t = entry_at es i k name s t
 
 key_at : (es : List (EventName × ℕ)) (i : ℕ) (e : EventName × ℕ) → slice_get es i ≡ Some e
     → slice_get (keys_of es) i ≡ Some e.0
-key_at es i e h = at_map (λ (p : EventName × ℕ). p.0) es i e h
+key_at es i e h = map_there (λ (p : EventName × ℕ). p.0) es i e h
 
 -- ---- one declared one more
 module _ (topology : Topology) (ds : List Declared) where

@@ -48,6 +48,12 @@ get_is xs i x less h =
     let y = there_is xs i less in
     y.1 ∙ ap Some (sym (index_is xs i y.0 y.1) ∙ h)
 
+pub map_there : {X Y : Type 0} (f : X → Y) (xs : List X) (j : ℕ) (x : X) → slice_get xs j ≡ Some x
+    → slice_get (map f xs) j ≡ Some (f x)
+map_there f [] j x at = none_is_not x at
+map_there f (y ∷ xs) zero x at = ap (λ z. Some (f z)) (same_Some y x at)
+map_there f (y ∷ xs) (suc j) x at = map_there f xs j x at
+
 pub get_map : {X Y : Type 0} (f : X → Y) (xs : List X) (i : ℕ) (y : Y)
     → slice_get (map f xs) i ≡ Some y → (x : X) × (slice_get xs i ≡ Some x) × (f x ≡ y)
 get_map f [] i y h = none_is_not y h

@@ -35,11 +35,11 @@ use Rattle.ev_events.specs.Sheets.{AreTablesOf}
 use Rattle.ev_events.specs.Slots.{first_place}
 use Rattle.ev_events.specs.Turned.{instances_at, places_among, turned_names, with_names, with_numbered}
 use Rattle.ev_events.proofs.Agreeing.{names_same, same_from}
-use Rattle.ev_events.proofs.Joining.{links_same, map_there, pattern_at, row_there, rows_there}
+use Rattle.ev_events.proofs.Joining.{links_same, pattern_at, row_there, rows_there}
 use Rattle.ev_events.proofs.Joining.{sums_same, table_at}
 use Rattle.ev_events.proofs.Known.{or_false}
 use Rattle.ev_events.proofs.Places.{FirstAt, any_found, first_found, first_is, get_is, get_map}
-use Rattle.ev_events.proofs.Places.{index_is, none_is_not, there_is, within_is}
+use Rattle.ev_events.proofs.Places.{index_is, none_is_not, there_is, within_is, map_there}
 
 -- ---- the same names, each once
 -- no name stands at two places

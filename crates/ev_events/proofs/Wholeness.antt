@@ -46,6 +46,7 @@ use Rattle.ev_check.specs.declared.checked.SerdSpec.{SerdSpec}
 use Rattle.ev_events.proofs.Places.{none_is_not, first_found, first_item, any_found, get_map}
 use Rattle.ev_events.proofs.Agreeing.{names_same}
 use Rattle.ev_events.proofs.Grouped.{names_all}
+use Rattle.ev_events.proofs.Places.{map_there}
 use Rattle.ev_events.specs.Whole.{category_for, is_limited, IsWholeEvent, IsWholeEngine}
 use Rattle.ev_events.specs.Whole.{IsWholeFile}
 use Rattle.ev_events.specs.Whole.{needs_cause}
@@ -77,12 +78,6 @@ given_at {A = A} {B = B} f (x ∷ xs) i y h = by (given_at f xs) (f x) refl i h 
       let more = again n y
       (ap (λ (o : Option B). slice_get (cons_option o (filter_map f xs)) (suc n)) (sym e) ∙ k) in
       (suc more.0, more.1, more.2, more.3)
-
-pub at_map : {A B : Type 0} (f : A → B) (xs : List A) (i : ℕ) (x : A) → slice_get xs i ≡ Some x
-    → slice_get (map f xs) i ≡ Some (f x)
-at_map f [] i x h = none_is_not x h
-at_map f (y ∷ ys) zero x h = ap (λ o. Some (f o)) (same_Some y x h)
-at_map f (y ∷ ys) (suc i) x h = at_map f ys i x h
 
 -- none passes, so what passes is none
 fails_at : {A : Type 0} (test : A → Bool) (xs : List A) (i : ℕ) (x : A)
@@ -470,7 +465,7 @@ module _ (f : CheckedFile) (sound : IsSound f) where
       sym same ∙ ap (λ (o : Option ℕ). unwrap_or o 0) trip.is in
       let declared : slice_get (events_in sound.statements) u ≡ Some e.event =
       ap (λ (ds : List Declared). slice_get ds u) (sym events_are)
-      ∙ at_map spec_event f.events u e up in
+      ∙ map_there spec_event f.events u e up in
       sound.checked.trips.each j s at (record {
         trip = trip.number;
         number = trip.is;

@@ -48,7 +48,8 @@ use Rattle.ev_events.specs.Nodes.{ArePlacedEvents, engine_name}
 use Rattle.ev_events.specs.Nodes.{node_name}
 use Rattle.ev_events.specs.Whole.{IsWholeFile, needs_cause}
 use Rattle.ev_events.proofs.Keeping.{all_names}
-use Rattle.ev_events.proofs.Wholeness.{alike_class, at_map}
+use Rattle.ev_events.proofs.Wholeness.{alike_class}
+use Rattle.ev_events.proofs.Places.{map_there}
 use Rattle.ev_inst.specs.Instances.{IsBuildable, instances_of_all}
 use Rattle.ev_inst.specs.Gathering.{is_given}
 use Rattle.ev_inst.specs.Outcomes.{count_of, events_of, instance_of, is_complete, is_dropped}
@@ -510,7 +511,7 @@ module _ (f : CheckedFile) (topology : Topology) (whole : IsWholeFile f) (lawful
       let same : subject_at node ≡ o.spec.event =
       λ i. record { class = c i; names = m i } in
       let found = first_found (is_alike (subject_at node)) (file_events f) o.number o.spec.event
-      (at_map spec_event f.events o.number o.spec o.declared)
+      (map_there spec_event f.events o.number o.spec o.declared)
       (subst (λ (d : Declared). is_alike (subject_at node) d ≡ true) same
       (alike_itself (subject_at node))) in
       let e = get_map spec_event f.events found.place found.item found.stands in

@@ -28,8 +28,7 @@ use Rattle.ev_events.specs.Nodes.{AreEngines, AreNodes, IsEngineAt, IsKindAt, en
 use Rattle.ev_events.specs.Nodes.{node_name, spec_engine}
 use Rattle.ev_events.proofs.Declaring.{ascends_named, map_long}
 use Rattle.ev_events.proofs.Finding.{before_trans}
-use Rattle.ev_events.proofs.Wholeness.{at_map}
-use Rattle.ev_events.proofs.Places.{get_map}
+use Rattle.ev_events.proofs.Places.{get_map, map_there}
 use Rattle.ev_inst.specs.Instances.{AreCandidatesOf, IsGraphOf, instances_of_all}
 use Rattle.ev_inst.specs.Instances.{skipped_of_all}
 use Rattle.ev_inst.proofs.Deriving.{same_candidates}
@@ -188,8 +187,8 @@ module _ (f copy : CheckedFile) (topology : Topology) (declares : DeclaresOnce f
   named_at : {X : Type 0} (name : X → EventName) (xs ys : List X) → map name xs ≡ map name ys
       → (i : ℕ) (x y : X) → slice_get xs i ≡ Some x → slice_get ys i ≡ Some y → name x ≡ name y
   named_at name xs ys names i x y s t =
-      same_Some (name x) (name y) (sym (at_map name xs i x s)
-      ∙ ap (λ (l : List EventName). slice_get l i) names ∙ at_map name ys i y t)
+      same_Some (name x) (name y) (sym (map_there name xs i x s)
+      ∙ ap (λ (l : List EventName). slice_get l i) names ∙ map_there name ys i y t)
 
   node_one : (i : ℕ) (n m : Node) → slice_get ns i ≡ Some n → slice_get ms i ≡ Some m → n ≡ m
   node_one i n m s t =
@@ -202,8 +201,8 @@ module _ (f copy : CheckedFile) (topology : Topology) (declares : DeclaresOnce f
       ap (λ (l : List EventSpec). slice_get l b.number) (sym same.events_are) ∙ b.declared in
       let number : a.number ≡ b.number =
       declares.events a.number b.number a.spec.event
-      (at_map spec_event f.events a.number a.spec a.declared)
-      (at_map spec_event f.events b.number b.spec declared ∙ ap Some (sym event)) in
+      (map_there spec_event f.events a.number a.spec a.declared)
+      (map_there spec_event f.events b.number b.spec declared ∙ ap Some (sym event)) in
       let spec : a.spec ≡ b.spec =
       same_Some a.spec b.spec
       (sym a.declared ∙ ap (λ (k : ℕ). slice_get f.events k) number ∙ declared) in
@@ -236,8 +235,8 @@ module _ (f copy : CheckedFile) (topology : Topology) (declares : DeclaresOnce f
       ap (λ (l : List SerdSpec). slice_get l b.number) (sym same.engines_are) ∙ b.is.declared in
       let number : a.number ≡ b.number =
       declares.engines a.number b.number a.is.spec.engine
-      (at_map spec_engine f.engines a.number a.is.spec a.is.declared)
-      (at_map spec_engine f.engines b.number b.is.spec declared ∙ ap Some (sym engine)) in
+      (map_there spec_engine f.engines a.number a.is.spec a.is.declared)
+      (map_there spec_engine f.engines b.number b.is.spec declared ∙ ap Some (sym engine)) in
       let spec : a.is.spec ≡ b.is.spec =
       same_Some a.is.spec b.is.spec
       (sym a.is.declared ∙ ap (λ (k : ℕ). slice_get f.engines k) number ∙ declared) in

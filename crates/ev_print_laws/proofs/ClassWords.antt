@@ -1,6 +1,6 @@
 -- A word with a dot is a class: byte by byte it goes on as the grammar of classes has it.
-use Rattle.std.proofs.Common.{◌≡◌, ℕ, ◌+◌, ◌<◌, ◌≤◌, ◌&&◌, ◌||◌, ◌==◌, List, [], ◌∷◌, ◌++◌, length}
-use Rattle.std.proofs.Common.{Bool, true, false, nat_le, nat_lt, if◌then◌else◌, refl, sym, ap, ◌∙◌}
+use Rattle.std.proofs.Common.{◌≡◌, ℕ, ◌+◌, ◌<◌, ◌&&◌, ◌||◌, ◌==◌, List, [], ◌∷◌, ◌++◌, length}
+use Rattle.std.proofs.Common.{Bool, true, false, nat_le, nat_lt, refl, sym, ap, ◌∙◌}
 use Rattle.std.proofs.Common.{subst, arith}
 use Rattle.std.specs.Char.{is_ascii_alphabetic}
 use Rattle.std.specs.List.{list_all, list_any, slice_split, onto_first}
@@ -12,13 +12,13 @@ use Rattle.fm_name.proofs.Cutting.{some_text}
 use Rattle.fm_name.proofs.Scanning.{scan, scan_start, any_dots}
 use Rattle.ev_lex.specs.Bytes.{is_word_byte, opens_word}
 use Rattle.ev_lex.specs.Forms.{IsWord}
-use Rattle.ev_lex.specs.Pieces.{goes_on, parts_fit}
+use Rattle.ev_lex.specs.Pieces.{goes_on}
 
-and_one : (a b : Bool) → (a && b) ≡ true → a ≡ true
+pub and_one : (a b : Bool) → (a && b) ≡ true → a ≡ true
 and_one true b e = refl
 and_one false b e = e
 
-and_two : (a b : Bool) → (a && b) ≡ true → b ≡ true
+pub and_two : (a b : Bool) → (a && b) ≡ true → b ≡ true
 and_two true b e = e
 and_two false b e = absurd (false≢true e)
 
@@ -131,7 +131,7 @@ goes (b ∷ bs) size begun start on fits = by_test (is_word_byte b)
     scan_hyphen size b bs w d (hyphen b j.0 d) parts.0
     (goes bs (size + 1) false j.1 (on_tail b bs on) parts.1))))
 
-letter_opens : (b : ℕ) → is_ascii_alphabetic b ≡ true → is_word_byte b ≡ true
+pub letter_opens : (b : ℕ) → is_ascii_alphabetic b ≡ true → is_word_byte b ≡ true
 letter_opens b e = grind (arith, nat_tests)
 
 pub word_is_class : (bytes after : List ℕ) → IsWord bytes after

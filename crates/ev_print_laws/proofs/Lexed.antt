@@ -38,6 +38,7 @@ use Rattle.ev_tree.specs.declared.tree.Unit.TheVariants as units
 use Rattle.ev_parse.specs.Toks.{meaning, number_meaning, time_meaning, timed, unit_of}
 use Rattle.ev_parse.specs.Toks.{inner, text_meaning, tok_of, toks}
 use Rattle.ev_print_laws.proofs.Real.{Real, Given, GivenAll}
+use Rattle.ev_print_laws.proofs.ClassWords.{and_one, and_two, letter_opens}
 
 if_true : {A : Type 0} (c : Bool) (x y : A) → c ≡ true → (if c then x else y) ≡ x
 if_true true x y e = refl
@@ -48,14 +49,6 @@ if_false true x y e = absurd (cc)
 if_false false x y e = refl
 
 -- ---- runs of bytes
-
-and_one : (a c : Bool) → (a && c) ≡ true → a ≡ true
-and_one true c f = refl
-and_one false c f = f
-
-and_two : (a c : Bool) → (a && c) ≡ true → c ≡ true
-and_two true c f = f
-and_two false c f = absurd (cc)
 
 count-prefix : (test : ℕ → Bool) (bs : List ℕ) → count_while test bs ≡ prefix_len test bs
 count-prefix test bs = length-prefix_len test bs
@@ -437,9 +430,6 @@ letter_piece line b rest e =
     ∙ if_false (b == 47 && opens 42 rest) (comment_piece (drop 1 rest)) _ (grind (arith, nat_tests))
     ∙ if_true (is_ascii_alphabetic b) (word_piece (b ∷ rest)) _ e
 
-letter_on : (b : ℕ) → is_ascii_alphabetic b ≡ true → is_word_byte b ≡ true
-letter_on b e = grind (arith, nat_tests)
-
 word_size : (text : List ℕ) → length (take (word_length text) text) ≡ word_length text
 word_size text = length-take-le (word_length text) text (word_length-le text)
 
@@ -463,7 +453,7 @@ word_again : (b : ℕ) (bs : List ℕ) → is_ascii_alphabetic b ≡ true
     → WordAgain (take (word_length (b ∷ bs)) (b ∷ bs))
 word_again b bs letter fits line rest =
     let whole : word_length (b ∷ bs) ≡ 1 + word_length bs =
-    if_true (goes_on b bs) (1 + word_length bs) 0 (on_word b bs (letter_on b letter)) in
+    if_true (goes_on b bs) (1 + word_length bs) 0 (on_word b bs (letter_opens b letter)) in
     let front : take (word_length (b ∷ bs)) (b ∷ bs) ≡ b ∷ take (word_length bs) bs =
     ap (λ n. take n (b ∷ bs)) whole ∙ take_more (word_length bs) b bs in
     ap (λ l. piece line (l ++ (32 ∷ rest))) front

@@ -23,13 +23,9 @@ use Rattle.serde_json.specs.Read.{of_json, of_items, of_members, number_of, numb
 use Rattle.serde_json.specs.Read.{is_integer}
 use Rattle.serde_json.specs.Written.{number_text, comma_if, compact_text, items_text, members_text}
 use Rattle.fm_line_laws.proofs.Sized.{if_late, size, items_size, members_size}
+use Rattle.fm_line_laws.proofs.Escaped.{chosen}
 
 -- ---- numbers
-
-chosen : {A : Type 0} (P : A → Type 0) (b : Bool) (x y : A) → (b ≡ true → P x) → (b ≡ false → P y)
-    → P (cond b x y)
-chosen P true x y f g = f refl
-chosen P false x y f g = g refl
 
 all_digits : (xs ys : List ℕ) → AllDigits 10 xs → AllDigits 10 ys → AllDigits 10 (xs ++ ys)
 all_digits [] ys h k = k

@@ -45,17 +45,13 @@ use Rattle.fm_line.specs.Numbers.{last_moment, as_moment, moment_of_word}
 use Rattle.fm_line.specs.Payload.{list_of}
 use Rattle.fm_line_laws.specs.Printing.{IsShortest}
 use Rattle.fm_line.specs.Printed.{payload_data, plain_report, json_report, line_text}
-use Rattle.fm_line_laws.proofs.Reading.{IsRead, get_read, read_read}
+use Rattle.fm_line_laws.proofs.Reading.{IsRead, get_read, read_read, then_read}
 use Rattle.fm_line_laws.proofs.PayloadBack.{list_back}
 use Rattle.fm_line_laws.proofs.Sized.{size, value_size}
 use Rattle.fm_line_laws.proofs.Compact.{total, object_total, object_length, value_compact}
+use Rattle.fm_line_laws.proofs.Escaped.{chosen}
 
 -- ---- numbers and case names
-
-chosen : {A : Type 0} (P : A → Type 0) (b : Bool) (x y : A) → (b ≡ true → P x) → (b ≡ false → P y)
-    → P (cond b x y)
-chosen P true x y f g = f refl
-chosen P false x y f g = g refl
 
 second : (a b c : Bool) → cond a false (cond b c false) ≡ true → b ≡ true
 second true b c h = absurd (false≢true h)
@@ -104,27 +100,22 @@ case_written text = IfSome_then (case_named text) (case_spelled text)
 abbrev IsWithin : ℕ → List ℕ → Type 0
 IsWithin n s = length s ≤ n
 
-found_then : {A B : Type 0} (P : A → Type 0) (Q : B → Type 0) (f : A → Option B) (o : Option A)
-    → IfSome o P → ((x : A) → P x → IfSome (f x) Q) → IfSome (option_and_then f o) Q
-found_then P Q f None h g = tt
-found_then P Q f (Some x) h g = g x h
-
 text_within : (bytes : List ℕ) → IfSome (text_of bytes) (IsWithin (length bytes))
 unfolding text_of
 text_within bytes = if_found (IsWithin (length bytes)) _ (Some bytes) (λ e. omega arith)
 
 class_within : (P : List ℕ → Type 0) (o : Option (List ℕ)) → IfSome o P → IfSome (class_in o) P
 unfolding class_in
-class_within P o h = found_then P P _ o h (λ c hc. if_found P (is_ereport c) (Some c) (λ e. hc))
+class_within P o h = then_read P P _ o h (λ c hc. if_found P (is_ereport c) (Some c) (λ e. hc))
 
 path_within : (P : List ℕ → Type 0) (o : Option (List ℕ)) → IfSome o P → IfSome (path_in o) P
 unfolding path_in
-path_within P o h = found_then P P _ o h (λ p hp. if_found P (is_path p) (Some p) (λ e. hp))
+path_within P o h = then_read P P _ o h (λ p hp. if_found P (is_path p) (Some p) (λ e. hp))
 
 case_within : (n : ℕ) (o : Option (List ℕ)) → IfSome o (IsWithin n)
     → IfSome (case_in o) (IsCaseWritten n)
 unfolding case_in
-case_within n o h = found_then (IsWithin n) (IsCaseWritten n) case_named o h
+case_within n o h = then_read (IsWithin n) (IsCaseWritten n) case_named o h
     (λ t ht. wider (case_named t) (length t) n (case_written t) ht)
 
 -- ---- entries, and what is printed for them
@@ -602,7 +593,7 @@ smaller m n None le h = tt
 smaller m n (Some d) le h = omega (arith, le, h)
 
 read_sized : (text : List ℕ) → IfSome (read text) (IsSized (length text))
-read_sized text = found_then (IsSizedJson text) (IsSized (length text)) of_json _
+read_sized text = then_read (IsSizedJson text) (IsSized (length text)) of_json _
     (json_by text _ refl) (λ j hj. smaller (size j) (length text) (of_json j) hj (value_compact j))
 
 both : (n : ℕ) (o : Option Data) → IfSome o IsRead → IfSome o (IsSized n)
@@ -613,7 +604,7 @@ both n (Some d) r s = (r, s)
 json_sized : (line : List ℕ) → IfSome (json_of line) (λ d. IsRead d × IsSized (length line) d)
 unfolding json_of
 json_sized line =
-    found_then (IsWithin (length line)) (λ d. IsRead d × IsSized (length line) d) read
+    then_read (IsWithin (length line)) (λ d. IsRead d × IsSized (length line) d) read
     (text_of line) (text_within line)
     (λ text ht. both (length line) (read text) (read_read text)
     (smaller (length text) (length line) (read text) ht (read_sized text)))

@@ -1,22 +1,22 @@
 -- One declared one more is kept, and what is kept is all or more than the limit.
-use Rattle.std.proofs.Common.{◌≡◌, ◌<◌, ◌≤◌, ◌+◌, ℕ, List, Bor, Some, map, length, slice_get}
+use Rattle.std.proofs.Common.{◌≡◌, ◌<◌, ◌+◌, ℕ, List, Bor, Some, map, length, slice_get}
 use Rattle.std.proofs.Common.{get_or}
 use Rattle.std.proofs.Common.{sym, ap, ◌∙◌, subst, arith}
-use Rattle.std.specs.Map.{keys_of, values_of}
+use Rattle.std.specs.Map.{values_of}
 use Rattle.std.proofs.lemmas.Map.Entries.{length-keys_of}
 use Rattle.std.proofs.lemmas.Option.{slice_get-get_or}
 use Rattle.fm_name.specs.declared.events.EventName.{EventName}
 use Rattle.ev_tree.specs.declared.tree.Declared.{Declared}
 use Rattle.ev_events.specs.Placed.{ArePlaced}
 use Rattle.ev_events.proofs.Declaring.{map_long}
-use Rattle.ev_events.proofs.Keeping.{kept_many, kept_more, kept_placed, none_kept}
-use Rattle.ev_events.proofs.Wholeness.{at_map}
+use Rattle.ev_events.proofs.Keeping.{kept_many, kept_more, kept_placed}
 use Rattle.ev_events.proofs.placed.placed_of.Goals as goal
+use Rattle.ev_events.proofs.Places.{map_there}
 
 declared_there : (ds : List (Bor Declared)) (i : ℕ) (d : Bor Declared) → i < length ds
     → d ≡ get_or ds i d → slice_get (map (λ (x : Bor Declared). x.now) ds) i ≡ Some d.now
 declared_there ds i d less is =
-    at_map (λ (x : Bor Declared). x.now) ds i d
+    map_there (λ (x : Bor Declared). x.now) ds i d
     (slice_get-get_or ds i d less ∙ ap Some (sym is))
 
 pub returns-then-len-limit : goal.returns-then-len-limit
