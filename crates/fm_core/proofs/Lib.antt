@@ -1,4 +1,5 @@
 pub mod Lists
+pub mod Options
 pub mod Tests
 pub mod Along
 pub mod Configurations
