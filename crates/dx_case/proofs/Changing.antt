@@ -17,7 +17,7 @@ use Rattle.ev_graph.specs.declared.nodes.Node.{Node}
 use Rattle.ev_graph.specs.declared.instances.Link.{Link}
 use Rattle.ev_graph.proofs.Occurrences.{in_push, in_more, in_last}
 use Rattle.dx_sets.specs.Engine.{CutsOf}
-use Rattle.dx_explain.proofs.Listed.{same_answer}
+use Rattle.dx_story.proofs.Answers.{same_answer}
 use Rattle.dx_live.specs.Live.{LiveValue, IsLiveOf, IsLiveBest, live_root, cut_with, all_but}
 use Rattle.dx_case.specs.declared.candidate.Candidate.{Candidate}
 use Rattle.dx_case.specs.Changes.{cut_or, allowed_less, goes, gone_of, IsChanged}

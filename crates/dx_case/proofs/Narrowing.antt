@@ -12,7 +12,8 @@ use Rattle.ev_graph.specs.Lawful.{GraphValue}
 use Rattle.ev_graph.specs.declared.instances.Link.{Link}
 use Rattle.ev_graph.proofs.Occurrences.{all_from}
 use Rattle.dx_sets.specs.Engine.{CutsOf}
-use Rattle.dx_explain.specs.Explaining.{no_other_report, IsAllowedStory, IsPossible}
+use Rattle.dx_story.specs.Greatest.{no_other_report, IsAllowedStory}
+use Rattle.dx_explain.specs.Explaining.{IsPossible}
 use Rattle.dx_explain.proofs.Shrinking.{shrinks}
 use Rattle.dx_live.specs.Live.{IsLiveBest, live_root, live_set}
 use Rattle.dx_explain.proofs.Telling.{implied, implies}

@@ -11,9 +11,10 @@ use Rattle.ev_graph.specs.Lawful.{GraphValue}
 use Rattle.ev_graph.specs.declared.nodes.NodeKind.{NodeKind}
 use Rattle.ev_graph.proofs.Occurrences.{all_in, any_in, any_from, in_filter, filter_in}
 use Rattle.dx_sets.specs.Engine.{CutsOf}
-use Rattle.dx_explain.specs.Explaining.{IsAllowedStory, IsPossible}
+use Rattle.dx_story.specs.Greatest.{IsAllowedStory}
+use Rattle.dx_explain.specs.Explaining.{IsPossible}
 use Rattle.dx_explain.specs.Laws.{Explains, IsPending}
-use Rattle.dx_explain.proofs.Listed.{same_answer}
+use Rattle.dx_story.proofs.Answers.{same_answer}
 use Rattle.dx_explain.proofs.Shrinking.{when_decided}
 use Rattle.dx_live.specs.Live.{live_root, live_set}
 use Rattle.fm_core.specs.Meaning.{OpenCase}

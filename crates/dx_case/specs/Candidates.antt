@@ -7,7 +7,8 @@ use Rattle.ev_graph.specs.declared.nodes.Node.{Node}
 use Rattle.ev_graph.specs.declared.nodes.NodeKind.{NodeKind}
 use Rattle.ev_graph.specs.Lawful.{GraphValue}
 use Rattle.dx_sets.specs.Engine.{CutsOf}
-use Rattle.dx_explain.specs.Explaining.{IsPossible, IsAllowedStory}
+use Rattle.dx_story.specs.Greatest.{IsAllowedStory}
+use Rattle.dx_explain.specs.Explaining.{IsPossible}
 use Rattle.dx_live.specs.Live.{IsLiveOf, IsLiveBest, live_root, live_set}
 use Rattle.dx_case.specs.declared.candidate.Candidate.{Candidate}
 use Rattle.dx_case.specs.Changes.{allowed_less}

@@ -4,7 +4,7 @@ use Rattle.ev_graph.specs.Sets.{NodeSet, is_member, ascends}
 use Rattle.ev_graph.specs.Kinds.{is_root_node}
 use Rattle.ev_graph.specs.Lawful.{GraphValue}
 use Rattle.dx_sets.specs.Engine.{CutsOf}
-use Rattle.dx_explain.specs.Explaining.{IsAllowedStory}
+use Rattle.dx_story.specs.Greatest.{IsAllowedStory}
 use Rattle.dx_live.specs.Live.{no_cut, all_allowed}
 use Rattle.dx_case.specs.declared.candidate.Candidate.{Candidate}
 use Rattle.dx_case.specs.Candidates.{IsCandidate, roots_in}

@@ -1,19 +1,18 @@
 -- The greatest set within what may stay is the greatest story.
 use Rattle.std.proofs.Common.{◌≡◌, ◌<◌, ◌≤◌, ◌&&◌, ◌||◌, not, ℕ, true, false}
-use Rattle.std.proofs.Common.{eqb, ltb, List, [], length, refl, sym, ap, subst, ◌∙◌}
-use Rattle.std.proofs.Common.{arith, inl, inr, zero, suc, ◌∷◌}
+use Rattle.std.proofs.Common.{eqb, ltb, List, [], length, sym, ap, subst, ◌∙◌}
+use Rattle.std.proofs.Common.{arith, inl, inr}
 use Rattle.std.specs.List.{list_all}
 use Rattle.std.proofs.lemmas.List.{length-map}
-use Rattle.std.proofs.lemmas.Bool.{cases_Bool, cases_lt, and_parts, and_from, or_cases, or_left}
+use Rattle.std.proofs.lemmas.Bool.{cases_Bool, and_parts, and_from, or_cases, or_left}
 use Rattle.std.proofs.lemmas.Bool.{or_right, eqb-true, eq-eqb, lt-ltb, both_ways, not-true}
-use Rattle.std.proofs.lemmas.Bool.{not_from_false, not_from_true, false≢true, and_right}
+use Rattle.std.proofs.lemmas.Bool.{not_from_false, not_from_true, and_right}
 use Rattle.ev_graph.specs.Sets.{NodeSet, is_member, has_mark, IsSubset}
 use Rattle.ev_graph.specs.Kinds.{is_root_node}
 use Rattle.ev_graph.specs.Wiring.{Wiring, wiring}
 use Rattle.ev_graph.specs.Table.{IncidenceValue}
 use Rattle.ev_graph.specs.Cutting.{without}
 use Rattle.ev_graph.specs.Lawful.{GraphValue, IsIncidenceOf}
-use Rattle.ev_graph.specs.declared.nodes.Node.{Node}
 use Rattle.ev_graph.proofs.Occurrences.{all_in, all_from}
 use Rattle.ev_graph.proofs.Building.{wiring_same}
 use Rattle.dx_sets.specs.Fit.{IsFit, IsGreatestFit}
@@ -22,8 +21,11 @@ use Rattle.dx_sets.specs.Engine.{AreSized, AreExact, AreFilled, IsSteady, Settle
 use Rattle.dx_sets.specs.Engine.{CutsOf, wiring_cut}
 use Rattle.dx_sets.proofs.Leaving.{marked_below}
 use Rattle.dx_sets.proofs.Filling.{greatest_at_end}
-use Rattle.dx_explain.specs.Explaining.{may_stay, no_other_report, set_of, FitsGraph, IsPossible}
-use Rattle.dx_explain.specs.Explaining.{IsAllowedStory, IsGreatestStory, IsExplanation}
+use Rattle.dx_story.specs.Greatest.{no_other_report}
+use Rattle.dx_explain.specs.Explaining.{may_stay, set_of, FitsGraph, IsPossible}
+use Rattle.dx_story.specs.Greatest.{IsAllowedStory, IsGreatestStory}
+use Rattle.dx_explain.specs.Explaining.{IsExplanation}
+use Rattle.dx_story.proofs.Roots.{root_below}
 
 -- a story with allowed reports is fit, and within what may stay
 module _ (g : GraphValue) (cut : CutsOf) (root : ℕ) (allowed Y : NodeSet)
@@ -95,17 +97,6 @@ pub root_possible : (g : GraphValue) (cut : CutsOf) (root : ℕ) (seen allowed :
 root_possible g cut root seen allowed p = p.story.story.root_kind
 
 -- what the calls of the solver come to
-pub root_below : (nodes : List Node) (root : ℕ) → is_root_node nodes root ≡ true
-    → root < length nodes
-root_below nodes root h = elim (cases_lt root (length nodes)) [
-  | inl l ↦ l
-  | inr past ↦ absurd (false≢true (sym (past_none nodes root past) ∙ h))
-] where
-  past_none : (ns : List Node) (e : ℕ) → length ns ≤ e → is_root_node ns e ≡ false
-  past_none [] e l = refl
-  past_none (n ∷ ns) zero l = absurd (omega (arith, l))
-  past_none (n ∷ ns) (suc e) l = past_none ns e (omega (arith, l))
-
 module _ (g : GraphValue) (v : IncidenceValue) (h : IsIncidenceOf (length g.nodes) g.instances v)
   where
     causes_count : length v.causes ≡ length g.instances

@@ -1,7 +1,7 @@
 -- The members of a set as a list.
 use Rattle.std.proofs.Common.{◌≡◌, ◌+◌, ◌++◌, ◌<◌, ℕ, Bool, true, false, List, [], ◌∷◌, length}
 use Rattle.std.proofs.Common.{eqb, ltb, refl, sym, ap, subst, ◌∙◌, inl, inr, arith}
-use Rattle.std.proofs.lemmas.Bool.{cases_Bool, cases_eq, both_ways, and_parts, and_from, or_left}
+use Rattle.std.proofs.lemmas.Bool.{cases_eq, both_ways, and_parts, and_from, or_left}
 use Rattle.std.proofs.lemmas.Bool.{or_right, eq-eqb, lt-ltb, false≢true}
 use Rattle.ev_graph.specs.Sets.{NodeSet, is_member, has_mark, IsSubset, ascends}
 use Rattle.ev_graph.specs.Lawful.{GraphValue}
@@ -9,15 +9,7 @@ use Rattle.ev_graph.proofs.Occurrences.{in_push, in_more, in_last}
 use Rattle.dx_sets.specs.Engine.{CutsOf}
 use Rattle.dx_sets.proofs.Leaving.{marked_below}
 use Rattle.dx_explain.specs.Explaining.{AreMembers, IsExplanation, IsExplanationList}
-
-pub same_answer : (a b : Bool) → (a ≡ true → b ≡ true) → (b ≡ true → a ≡ true) → a ≡ b
-same_answer a b f h = elim (cases_Bool a) [
-  | inl here ↦ here ∙ sym (f here)
-  | inr away ↦ elim (cases_Bool b) [
-    | inl there ↦ absurd (both_ways a away (h there))
-    | inr none ↦ away ∙ sym none
-  ]
-]
+use Rattle.dx_story.proofs.Answers.{same_answer}
 
 same_set : (X Y : NodeSet) → IsSubset X Y → IsSubset Y X → X ≡ Y
 same_set X Y f h = λ i. λ e. same_answer (X e) (Y e) (f e) (h e) i

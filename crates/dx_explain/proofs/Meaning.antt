@@ -8,7 +8,7 @@ use Rattle.ev_graph.specs.Lawful.{GraphValue, IsGraph}
 use Rattle.ev_graph.proofs.Occurrences.{all_in, all_from}
 use Rattle.dx_sets.specs.Engine.{CutsOf}
 use Rattle.dx_explain.specs.Laws.{Explains, IsPending}
-use Rattle.dx_explain.proofs.Greatest.{root_below}
+use Rattle.dx_story.proofs.Roots.{root_below}
 use Rattle.fm_core.specs.Meaning.{OpenCase}
 use Rattle.dx_explain.specs.Search.{some_below}
 use Rattle.dx_explain.specs.Stories.{is_story, has_just, reports_within, explains, comes_from}

@@ -5,7 +5,7 @@ use Rattle.std.proofs.lemmas.Bool.{cases_Bool, cases_eq, and_parts, and_from, or
 use Rattle.std.proofs.lemmas.Bool.{or_right, eq-eqb, eqb-true, lt-ltb, ltb-true, false≢true}
 use Rattle.std.proofs.lemmas.Bool.{both_ways}
 use Rattle.ev_graph.specs.Sets.{NodeSet}
-use Rattle.dx_explain.proofs.Listed.{same_answer}
+use Rattle.dx_story.proofs.Answers.{same_answer}
 use Rattle.dx_explain.specs.Search.{some_below, every_below, some_set, empty_set, with_member}
 use Rattle.dx_explain.specs.Search.{IsSetBelow}
 

@@ -8,9 +8,10 @@ use Rattle.ev_graph.specs.Wiring.{wiring}
 use Rattle.ev_graph.specs.Lawful.{GraphValue}
 use Rattle.dx_sets.specs.Engine.{CutsOf}
 use Rattle.dx_sets.proofs.Cuts.{produced_fewer, shown_fewer}
-use Rattle.dx_explain.specs.Explaining.{no_other_report, IsPossible}
+use Rattle.dx_story.specs.Greatest.{no_other_report}
+use Rattle.dx_explain.specs.Explaining.{IsPossible}
 use Rattle.dx_explain.specs.Laws.{PossibleShrinks, SameGreatest, Explains, IsPending, Decided}
-use Rattle.dx_explain.proofs.Listed.{same_answer}
+use Rattle.dx_story.proofs.Answers.{same_answer}
 
 pub shrinks : PossibleShrinks
 shrinks g cut fewer root seen allowed less_seen more_allowed s a c p =

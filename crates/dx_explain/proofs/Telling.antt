@@ -19,8 +19,8 @@ use Rattle.ev_graph.specs.declared.instances.Instance.{Instance}
 use Rattle.ev_graph.proofs.Occurrences.{filter_in, all_in, all_from}
 use Rattle.dx_story.specs.Story.{IsStory}
 use Rattle.dx_sets.specs.Engine.{CutsOf}
-use Rattle.dx_explain.specs.Explaining.{no_other_report}
-use Rattle.dx_explain.proofs.Greatest.{root_below}
+use Rattle.dx_story.specs.Greatest.{no_other_report}
+use Rattle.dx_story.proofs.Roots.{root_below}
 use Rattle.dx_explain.specs.Search.{every_below, some_below, IsSetBelow}
 use Rattle.dx_explain.specs.Stories.{wiring_with, is_no_other_root, is_given, shows_all, is_fit}
 use Rattle.dx_explain.specs.Stories.{is_story, reports_within, has_just}

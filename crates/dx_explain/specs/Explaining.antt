@@ -1,40 +1,22 @@
--- Which roots are possible, and the greatest story of one.
+-- Which roots are possible, and what explains by one.
 use Rattle.std.specs.Prelude.{◌≡◌, ◌==◌, ◌&&◌, ◌||◌, ◌<◌, ◌≤◌, not, ℕ, true, List, length}
 use Rattle.ev_graph.specs.Sets.{NodeSet, is_member, has_mark, IsSubset, ascends}
-use Rattle.ev_graph.specs.Kinds.{is_root_node, is_report_node}
-use Rattle.ev_graph.specs.Wiring.{wiring}
-use Rattle.ev_graph.specs.Cutting.{without}
+use Rattle.ev_graph.specs.Kinds.{is_root_node}
 use Rattle.ev_graph.specs.Lawful.{GraphValue}
 use Rattle.ev_graph.specs.declared.nodes.Node.{Node}
-use Rattle.dx_story.specs.Story.{IsStory}
+use Rattle.dx_story.specs.Greatest.{no_other_report, IsAllowedStory, IsGreatestStory}
 use Rattle.dx_sets.specs.Sets.{SetsValue}
 use Rattle.dx_sets.specs.Engine.{CutsOf}
 
--- no report, or one that is allowed
-abbrev pub no_other_report : List Node → NodeSet → NodeSet
-no_other_report nodes allowed e = not (is_report_node nodes e) || allowed e
-
--- a story of the root, in the graph less the links that are cut, with reports within what is
--- allowed
-pub record IsAllowedStory (g : GraphValue) (cut : CutsOf) (root : ℕ) (allowed X : NodeSet) : Type 0
-  where
-    pub story : IsStory g.nodes (without (wiring g.instances) cut) root X
-    pub within : IsSubset X (no_other_report g.nodes allowed)
-
--- the root is possible: some such story has all that was seen
+-- the root is possible: some story of it, with reports within what is allowed, has all that was
+-- seen
 pub record IsPossible (g : GraphValue) (cut : CutsOf) (root : ℕ) (seen allowed : NodeSet) : Type 0
   where
     pub set : NodeSet
     pub story : IsAllowedStory g cut root allowed set
     pub all : IsSubset seen set
 
--- the greatest such story
-pub record IsGreatestStory (g : GraphValue) (cut : CutsOf) (root : ℕ) (allowed X : NodeSet) : Type 0
-  where
-    pub story : IsAllowedStory g cut root allowed X
-    pub greatest : (Y : NodeSet) → IsAllowedStory g cut root allowed Y → IsSubset Y X
-
--- it is the greatest one, and has all that was seen
+-- the set is the greatest story of the root, and has all that was seen
 pub record IsExplanation (g : GraphValue) (cut : CutsOf) (root : ℕ) (seen allowed X : NodeSet) :
     Type 0 where
   pub is : IsGreatestStory g cut root allowed X

@@ -7,8 +7,9 @@ use Rattle.ev_graph.specs.Cutting.{without}
 use Rattle.ev_graph.specs.Lawful.{GraphValue}
 use Rattle.dx_story.specs.Story.{IsStory}
 use Rattle.dx_sets.specs.Engine.{CutsOf, CutsWithin}
-use Rattle.dx_explain.specs.Explaining.{no_other_report, IsAllowedStory, IsPossible}
-use Rattle.dx_explain.specs.Explaining.{IsGreatestStory}
+use Rattle.dx_story.specs.Greatest.{no_other_report, IsAllowedStory}
+use Rattle.dx_explain.specs.Explaining.{IsPossible}
+use Rattle.dx_story.specs.Greatest.{IsGreatestStory}
 
 -- a root that is possible stays so where less was seen, more is allowed and fewer links are cut: so
 -- while more is seen, less is allowed and more is cut, what is possible only shrinks

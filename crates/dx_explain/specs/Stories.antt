@@ -9,7 +9,7 @@ use Rattle.ev_graph.specs.Cutting.{without}
 use Rattle.ev_graph.specs.Rules.{is_enough, is_met}
 use Rattle.ev_graph.specs.Lawful.{GraphValue}
 use Rattle.dx_sets.specs.Engine.{CutsOf}
-use Rattle.dx_explain.specs.Explaining.{no_other_report}
+use Rattle.dx_story.specs.Greatest.{no_other_report}
 use Rattle.dx_explain.specs.Search.{every_below, some_below, some_set}
 
 -- what the instances of a graph say, less the links that a test says are cut

@@ -15,7 +15,7 @@ use Rattle.dx_story.specs.Story.{IsStory}
 use Rattle.dx_sets.specs.Fit.{IsFit}
 use Rattle.dx_sets.specs.Engine.{CutsOf, CutsWithin, wiring_cut}
 use Rattle.dx_sets.proofs.Cuts.{produced_fewer, shown_fewer}
-use Rattle.dx_explain.specs.Explaining.{IsAllowedStory, no_other_report}
+use Rattle.dx_story.specs.Greatest.{IsAllowedStory, no_other_report}
 use Rattle.dx_live.specs.Region.{RegionValue, IsRegionOf, AreLocalCuts, local, lifted}
 use Rattle.dx_live.specs.Live.{IsBestStory, BestIsGreatest, all_allowed}
 use Rattle.dx_live.proofs.Regions.{to_global, to_local, fit_within}

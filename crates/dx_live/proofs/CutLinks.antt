@@ -10,7 +10,7 @@ use Rattle.ev_graph.specs.declared.instances.Link.{Link}
 use Rattle.dx_sets.specs.Sets.{SetsValue}
 use Rattle.dx_sets.specs.Engine.{CutsOf}
 use Rattle.dx_sets.proofs.Filling.{steady_fit}
-use Rattle.dx_explain.proofs.Listed.{same_answer}
+use Rattle.dx_story.proofs.Answers.{same_answer}
 use Rattle.dx_live.specs.Region.{AreLocalCuts, IsLinkOf, IsNoLinkOf}
 use Rattle.ev_graph.proofs.Occurrences.{in_at}
 use Rattle.dx_live.specs.Cuts.{CutsValue, cut_at, CutIsMade}

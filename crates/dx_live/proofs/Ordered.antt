@@ -14,7 +14,7 @@ use Rattle.std.proofs.lemmas.Map.Keys.{IsStrictlyIncreasing-dedup}
 use Rattle.std.proofs.lemmas.Bool.{and_from, or_cases, or_left, or_right, eqb-true, eq-eqb, lt-ltb}
 use Rattle.std.proofs.lemmas.Bool.{false≢true}
 use Rattle.ev_graph.specs.Sets.{is_member, ascends}
-use Rattle.dx_explain.proofs.Listed.{same_answer}
+use Rattle.dx_story.proofs.Answers.{same_answer}
 
 contains_from : (xs : List ℕ) (x : ℕ) → is_member xs x ≡ true → Contains xs x
 contains_from [] x h = absurd (false≢true h)

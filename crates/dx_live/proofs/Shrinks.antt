@@ -17,7 +17,7 @@ use Rattle.dx_sets.proofs.Leaving.{removed_moves, removed_gone, removed_other, r
 use Rattle.dx_sets.proofs.Leaving.{removed_effects, removed_support}
 use Rattle.dx_sets.proofs.Beginning.{exact_moved, given_moved}
 use Rattle.dx_sets.proofs.Filling.{steady_fit}
-use Rattle.dx_explain.specs.Explaining.{no_other_report}
+use Rattle.dx_story.specs.Greatest.{no_other_report}
 use Rattle.dx_live.specs.Region.{local, lifted}
 use Rattle.dx_live.specs.Live.{LiveOver, root_over, cuts_over, IsLiveOver, IsBestOver}
 use Rattle.dx_live.specs.Live.{all_but}

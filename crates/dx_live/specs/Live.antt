@@ -9,7 +9,7 @@ use Rattle.dx_sets.specs.Sets.{SetsValue}
 use Rattle.dx_sets.specs.Fit.{IsFit}
 use Rattle.dx_sets.specs.Engine.{CutsOf, IsSteady, wiring_cut, cost}
 use Rattle.ev_graph.specs.Table.{IncidenceValue}
-use Rattle.dx_explain.specs.Explaining.{IsAllowedStory, IsGreatestStory}
+use Rattle.dx_story.specs.Greatest.{IsAllowedStory, IsGreatestStory}
 use Rattle.ev_graph.specs.declared.instances.Link.{Link}
 use Rattle.dx_live.specs.Region.{KeptRegion, RegionValue, IsRegionOf, AreLocalCuts, lifted}
 use Rattle.dx_live.specs.Region.{table_over, region_over}

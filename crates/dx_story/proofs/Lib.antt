@@ -1,3 +1,5 @@
 pub mod Exact
 pub mod Linked
 pub mod Unions
+pub mod Roots
+pub mod Answers

@@ -15,7 +15,8 @@ use Rattle.ev_graph.specs.Wiring.{wiring}
 use Rattle.ev_graph.specs.Lawful.{GraphValue, IsNodeNamed, name_in}
 use Rattle.ev_graph.specs.declared.instances.Link.{Link}
 use Rattle.ev_graph.specs.declared.nodes.Node.{Node}
-use Rattle.dx_explain.specs.Explaining.{AreMembers, IsGreatestStory, IsPossible}
+use Rattle.dx_story.specs.Greatest.{IsGreatestStory}
+use Rattle.dx_explain.specs.Explaining.{AreMembers, IsPossible}
 
 -- a link as the graph has it
 abbrev pub link_of : Broken → Link

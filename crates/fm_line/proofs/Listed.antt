@@ -8,7 +8,7 @@ use Rattle.std.specs.BTreeMap.{insert_entry}
 use Rattle.serde_json.proofs.Views.{members_view-insert_entry, Entry}
 use Rattle.fm_nv.specs.Data.{Pairs, no_pairs, pair, count, from, lists_of, depth, lists_depth}
 use Rattle.fm_line.specs.Printed.{payload_data, lists_items}
-use Rattle.fm_nv.proofs.Places.{from_end}
+use Rattle.fm_nv.proofs.Places.{from_end as from_count}
 
 pub lists_items_lists_of : (ls : List Pairs)
     → lists_items (lists_of ls) ≡ items_of (map payload_data ls)
@@ -29,7 +29,7 @@ from_zero (pair k d ps) = refl
 
 -- and none from its end on
 pub from_end : (ps : Pairs) (n : ℕ) → n ≡ count ps → from n ps ≡ no_pairs
-from_end ps n end = ap (λ m. from m ps) end ∙ from_end ps
+from_end ps n end = ap (λ m. from m ps) end ∙ from_count ps
 
 pub insert_view : (es : List Entry) (k : String Global) (v : Value)
     → members_view (insert_entry string_cmp es k v)

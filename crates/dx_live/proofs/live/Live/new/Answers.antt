@@ -1,5 +1,5 @@
 use Rattle.std.proofs.Common.{arith}
-use Rattle.dx_explain.proofs.Greatest.{root_below}
+use Rattle.dx_story.proofs.Roots.{root_below}
 use Rattle.dx_live.specs.Live.{LiveValue, live_over, no_cut, all_allowed}
 use Rattle.dx_live.proofs.Opening.{live_first, best_live, cost_first}
 use Rattle.dx_live.proofs.Tables.{best_of, cost_at}

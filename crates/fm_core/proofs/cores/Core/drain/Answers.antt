@@ -1,6 +1,6 @@
 use Rattle.std.proofs.Common.{◌≡◌, ◌∙◌, length}
 use Rattle.fm_core.specs.Seen.{Seen, seen}
-use Rattle.fm_core.proofs.Draining.{drain_turn, drained_all, modules_drained}
+use Rattle.fm_core.proofs.Draining.{drain_turn, drained_all, modules_drained, only_both}
 use Rattle.fm_core.proofs.cores.Core.drain.Goals as goal
 
 pub turns-preserved : goal.turns-preserved
@@ -29,3 +29,8 @@ returns-clause-modules g c =
     modules_drained old now c.turns.invariant.0
     (drained_all old now c.turns._turn c.len-turn-end.result c.turns.invariant.0
     c.turns.invariant.1 c.turns-test.false size)
+
+pub returns-in_err-work_each-clause-worked : goal.returns-in_err-work_each-clause-worked
+returns-in_err-work_each-clause-worked g c =
+    only_both (seen g.M.Module c.args.self.now) (seen g.M.Module c.turns.self)
+    (seen g.M.Module c.work_each.new.self) c.turns.invariant.0 c.work_each.ensures.worked
