@@ -86,8 +86,8 @@ PickCause g a b new_a new_b (Damaged second place) = ⊥
 -- want of memory.
 abbrev pub NewestCause : {D : Type 0} → Ghosts D → D → D → D → D → SlotFault → Type 0
 NewestCause g a b new_a new_b (Damaged second place) =
-    (place ≡ 0) × AreKept g a b new_a new_b × (IsSettled g new_a × IsSettled g new_b) × ((x y : List ℕ) → g.seen a ≡ Some x
-    → g.seen b ≡ Some y → IsDamagedPair second x y)
+    (place ≡ 0) × AreKept g a b new_a new_b × (IsSettled g new_a × IsSettled g new_b)
+    × ((x y : List ℕ) → g.seen a ≡ Some x → g.seen b ≡ Some y → IsDamagedPair second x y)
 NewestCause g a b new_a new_b Disk =
     Rose (g.failures a) (g.failures new_a) ⊎ Rose (g.failures b) (g.failures new_b)
 NewestCause g a b new_a new_b NoMemory = AreKept g a b new_a new_b
