@@ -173,7 +173,7 @@ module _ {D M : Type 0} (g : Ghosts D) (m : ModuleGhosts M) where
   stopped_why : (old new : StoreOf D M) (hands now : List (HandOf M)) (one : ℕ) (h : HandOf M)
       (fault : StoreFault) → DrainDoes g m old new hands now (Err fault)
       → StoppedAt g m old new one h fault → RotationRefused g m old new hands fault
-  stopped_why old new hands now one h (Closed name failures) drain why = why
+  stopped_why old new hands now one h (Closed name failures) drain why = (why.0, why.1)
   stopped_why old new hands now one h (Full kind) drain why =
       (open_before g old new why.0 why.1, record { now = now; at = inl drain })
   stopped_why old new hands now one h Disk drain why = (why.0, (Flt, why.2))
