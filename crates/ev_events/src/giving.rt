@@ -7,7 +7,7 @@ ghost use Rattle.ev_events.specs.Giving as giving;
 
 use crate::asking::{asks_payload, condition_names};
 use crate::names::Iterators;
-use ev_expr::holds;
+use ev_expr::holds_near;
 use ev_join::{Row, Table};
 use ev_tree::SidePattern;
 use fm_bytes::NoMemory;
@@ -23,11 +23,12 @@ pub struct Binding<'a> {
     pub instances: &'a [u32],
 }
 
-/// Whether the condition of a pattern passes at a path.
+/// Whether the condition of a pattern passes at a path, which is sought at a number first.
 fn passes(
     alloc: Global,
     binding: &Binding,
     pattern: &SidePattern,
+    near: usize,
     path: &Fmri,
 ) -> Result<bool, NoMemory>
     ensures { IfOk result (λ passes. passes ≡ giving.passes binding.now.topo.now
@@ -47,7 +48,7 @@ fn passes(
         pattern.parts.as_slice(),
         path,
     )?;
-    Ok(holds(cond, &names, binding.topo, path))
+    Ok(holds_near(cond, &names, binding.topo, near, path))
 }
 
 /// Whether there is a path of this number, at which the condition of a pattern passes.
@@ -62,7 +63,7 @@ fn passes_at(
 {
     if (at as usize) < binding.topo.len() {
         let path = binding.topo.path(at as usize);
-        passes(alloc, binding, pattern, path)
+        passes(alloc, binding, pattern, at as usize, path)
     } else {
         Ok(false)
     }

@@ -84,7 +84,10 @@ fn cond_holds(env: &Environment, cond: &Cond) -> bool
         Cond::Any(members) => any_holds(env, members.as_slice()),
         Cond::All(members) => all_hold(env, members.as_slice()),
         Cond::Not(inner) => !cond_holds(env, inner),
-        Cond::Defined(name) => env.topo.property(env.path, name.get()).is_some(),
+        Cond::Defined(name) => env
+            .topo
+            .property_near(env.near, env.path, name.get())
+            .is_some(),
         Cond::Compares { left, how, right } => {
             let left = sum_worth(&*env, left.as_slice());
             let right = sum_worth(&*env, right.as_slice());
@@ -103,6 +106,7 @@ pub fn holds_for(cond: &Cond, names: &[Bound], topo: &Topo, path: &Fmri, props: 
     let env = Environment {
         names,
         topo,
+        near: 0,
         path,
         props,
     };
@@ -117,4 +121,21 @@ pub fn holds(cond: &Cond, names: &[Bound], topo: &Topo, path: &Fmri) -> bool
         (view_cond cond.now) }
 {
     holds_for(cond, names, topo, path, &[])
+}
+
+/// Whether a condition holds at a path, as [`holds`] answers it. The path is sought in the topology
+/// at a number first.
+pub fn holds_near(cond: &Cond, names: &[Bound], topo: &Topo, near: usize, path: &Fmri) -> bool
+    ensures { result ≡ truth.holds
+        (record { names = names.now; topology = topo.now; path = path.now; props = [] })
+        (view_cond cond.now) }
+{
+    let env = Environment {
+        names,
+        topo,
+        near,
+        path,
+        props: &[],
+    };
+    cond_holds(&env, cond)
 }

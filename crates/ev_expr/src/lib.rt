@@ -8,14 +8,14 @@
 //! unequal by their bytes, and every other comparison is false, `!=` too
 //! (`specs/Conditions.antt`).
 //!
-//! **Promises.** [`holds`] and [`holds_for`] answer just what `specs/Conditions.antt` says of the
-//! condition that the tree stands for, whatever names are bound: nothing is required. They take no
-//! memory.
+//! **Promises.** [`holds`], [`holds_for`] and [`holds_near`] answer just what
+//! `specs/Conditions.antt` says of the condition that the tree stands for, whatever names are
+//! bound: nothing is required. They take no memory.
 #![tactic(auto)]
 
 mod conditions;
 mod operands;
 mod settings;
 
-pub use conditions::{holds, holds_for};
+pub use conditions::{holds, holds_for, holds_near};
 pub use settings::{Bound, Prop};

@@ -55,7 +55,7 @@ fn property_worth<'a>(env: &Environment<'a>, name: &str) -> Worth<'a>
         ≡ property_at env.now.topo.now env.now.path.now name.now }
     ensures small { meaning.HasSmallNumber result }
 {
-    match env.topo.property(env.path, name) {
+    match env.topo.property_near(env.near, env.path, name) {
         Some(value) => worth_of(value),
         None => Worth::Absent,
     }

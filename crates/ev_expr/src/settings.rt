@@ -23,6 +23,8 @@ pub struct Prop {
 pub(crate) struct Environment<'a> {
     pub(crate) names: &'a [Bound],
     pub(crate) topo: &'a Topo,
+    /// A number at which the path is sought in the topology first.
+    pub(crate) near: usize,
     pub(crate) path: &'a Fmri,
     pub(crate) props: &'a [Prop],
 }

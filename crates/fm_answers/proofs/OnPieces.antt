@@ -60,14 +60,17 @@ pub feed_stopped : (taken : Taken) (puts : List ℕ → Type 0) (is_told : Bool)
 feed_stopped taken puts is_told next consumes pending count total stop buf k n kept bound size
     within consumed halted =
     let short : k ≤ n = omega (arith, kept) in
+    let whole : Halted taken puts is_told next (take n buf) pending count stop =
+    subst (λ s. Halted taken puts is_told next s pending count stop) (parts_of k n buf short)
+    (halted_longer taken puts is_told next (take k buf) (drop k (take n buf)) pending count stop
+    halted) in
+    let parts = ap length whole.split ∙ length-append whole.front whole.back in
     inr (record {
       piece = take n buf;
       consumed = consumed;
       within = omega (arith, bound, size, within, length-take n buf);
-      halted = subst (λ s. Halted taken puts is_told next s pending count stop)
-          (parts_of k n buf short)
-          (halted_longer taken puts is_told next (take k buf) (drop k (take n buf)) pending count
-          stop halted);
+      halted = whole;
+      near = omega (arith, bound, size, length-take n buf, parts);
     })
 
 -- a run that stops since after 2^40 bytes there are more
@@ -174,6 +177,7 @@ on_stopped went next goes_on numbers t u v p q r x y z is_told a b k l i stop fi
       halted = moved_halts went next goes_on numbers t u v p q r is_told first.piece halted.piece
           a b k l stop
           first.moved halted.halted;
+      near = halted.near;
     })
 
 -- a run that wanted memory before it read anything
@@ -220,6 +224,7 @@ ran_stopped taken puts is_told next consumes at_end stop (inr stopped) =
         stopped.halted.front,
         stopped.halted.back,
         stopped.halted.split,
+        stopped.near,
         ended_is stopped.halted.front (stopped.halted.lines ++ stopped.halted.line ∷ [])
             stopped.halted.kept
             stopped.halted.onward stopped.halted.number,

@@ -60,13 +60,14 @@ pub record Broken (taken : Taken) (puts : List ℕ → Type 0) (is_told : Bool) 
   pub new_count : ℕ
   pub moved : Moved taken puts is_told next piece pending kept count new_count
 
--- The run stopped at a line of a piece, after `total` bytes.
+-- The run stopped at a line of a piece, after `total` bytes, with at most 4,096 bytes behind it.
 pub record HaltedOn (taken : Taken) (puts : List ℕ → Type 0) (is_told : Bool) (next : ℕ)
     (consumes : List ℕ → Type 0) (pending : Line) (count total : ℕ) (stop : Stop) : Type 0 where
   pub piece : List ℕ
   pub consumed : consumes piece
   pub within : total + length piece ≤ 2 ^ 40 + 4096
   pub halted : Halted taken puts is_told next piece pending count stop
+  pub near : length halted.back ≤ 4096
 
 -- the run stopped, between two lines or at a line
 abbrev pub StoppedOn : Taken → (List ℕ → Type 0) → Bool → ℕ → (List ℕ → Type 0) → Line → ℕ → ℕ

@@ -73,10 +73,12 @@ pub record RanBetween (taken : Taken) (puts : List ℕ → Type 0) (is_told : Bo
   pub put : puts (answers is_told 1 next (ended read))
   pub took : taken (entries_of (ended read)) None
 
--- These lines ended in a front of the bytes, or they are all lines of the whole input.
+-- These lines ended in a front of the bytes, behind which at most one piece was read, or they are
+-- all lines of the whole input.
 abbrev pub AreRead : List ℕ → Type 0 → List Line → Type 0
 AreRead read at_end lines =
-    ((front : List ℕ) × (back : List ℕ) × (read ≡ front ++ back) × (ended front ≡ lines))
+    ((front : List ℕ) × (back : List ℕ) × (read ≡ front ++ back) × (length back ≤ 4096)
+    × (ended front ≡ lines))
     ⊎ (at_end × (lines_of read ≡ lines))
 
 -- The run stopped at a line, and each line before it was answered. Past 2^40 bytes one piece was

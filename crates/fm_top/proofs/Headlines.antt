@@ -6,15 +6,16 @@ use Rattle.std.proofs.Math.Seq.{take-append_seam, take-length}
 use Rattle.std.specs.Io.KnownBytes.{Appends, Consumes, IsAtEnd}
 use Rattle.fm_answers.specs.Answers.{answers, entries_of}
 use Rattle.fm_answers.specs.Ended.{ended}
-use Rattle.fm_answers.specs.Running.{Line, AreRead, StopsAt, RanUntil}
+use Rattle.fm_answers.specs.Running.{Line, AreRead, StopsAt, StopsBetween, RanUntil}
 use Rattle.fm_answers.specs.declared.stops.Stop.{Stop}
-use Rattle.fm_answers.specs.declared.stops.Stop.TheVariants.{Write, Disk, Memory, Full}
+use Rattle.fm_answers.specs.declared.stops.Stop.TheVariants.{Read, Write, Disk, Memory, Full}
 use Rattle.fm_answers.proofs.AnswerLists.{entries_append, entries_one, answers_append}
 use Rattle.fm_answers.specs.Recording.{store_with}
 use Rattle.fm_command.specs.declared.words.Command.TheVariants.{Accept}
 use Rattle.fm_core.specs.Book.{next_number}
 use Rattle.fm_init.specs.Making.{HasStore}
 use Rattle.fm_journal.specs.Format.{IsJournal}
+use Rattle.fm_journal.specs.declared.fault.FullKind.TheVariants.{Input}
 use Rattle.fm_line.specs.Lines.{lines_of}
 use Rattle.fm_logs.specs.Contents.{Contents}
 use Rattle.fm_logs.specs.ReadsAsBook.{EachSpells, SpellsConf}
@@ -56,6 +57,14 @@ first_answered puts next lines line put = record {
       (answers true (1 + length lines) (next + length (entries_of lines)) (line ∷ []))))
       put;
 }
+
+-- what is read to see that more is left is one piece at most
+more_short : (read more : List ℕ) (stop : Stop) → StopsBetween read more stop
+    → length more ≤ 4096
+more_short read more Read none = subst (λ m. length m ≤ 4096) (sym none) (omega arith)
+more_short read more Memory none = subst (λ m. length m ≤ 4096) (sym none) (omega arith)
+more_short read more (Full Input) (there, some, few) = few
+more_short read more _ why = absurd why
 
 module _ (before after : Outside) (told : Contents) where
   -- how an image is, with the entries of lines that were answered
@@ -167,7 +176,13 @@ module _ (before after : Outside) (told : Contents) where
             left = λ image leaves.
                 has_answered grew.stood image (ended ran.read) [] (ran.read ++ ran.more)
                 ran.consumed
-                (inl (ran.read, ran.more, refl, sym (append-nil (ended ran.read))))
+                (inl (
+                  ran.read,
+                  ran.more,
+                  refl,
+                  more_short ran.read ran.more stop ran.why,
+                  sym (append-nil (ended ran.read)),
+                ))
                 (subst (λ n. WereAnswered (Appends before.out.bytes after.out.bytes) n
                 (ended ran.read)) grew.numbered
                 (whole_answered (Appends before.out.bytes after.out.bytes) until.next

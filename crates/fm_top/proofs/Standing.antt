@@ -18,7 +18,12 @@ module _ {S : Type 0} (g : Ghosts S) where
   pub gave_text : (limit : ℕ) (old new : S) (text : List ℕ) → GaveText g limit old new text
       → GaveText standing limit (source_at g old) (source_at g new) text
   gave_text limit old new text gave =
-      record { consumed = gave.consumed; whole = gave.whole; quiet = gave.quiet }
+      record {
+        consumed = gave.consumed;
+        whole = gave.whole;
+        near = gave.near;
+        quiet = gave.quiet;
+      }
 
   gave_rules : (old new : S) (file : RuleFile) → GaveRules g old new file
       → GaveRules standing (source_at g old) (source_at g new) file

@@ -28,7 +28,6 @@ use Rattle.fm_topo.specs.Lawful.{IsPlace, IsTopology, ReadsAs}
 use Rattle.fm_topo.specs.declared.faults.TopoKind.{TopoKind}
 use Rattle.fm_topo.specs.declared.faults.TopoKind.TheVariants.{Path, Property, Twice, Parent}
 use Rattle.fm_topo.specs.declared.faults.TopoKind.TheVariants.{Length, Count, Bytes}
-use Rattle.fm_topo.proofs.Search.{path_tie}
 use Rattle.fm_topo.proofs.Pieces.{space_inside, no_space}
 use Rattle.fm_topo.proofs.Stepping.{get_drop, take_more, fold_push}
 use Rattle.fm_topo.proofs.Maps.{total, total_push, all_map, all_insert, sorted_insert, total_insert}

@@ -20,6 +20,7 @@ use Rattle.fm_bytes.specs.Decimals.{is_numeral, number_of}
 use Rattle.fm_bytes.proofs.Numerals.{decimal_numeral, digits_test, numeral_text}
 use Rattle.std.proofs.lemmas.Grind.{common_steps}
 use Rattle.fm_name.specs.Path.{is_name}
+use Rattle.fm_name.specs.OrderLaws.{bytes_tie}
 use Rattle.fm_topo.specs.Property.{Properties, is_number, is_quoted, is_property, is_text_byte}
 use Rattle.fm_topo.specs.Property.{inner_of, value_of, with_word, properties_of}
 use Rattle.fm_topo.specs.Printed.{value_text, properties_text}
@@ -28,7 +29,6 @@ use Rattle.fm_topo.specs.declared.values.TopoValue.{TopoValue}
 use Rattle.fm_topo.specs.declared.values.TopoValue.TheVariants.{Number, Text}
 use Rattle.fm_topo.proofs.Maps.{total, total_push, all_insert, sorted_insert, total_insert}
 use Rattle.fm_topo.proofs.Maps.{fold_ascending}
-use Rattle.fm_topo.proofs.Search.{name_tie}
 use Rattle.fm_topo.proofs.Cuts.{and_both, both_and, all_weaker, before_at, after_at, before_length}
 use Rattle.fm_topo.proofs.Cuts.{after_length, inside, is_name_byte, name_bytes}
 
@@ -205,7 +205,7 @@ pub properties_back : (ps : Properties) → list_all is_pair ps ≡ true
     → IsStrictlySortedBy (slice_cmp nat_cmp) (keys_of ps) → properties_of (map pair_text ps) ≡ ps
 unfolding properties_of
 properties_back ps h s =
-    fold_ascending nat_list_cmp_total name_tie (λ p. is_pair p ≡ true) with_word pair_text word_back
+    fold_ascending nat_list_cmp_total bytes_tie (λ p. is_pair p ≡ true) with_word pair_text word_back
     [] ps s (all_pairs ps h)
 
 pub words_back : (ps : Properties) → list_all is_pair ps ≡ true
@@ -249,14 +249,14 @@ one_more words word ps r h =
     let w = word_pair word h in
     let name = before_first (λ b. b == 61) word in
     let value = value_of (after_first (λ b. b == 61) word) in
-    let s = total_insert nat_list_cmp_total name_tie (λ p. length (pair_text p) + 1) ps name value
+    let s = total_insert nat_list_cmp_total bytes_tie (λ p. length (pair_text p) + 1) ps name value
     in
     let t = total_push (λ w. length w + 1) words word in
     let z = r.size in
     record {
-      pairs = all_insert nat_list_cmp_total name_tie (λ p. is_pair p ≡ true) ps name value r.pairs
+      pairs = all_insert nat_list_cmp_total bytes_tie (λ p. is_pair p ≡ true) ps name value r.pairs
           w.0;
-      names = sorted_insert nat_list_cmp_total name_tie ps name value r.names;
+      names = sorted_insert nat_list_cmp_total bytes_tie ps name value r.names;
       size = omega (arith, s, t, z, w.1);
     }
 

@@ -1,11 +1,10 @@
 -- A binary search in a list whose keys ascend.
 use Rattle.std.proofs.Common.{◌≡◌, ◌<◌, ◌≤◌, ℕ, zero, suc, List, [], ◌∷◌, length, refl, arith, ap}
-use Rattle.std.proofs.Common.{sym, ◌∙◌, subst, Some, None, slice_get, get_or, ⊎_elim}
+use Rattle.std.proofs.Common.{sym, ◌∙◌, subst, Some, None, get_or, ⊎_elim}
 use Rattle.std.specs.declared.cmp.Ordering.{Ordering}
 use Rattle.std.specs.declared.cmp.Ordering.TheVariants.{Less, Equal, Greater}
-use Rattle.std.specs.Ordering.{nat_cmp, ordering_index, ordering_reverse, is_eq}
+use Rattle.std.specs.Ordering.{ordering_index, ordering_reverse}
 use Rattle.std.specs.Cmp.{IsTotalOrder, eq_by_cmp_equiv, alike_right}
-use Rattle.std.specs.Cmp.Lexicographic.{slice_cmp, bytes_decides, texts_ties}
 use Rattle.std.specs.List.{AllWithin, HoldsAt}
 use Rattle.std.specs.List.Sorted.{IsStrictlySortedBy}
 use Rattle.std.specs.Map.{lookup, keys_of}
@@ -14,14 +13,6 @@ use Rattle.std.proofs.Math.Nat.{eq-or-lt_of_le, le_refl}
 use Rattle.std.proofs.lemmas.Map.Keys.{Less-from_sorted, IsDistinct-from_sorted}
 use Rattle.std.proofs.lemmas.Map.Entries.{lookup_from_place, lookup_at_gap, length-keys_of}
 use Rattle.std.proofs.lemmas.Option.{slice_get-get_or, get_or_from_slice_get, slice_get_within}
-use Rattle.fm_name.specs.Order.{path_cmp}
-use Rattle.fm_name.specs.OrderLaws.{path_cmp_ties}
-
-pub name_tie : (x y : List ℕ) → slice_cmp nat_cmp x y ≡ Equal → x ≡ y
-name_tie x y e = (bytes_decides x y).0 (texts_ties x y ∙ ap is_eq e)
-
-pub path_tie : (x y : List ℕ) → path_cmp x y ≡ Equal → x ≡ y
-path_tie x y e = (bytes_decides x y).0 (path_cmp_ties x y ∙ ap is_eq e)
 
 key_at : {K X : Type 0} (es : List (K × X)) (i : ℕ) (d : K × X)
     → get_or (keys_of es) i d.0 ≡ (get_or es i d).0
@@ -61,14 +52,19 @@ module _ {K X : Type 0} {R : K → K → Ordering} (o : IsTotalOrder R) where
       index_le _ _ (λ p. o.trans _ _ _ b p)
       (λ p. sym (alike_right o (get_or es j d).0 q (get_or es i d).0 p) ∙ b)) (eq-or-lt_of_le h)
 
+  -- what stands at a place is what its key has
+  pub found_at : (es : List (K × X)) (i : ℕ) (e : K × X) → IsStrictlySortedBy R (keys_of es)
+      → i < length es → e ≡ get_or es i e → Some e.1 ≡ lookup (is_at (R e.0)) es
+  found_at es i e s h same = sym
+      (lookup_from_place (eq_by_cmp_equiv o) es i e.0 e.1 (IsDistinct-from_sorted R _ s)
+      (slice_get-get_or es i e h ∙ ap Some (sym same)))
+
   pub found : ((x y : K) → R x y ≡ Equal → x ≡ y) → (es : List (K × X)) (q : K) (i : ℕ) (e : K × X)
       → IsStrictlySortedBy R (keys_of es) → i < length es
       → HoldsAt (λ y. R y.0 q ≡ Equal) es i → e ≡ get_or es i e → Some e.1 ≡ lookup (is_at (R q)) es
   found ties es q i e s h at same =
-      let g : slice_get es i ≡ Some (e.0, e.1) = slice_get-get_or es i e h ∙ ap Some (sym same) in
       let k : e.0 ≡ q = ties e.0 q (subst (λ y. R y.0 q ≡ Equal) (sym same) (at e)) in
-      let l = lookup_from_place (eq_by_cmp_equiv o) es i e.0 e.1 (IsDistinct-from_sorted R _ s) g in
-      sym (subst (λ a. lookup (is_at (R a)) es ≡ Some e.1) k l)
+      subst (λ a. Some e.1 ≡ lookup (is_at (R a)) es) k (found_at es i e s h same)
 
   pub missing : (es : List (K × X)) (q : K) (i : ℕ) → IsStrictlySortedBy R (keys_of es)
       → AllWithin (λ y. R y.0 q ≡ Less) es 0 i

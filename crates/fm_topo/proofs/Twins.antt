@@ -11,11 +11,11 @@ use Rattle.std.specs.List.Sorted.{IsStrictlySortedBy}
 use Rattle.std.specs.Map.{keys_of}
 use Rattle.std.specs.BTreeMap.{insert_entry}
 use Rattle.std.proofs.lemmas.Grind.{common_steps}
+use Rattle.fm_name.specs.OrderLaws.{bytes_tie}
 use Rattle.fm_topo.specs.Property.{Properties, name_of, has_twin, value_of, with_word}
 use Rattle.fm_topo.specs.Property.{properties_of}
 use Rattle.fm_topo.specs.declared.values.TopoValue.{TopoValue}
 use Rattle.fm_topo.proofs.Maps.{all_map, all_keys, sorted_insert}
-use Rattle.fm_topo.proofs.Search.{name_tie}
 
 abbrev name_cmp : List ℕ → List ℕ → Ordering
 name_cmp = slice_cmp nat_cmp
@@ -72,7 +72,7 @@ names_at : (q k : List ℕ) (v : TopoValue) (e : List ℕ × TopoValue) (es : Pr
 names_at q k v e es Less h more = refl
 names_at q k v e es Equal h more =
     or_again (bytes_eq e.0 q) (has_name q es)
-    ∙ ap (λ z. bytes_eq z q || has_name q (e ∷ es)) (sym (name_tie k e.0 h))
+    ∙ ap (λ z. bytes_eq z q || has_name q (e ∷ es)) (sym (bytes_tie k e.0 h))
 names_at q k v e es Greater h more =
     ap (λ b. bytes_eq e.0 q || b) more ∙ or_swapped (bytes_eq e.0 q) (bytes_eq k q) (has_name q es)
 
@@ -115,7 +115,7 @@ most_words found [] s = omega arith
 most_words found (word ∷ words) s =
     let new = with_word found word in
     let more = most_words new words
-    (sorted_insert nat_list_cmp_total name_tie found (name_of word) _ s) in
+    (sorted_insert nat_list_cmp_total bytes_tie found (name_of word) _ s) in
     let size = size_put found (name_of word) (value_of (after_first (λ b. b == 61) word)) s in
     omega (arith, more, size)
 
@@ -139,7 +139,7 @@ words_counted found (word ∷ words) s =
     let value = value_of (after_first (λ b. b == 61) word) in
     let names = map name_of words in
     let new = insert_entry name_cmp found name value in
-    let ascend = sorted_insert nat_list_cmp_total name_tie found name value s in
+    let ascend = sorted_insert nat_list_cmp_total bytes_tie found name value s in
     let more = words_counted new words ascend
     ∙ (ap (λ b. b || has_twin names) (one_put found name value names)
     ∙ or_moved (have_one found names) (list_any (bytes_eq name) names) (has_twin names)) in

@@ -80,6 +80,20 @@ impl Topo {
         }
     }
 
+    /// The properties of a path, where it is there. They are sought at a number first.
+    fn properties_near(&self, near: usize, path: &Fmri) -> Option<&Properties>
+        ensures found { option_copied result ≡ properties_at self.now path.now }
+        ensures lawful { IsTopology self.now }
+    {
+        if near < self.places.len() {
+            let place = &self.places[near];
+            if place.0 == *path {
+                return Some(&place.1);
+            }
+        }
+        self.properties(path)
+    }
+
     /// Whether a path is there.
     pub fn has(&self, path: &Fmri) -> bool
         ensures found { result ≡ has_path self.now path.now }
@@ -114,6 +128,19 @@ impl Topo {
         ensures lawful { IsTopology self.now }
     {
         match self.properties(path) {
+            Some(properties) => properties.value(name),
+            None => None,
+        }
+    }
+
+    /// The value of a property of a path, as `property` answers it. The path is sought at a number
+    /// first, so that where it has that number no search is made.
+    #[tactic(auto, unfolding(crate::specs::Query::property_at))]
+    pub fn property_near(&self, near: usize, path: &Fmri, name: &str) -> Option<&TopoValue>
+        ensures found { option_copied result ≡ property_at self.now path.now name.now }
+        ensures lawful { IsTopology self.now }
+    {
+        match self.properties_near(near, path) {
             Some(properties) => properties.value(name),
             None => None,
         }

@@ -2,13 +2,14 @@ use Rattle.std.proofs.Common.{rules, sym}
 use Rattle.std.specs.Ordering.{nat_cmp}
 use Rattle.std.specs.Cmp.Lexicographic.{slice_cmp, nat_list_cmp_total}
 use Rattle.std.proofs.lemmas.Fn.{always_returns_same}
-use Rattle.fm_topo.proofs.Search.{found, missing, rising, name_tie}
+use Rattle.fm_name.specs.OrderLaws.{bytes_tie}
+use Rattle.fm_topo.proofs.Search.{found, missing, rising}
 use Rattle.fm_topo.proofs.properties.Properties.value.Goals as goal
 
 pub returns-in-Ok : goal.returns-in-Ok
 returns-in-Ok c =
     rw (← c.self.view_is)
-    (found nat_list_cmp_total name_tie c.self.inside.items.items c.args.name.now c.in-Ok.at
+    (found nat_list_cmp_total bytes_tie c.self.inside.items.items c.args.name.now c.in-Ok.at
     c.index.result.now c.self.invariant
     (rw (← c.deref.ensures.value) c.in-Ok.ensures.bound)
     (rw (← c.deref.ensures.value)

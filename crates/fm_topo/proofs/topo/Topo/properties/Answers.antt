@@ -1,8 +1,8 @@
 use Rattle.std.proofs.Common.{rules, sym}
 use Rattle.fm_name.specs.Order.{path_cmp}
-use Rattle.fm_name.specs.OrderLaws.{path_cmp_total}
+use Rattle.fm_name.specs.OrderLaws.{path_cmp_total, path_tie}
 use Rattle.std.proofs.lemmas.Fn.{always_returns_same}
-use Rattle.fm_topo.proofs.Search.{found, missing, rising, path_tie}
+use Rattle.fm_topo.proofs.Search.{found, missing, rising}
 use Rattle.fm_topo.proofs.topo.Topo.properties.Goals as goal
 
 pub returns-in-Ok-clause-found : goal.returns-in-Ok-clause-found
