@@ -1,4 +1,8 @@
 // A store in memory with many entries past its base, and steps of it.
+ghost use Rattle.std.specs.Prelude.{IfOk};
+ghost use Rattle.fm_store.specs.StoreCalls.{AreAtEnd};
+ghost use Rattle.test_small_store.specs.Small.{HasHandsAtCursors};
+
 use crate::journals::journal;
 use fm_logs::Disks;
 use fm_outer::MemDisk;
@@ -44,16 +48,33 @@ pub fn told(step: Result<SmallStore, Stopped>) -> Option<Told> {
 }
 
 /// Opens the store and lets its modules take all entries.
-pub fn drain(alloc: Global, disks: Disks<MemDisk>) -> Result<SmallStore, Stopped> {
-    opened(alloc, disks)?.drain(alloc)
+pub fn drain(alloc: Global, disks: Disks<MemDisk>) -> Result<SmallStore, Stopped>
+    ensures ready { IfOk result HasHandsAtCursors }
+    ensures at_end { IfOk result (λ small. AreAtEnd small.store.logs) }
+{
+    let SmallStore {
+        mut store,
+        hands,
+        taken,
+    } = opened(alloc, disks)?;
+    let (hands, done) = fm_drain::drain(&mut store, alloc, hands);
+    let small = SmallStore {
+        store,
+        hands,
+        taken,
+    };
+    match done {
+        Ok(()) => Ok(small),
+        Err(fault) => Err(small.stop(alloc, fault)),
+    }
 }
 
 /// The same, and then moves the base.
 pub fn checkpoint(alloc: Global, disks: Disks<MemDisk>) -> Result<SmallStore, Stopped> {
-    opened(alloc, disks)?.drain(alloc)?.checkpoint(alloc)
+    drain(alloc, disks)?.checkpoint(alloc)
 }
 
 /// The same, and then begins another error journal.
 pub fn rotate(alloc: Global, disks: Disks<MemDisk>) -> Result<SmallStore, Stopped> {
-    opened(alloc, disks)?.drain(alloc)?.rotate(alloc)
+    drain(alloc, disks)?.rotate(alloc)
 }

@@ -12,7 +12,7 @@ use Rattle.fm_core.specs.declared.module.Module.{Ghosts as ModuleGhosts}
 use Rattle.fm_core.proofs.Drains.{drained_accepted}
 use Rattle.fm_core.proofs.Keeping.{follows_accepted}
 use Rattle.fm_core.proofs.Runs.{lawful_accepted}
-use Rattle.fm_drain.specs.DrainCalls.{AllFollow, AreAtCursors, IsAtCursor}
+use Rattle.fm_drain.specs.DrainCalls.{AllFollow}
 use Rattle.fm_drain.specs.DrainLimits.{DrainIsFull}
 use Rattle.fm_entry.specs.Entries.{is_reload}
 use Rattle.fm_entry.specs.declared.entry.Entry.{Entry}
@@ -28,6 +28,7 @@ use Rattle.fm_logs.specs.declared.fault.StoreFault.TheVariants.{Disk, Full, Clos
 use Rattle.fm_logs.specs.declared.fault.StoreFault.TheVariants.{Damaged, Exists}
 use Rattle.fm_looks.proofs.Reloads.{rise_push}
 use Rattle.fm_drain.specs.CaseStatus.{IsStatusOf}
+use Rattle.fm_store.specs.Cursors.{IsAtCursor, AreAtCursors}
 use Rattle.fm_store.specs.StoreCalls.{AcceptsOnBook}
 use Rattle.fm_store.specs.StoreOf.{StoreOf, StoreStandsFor}
 use Rattle.fm_store.specs.StoreReading.{IsNoDamage}

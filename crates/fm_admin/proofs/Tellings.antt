@@ -17,8 +17,8 @@ use Rattle.fm_core.proofs.Drains.{cursor_of}
 use Rattle.fm_core.proofs.Lists.{list_all_get}
 use Rattle.fm_core.proofs.Runs.{ends_drained, run_lawful}
 use Rattle.fm_core.proofs.Tests.{true_eq}
-use Rattle.fm_drain.specs.DrainCalls.{AllFollow, AreAtCursors, DrainDoes, DrainsOnBook}
-use Rattle.fm_drain.specs.DrainCalls.{IsAtCursor, IsStopped, OnlyCommitted, StaysOpen, StopsFull}
+use Rattle.fm_drain.specs.DrainCalls.{AllFollow, DrainDoes, DrainsOnBook}
+use Rattle.fm_drain.specs.DrainCalls.{IsStopped, OnlyCommitted, StaysOpen, StopsFull}
 use Rattle.fm_drain.specs.DrainCalls.{StoppedAt, store_after}
 use Rattle.fm_drain.specs.DrainLimits.{DrainIsFull}
 use Rattle.fm_drain.proofs.HandLaws.{only_then}
@@ -37,6 +37,7 @@ use Rattle.fm_logs.specs.declared.fault.StoreFault.{StoreFault}
 use Rattle.fm_logs.specs.declared.fault.StoreFault.TheVariants.{Disk, Full, Closed, NoMemory}
 use Rattle.fm_logs.specs.declared.fault.StoreFault.TheVariants.{Damaged, Exists}
 use Rattle.fm_drain.specs.CaseStatus.{IsStatusOf}
+use Rattle.fm_store.specs.Cursors.{IsAtCursor, AreAtCursors}
 use Rattle.fm_store.specs.StoreCalls.{AreAtEnd, HandsAreDone, next_entry}
 use Rattle.fm_store.specs.StoreLeft.{ReadsLike, store_disk}
 use Rattle.fm_store.specs.StoreOf.{StoreOf, StoreStandsFor}

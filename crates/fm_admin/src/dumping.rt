@@ -5,13 +5,14 @@ ghost use Rattle.fm_admin.specs.Dumping.{DumpsErrors, IsErrorsOf, IsErrorsText, 
 ghost use Rattle.fm_admin.specs.Dumping.{IsFaultsText};
 ghost use Rattle.fm_admin.specs.Telling.{TellRefused, TellsBook, WasDrained};
 ghost use Rattle.fm_core.specs.Book.{ModuleState};
-ghost use Rattle.fm_drain.specs.DrainCalls.{AllFollow, AreAtCursors};
+ghost use Rattle.fm_drain.specs.DrainCalls.{AllFollow};
 ghost use Rattle.fm_dump.specs.Errors.{errors_text};
 ghost use Rattle.fm_dump.specs.Faults.{faults_text};
 ghost use Rattle.fm_logs.specs.LogReads.{ReadsLogged, ReadsSpoken, UnreadLog};
 ghost use Rattle.fm_logs.specs.LogsOf.{name_of_two};
 ghost use Rattle.fm_logs.specs.StoreBook.{StoreBook};
 ghost use Rattle.fm_logs.specs.declared.disks.DiskName.TheVariants.{Flt};
+ghost use Rattle.fm_store.specs.Cursors.{AreAtCursors};
 ghost use Rattle.fm_store.specs.StoreLeft.{AreSameStore};
 ghost use Rattle.fm_store.specs.StoreOf.{StoreStandsFor};
 ghost use Rattle.fm_store.specs.StoreReading.{IsNoDamage};

@@ -8,9 +8,10 @@ ghost use Rattle.fm_admin.specs.Repairing.{RepairRefused, RepairsBook, TakeRefus
 ghost use Rattle.fm_admin.specs.Repairing.{TakesAndTells, TellsRepaired, TookOne};
 ghost use Rattle.fm_admin.specs.Telling.{TellRefused, TellsBook, WasDrained};
 ghost use Rattle.fm_core.specs.Book.{IsAdmitted, ModuleState};
-ghost use Rattle.fm_drain.specs.DrainCalls.{AllFollow, AreAtCursors};
+ghost use Rattle.fm_drain.specs.DrainCalls.{AllFollow};
 ghost use Rattle.fm_logs.specs.StoreBook.{StoreBook};
 ghost use Rattle.fm_logs.specs.declared.disks.DiskName.TheVariants.{Flt};
+ghost use Rattle.fm_store.specs.Cursors.{AreAtCursors};
 ghost use Rattle.fm_store.specs.StoreLeft.{AreSameStore};
 ghost use Rattle.fm_store.specs.StoreOf.{StoreStandsFor};
 ghost use Rattle.dx_engine.specs.Diagnosers.{diagnosers};

@@ -3,9 +3,10 @@
 ghost use Rattle.std.specs.Prelude.{◌≡◌, ◌≤◌, List, length, IfOk, IfErr, OnOk};
 ghost use Rattle.fm_admin.specs.Rotation.{IsRotated, RotatesDrained, RotationRefused};
 ghost use Rattle.fm_core.specs.Book.{ModuleState};
-ghost use Rattle.fm_drain.specs.DrainCalls.{AllFollow, AreAtCursors};
+ghost use Rattle.fm_drain.specs.DrainCalls.{AllFollow};
 ghost use Rattle.fm_logs.specs.StoreBook.{StoreBook};
 ghost use Rattle.fm_logs.specs.declared.disks.DiskName.{DiskName};
+ghost use Rattle.fm_store.specs.Cursors.{AreAtCursors};
 ghost use Rattle.fm_store.specs.StoreLeft.{AreSameStore, store_disk};
 ghost use Rattle.fm_store.specs.StoreOf.{StoreStandsFor};
 

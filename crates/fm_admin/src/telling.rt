@@ -6,9 +6,10 @@ ghost use Rattle.fm_admin.specs.Telling.{AreHandsAndStatus, IsFaultyOf, TellRefu
 ghost use Rattle.fm_admin.specs.Telling.{WasDrained};
 ghost use Rattle.fm_core.specs.Book.{ModuleState};
 ghost use Rattle.fm_core.specs.Drained.{drained};
-ghost use Rattle.fm_drain.specs.DrainCalls.{AllFollow, AreAtCursors};
+ghost use Rattle.fm_drain.specs.DrainCalls.{AllFollow};
 ghost use Rattle.fm_logs.specs.StoreBook.{StoreBook};
 ghost use Rattle.fm_logs.specs.declared.disks.DiskName.TheVariants.{Flt};
+ghost use Rattle.fm_store.specs.Cursors.{AreAtCursors};
 ghost use Rattle.fm_store.specs.StoreLeft.{AreSameStore};
 ghost use Rattle.fm_store.specs.StoreOf.{StoreStandsFor};
 

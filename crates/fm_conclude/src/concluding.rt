@@ -3,11 +3,12 @@
 ghost use Rattle.std.specs.Prelude.{◌≡◌, ◌≤◌, ◌^◌, IsTrue, List, length, IfOk, IfErr, OnOk};
 ghost use Rattle.fm_core.specs.Book.{Book, ModuleState, is_done, next_number};
 ghost use Rattle.fm_core.specs.Drained.{drained};
-ghost use Rattle.fm_drain.specs.DrainCalls.{AllFollow, AreAtCursors};
+ghost use Rattle.fm_drain.specs.DrainCalls.{AllFollow};
 ghost use Rattle.fm_logs.specs.LogReads.{ReadsSpoken, UnreadLog};
 ghost use Rattle.fm_logs.specs.StoreBook.{StoreBook};
 ghost use Rattle.fm_logs.specs.declared.disks.DiskName.TheVariants.{Flt};
 ghost use Rattle.fm_drain.specs.CaseStatus.{IsStatusOf};
+ghost use Rattle.fm_store.specs.Cursors.{AreAtCursors};
 ghost use Rattle.fm_store.specs.StoreCalls.{HandsAreDone, next_entry};
 ghost use Rattle.fm_store.specs.StoreLeft.{AreSameStore};
 ghost use Rattle.fm_store.specs.StoreOf.{StoreStandsFor};

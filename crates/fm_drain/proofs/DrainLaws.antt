@@ -21,10 +21,11 @@ use Rattle.fm_logs.specs.StoreBook.{StoreBook}
 use Rattle.fm_logs.specs.declared.fault.StoreFault.{StoreFault}
 use Rattle.fm_logs.specs.declared.fault.StoreFault.TheVariants.{Disk, Full, Closed, Damaged}
 use Rattle.fm_logs.specs.declared.fault.StoreFault.TheVariants.{Exists, NoMemory}
+use Rattle.fm_store.specs.Cursors.{IsAtCursor, AreAtCursors}
 use Rattle.fm_store.specs.StoreCalls.{next_entry, AreAtEnd, HandsAreDone}
 use Rattle.fm_store.specs.StoreLeft.{AreSameStore}
 use Rattle.fm_store.specs.StoreOf.{StoreOf, StoreStandsFor}
-use Rattle.fm_drain.specs.DrainCalls.{IsAtCursor, AreAtCursors, MayBePast, OnlyCommitted}
+use Rattle.fm_drain.specs.DrainCalls.{MayBePast, OnlyCommitted}
 use Rattle.fm_drain.specs.DrainCalls.{StaysOpen, IsStopped, DrainAnswers, StopsAtLimit}
 use Rattle.fm_drain.specs.DrainCalls.{AllFollow, DrainDoes, DrainsOnBook, CommitsWorks, store_after}
 use Rattle.fm_drain.specs.DrainSteps.{HandAnswers, HandDoes, HandOnBook, NextDoes}

@@ -12,10 +12,11 @@ use Rattle.fm_logs.specs.StoreBook.{StoreBook}
 use Rattle.fm_logs.specs.declared.fault.StoreFault.{StoreFault}
 use Rattle.fm_logs.specs.declared.fault.StoreFault.TheVariants.{Disk, Full, Closed, Damaged}
 use Rattle.fm_logs.specs.declared.fault.StoreFault.TheVariants.{Exists, NoMemory}
+use Rattle.fm_store.specs.Cursors.{IsAtCursor}
 use Rattle.fm_store.specs.StoreCalls.{next_entry}
 use Rattle.fm_store.specs.StoreLeft.{AreSameStore}
 use Rattle.fm_store.specs.StoreOf.{StoreOf, StoreStandsFor}
-use Rattle.fm_drain.specs.DrainCalls.{IsAtCursor, OnlyCommitted, StaysOpen, StoppedAt}
+use Rattle.fm_drain.specs.DrainCalls.{OnlyCommitted, StaysOpen, StoppedAt}
 use Rattle.fm_drain.specs.DrainCalls.{store_after}
 use Rattle.fm_drain.specs.DrainLimits.{StepLimit}
 use Rattle.fm_drain.specs.DrainSteps.{HandAnswers, HandDoes, HandOnBook}

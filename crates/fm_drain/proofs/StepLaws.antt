@@ -31,10 +31,11 @@ use Rattle.fm_logs.specs.declared.fault.StoreFault.{StoreFault}
 use Rattle.fm_logs.specs.declared.fault.StoreFault.TheVariants.{Disk, Full, Closed, Damaged}
 use Rattle.fm_logs.specs.declared.fault.StoreFault.TheVariants.{Exists, NoMemory}
 use Rattle.fm_logs.specs.declared.logs.Committed.TheVariants.{Done}
+use Rattle.fm_store.specs.Cursors.{IsAtCursor}
 use Rattle.fm_store.specs.StoreCalls.{CommitsOnBook}
 use Rattle.fm_store.specs.StoreLimits.{store_of}
 use Rattle.fm_store.specs.StoreOf.{StoreOf, StoreStandsFor}
-use Rattle.fm_drain.specs.DrainCalls.{IsAtCursor, IsStepPast, MayBePast, OnlyCommitted}
+use Rattle.fm_drain.specs.DrainCalls.{IsStepPast, MayBePast, OnlyCommitted}
 use Rattle.fm_drain.specs.DrainCalls.{StoppedAt}
 use Rattle.fm_drain.specs.DrainLimits.{StepLimit}
 use Rattle.fm_drain.specs.DrainSteps.{HandDoes, HandOnBook}

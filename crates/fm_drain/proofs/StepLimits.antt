@@ -26,8 +26,8 @@ use Rattle.fm_logs.specs.StoreBook.{StoreBook}
 use Rattle.fm_logs.specs.declared.fault.StoreFault.{StoreFault}
 use Rattle.fm_logs.specs.declared.fault.StoreFault.TheVariants.{Disk, Full, Closed, Damaged}
 use Rattle.fm_logs.specs.declared.fault.StoreFault.TheVariants.{Exists, NoMemory}
+use Rattle.fm_store.specs.Cursors.{IsAtCursor}
 use Rattle.fm_store.specs.StoreOf.{StoreOf, StoreStandsFor}
-use Rattle.fm_drain.specs.DrainCalls.{IsAtCursor}
 use Rattle.fm_drain.specs.DrainLimits.{HasNoRoom, StepIsFull, StepLimit}
 use Rattle.fm_drain.proofs.StepLaws.{FramesShort, entry_of, step_says}
 

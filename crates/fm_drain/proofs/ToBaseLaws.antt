@@ -25,6 +25,7 @@ use Rattle.fm_logs.specs.declared.fault.StoreFault.{StoreFault}
 use Rattle.fm_logs.specs.declared.fault.StoreFault.TheVariants.{Disk, Full, Closed, NoMemory}
 use Rattle.fm_logs.specs.declared.fault.StoreFault.TheVariants.{Damaged, Exists}
 use Rattle.fm_looks.specs.Opening.{slot_name}
+use Rattle.fm_store.specs.Cursors.{IsAtCursor, AreAtCursors}
 use Rattle.fm_store.specs.Slots.{next_slot}
 use Rattle.fm_store.specs.StoreCalls.{next_entry, saves_of, AreAtEnd, HandsAreDone, CheckpointDoes}
 use Rattle.fm_store.specs.StoreCalls.{CheckpointRefused, Checkpoints, CheckpointsOnBook}
@@ -34,7 +35,7 @@ use Rattle.fm_store.specs.StoreLeft.{with_content}
 use Rattle.fm_store.specs.StoreOf.{StoreOf, StoreBaseOf, StoreStandsFor, fills_second}
 use Rattle.fm_store.proofs.StoreMoves.{done_at_end}
 use Rattle.fm_store.proofs.StoreReads.{like_through}
-use Rattle.fm_drain.specs.DrainCalls.{IsAtCursor, AreAtCursors, IsDrained, StaysOpen, StoppedAt}
+use Rattle.fm_drain.specs.DrainCalls.{IsDrained, StaysOpen, StoppedAt}
 use Rattle.fm_drain.specs.DrainCalls.{OnlyCommitted, DrainDoes, DrainsOnBook, AllFollow}
 use Rattle.fm_drain.specs.DrainCalls.{CommitsWorks, IsStopped, StopsAtLimit, store_after}
 use Rattle.fm_drain.proofs.Committing.{commits_none}

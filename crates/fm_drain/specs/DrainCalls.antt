@@ -17,25 +17,11 @@ use Rattle.fm_logs.specs.StoreBook.{StoreBook, with_book}
 use Rattle.fm_logs.specs.declared.disks.DiskName.TheVariants.{Flt}
 use Rattle.fm_logs.specs.declared.fault.StoreFault.{StoreFault}
 use Rattle.fm_logs.specs.declared.fault.StoreFault.TheVariants.{Disk, Full, Closed, NoMemory}
-use Rattle.fm_store.specs.StoreCalls.{next_entry, AreAtEnd, HandsAreDone}
+use Rattle.fm_store.specs.Cursors.{IsAtCursor, AreAtCursors}
+use Rattle.fm_store.specs.StoreCalls.{AreAtEnd, HandsAreDone}
 use Rattle.fm_store.specs.StoreLeft.{MomentsOn, EachLeft, ReadsLike}
 use Rattle.fm_store.specs.StoreOf.{StoreOf, StoreStandsFor}
 use Rattle.fm_drain.specs.DrainLimits.{StepIsFull}
-
--- the hand of module i is at the module's cursor, which lies between the base and the end
-pub record IsAtCursor {D M : Type 0} (m : ModuleGhosts M) (logs : LogsOf D) (i : ℕ) (h : HandOf M)
-    : Type 0 where
-  pub number_is : h.number ≡ i
-  pub own_is : (m.meaning h.object).own ≡ i
-  pub cursor_is : slice_get logs.cursors i ≡ Some h.cursor
-  pub from_base : logs.base ≤ h.cursor
-  pub to_end : h.cursor ≤ next_entry logs
-
--- a hand of each module is at its cursor
-pub record AreAtCursors {D M : Type 0} (m : ModuleGhosts M) (logs : LogsOf D)
-    (hands : List (HandOf M)) : Type 0 where
-  pub as_many : length hands ≡ length logs.cursors
-  pub each : (i : ℕ) (h : HandOf M) → slice_get hands i ≡ Some h → IsAtCursor m logs i h
 
 -- the hand of module i is one step past the module's cursor: it took the entry there, and said this
 pub record IsStepPast {D M : Type 0} (m : ModuleGhosts M) (logs : LogsOf D) (i : ℕ) (h : HandOf M)

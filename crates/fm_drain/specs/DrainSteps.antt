@@ -8,10 +8,11 @@ use Rattle.fm_core.specs.Seen.{FollowsAs}
 use Rattle.fm_core.specs.declared.module.Module.{Ghosts as ModuleGhosts}
 use Rattle.fm_logs.specs.StoreBook.{StoreBook}
 use Rattle.fm_logs.specs.declared.fault.StoreFault.{StoreFault}
+use Rattle.fm_store.specs.Cursors.{IsAtCursor}
 use Rattle.fm_store.specs.StoreCalls.{next_entry}
 use Rattle.fm_store.specs.StoreLeft.{AreSameStore}
 use Rattle.fm_store.specs.StoreOf.{StoreOf, StoreStandsFor}
-use Rattle.fm_drain.specs.DrainCalls.{IsAtCursor, MayBePast, OnlyCommitted, StaysOpen, StoppedAt}
+use Rattle.fm_drain.specs.DrainCalls.{MayBePast, OnlyCommitted, StaysOpen, StoppedAt}
 use Rattle.fm_drain.specs.DrainCalls.{CommitsWorks, store_after}
 use Rattle.fm_drain.specs.DrainLimits.{StepLimit}
 

@@ -17,10 +17,11 @@ use Rattle.fm_logs.specs.declared.disks.DiskName.TheVariants.{Flt}
 use Rattle.fm_logs.specs.declared.fault.StoreFault.{StoreFault}
 use Rattle.fm_logs.specs.declared.fault.StoreFault.TheVariants.{Disk, Full, Closed, NoMemory}
 use Rattle.fm_looks.specs.Opening.{slot_name}
+use Rattle.fm_store.specs.Cursors.{AreAtCursors}
 use Rattle.fm_store.specs.StoreCalls.{next_entry, saves_of, AreAtEnd, HandsAreDone, CheckpointDoes}
 use Rattle.fm_store.specs.StoreLeft.{MomentsOn, EachLeft, ReadsLike, store_based, store_disk}
 use Rattle.fm_store.specs.StoreOf.{StoreOf, StoreStandsFor, fills_second}
-use Rattle.fm_drain.specs.DrainCalls.{AllFollow, AreAtCursors, DrainDoes, store_after}
+use Rattle.fm_drain.specs.DrainCalls.{AllFollow, DrainDoes, store_after}
 use Rattle.fm_drain.specs.BaseLimits.{BaseLimit, figures_of}
 
 -- a checkpoint was written of the hands after the drain, or none where the drain stopped

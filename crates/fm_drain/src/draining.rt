@@ -3,10 +3,10 @@
 ghost use Rattle.std.specs.Prelude.{◌<◌, ◌≤◌, List, length, OnOk};
 ghost use Rattle.fm_core.specs.Book.{ModuleState};
 ghost use Rattle.fm_logs.specs.StoreBook.{StoreBook};
+ghost use Rattle.fm_store.specs.Cursors.{IsAtCursor, AreAtCursors};
 ghost use Rattle.fm_store.specs.StoreLeft.{AreSameStore};
 ghost use Rattle.fm_store.specs.StoreOf.{StoreStandsFor};
-ghost use Rattle.fm_drain.specs.DrainCalls.{AreAtCursors, AllFollow, DrainDoes, DrainsOnBook};
-ghost use Rattle.fm_drain.specs.DrainCalls.{IsAtCursor};
+ghost use Rattle.fm_drain.specs.DrainCalls.{AllFollow, DrainDoes, DrainsOnBook};
 ghost use Rattle.fm_drain.specs.DrainSteps.{NextDoes};
 
 use crate::steps::drain_hand;

@@ -12,10 +12,10 @@ ghost use Rattle.fm_core.specs.Outcome.{kept_record};
 ghost use Rattle.fm_core.specs.Seen.{FollowsAs};
 ghost use Rattle.fm_logs.specs.LogsOf.{FrameRefused, Frames};
 ghost use Rattle.fm_logs.specs.StoreBook.{StoreBook};
+ghost use Rattle.fm_store.specs.Cursors.{IsAtCursor};
 ghost use Rattle.fm_store.specs.StoreCalls.{next_entry};
 ghost use Rattle.fm_store.specs.StoreLeft.{AreSameStore};
 ghost use Rattle.fm_store.specs.StoreOf.{StoreStandsFor};
-ghost use Rattle.fm_drain.specs.DrainCalls.{IsAtCursor};
 ghost use Rattle.fm_drain.specs.DrainSteps.{HandDoes, HandOnBook};
 
 use fm_core::{Hand, Module};

@@ -2,9 +2,10 @@
 
 ghost use Rattle.std.specs.Prelude.{◌≤◌, List, length, IfErr, OnOk};
 ghost use Rattle.fm_core.specs.Book.{ModuleState};
-ghost use Rattle.fm_drain.specs.DrainCalls.{AreAtCursors, AllFollow};
+ghost use Rattle.fm_drain.specs.DrainCalls.{AllFollow};
 ghost use Rattle.fm_logs.specs.StoreBook.{StoreBook};
 ghost use Rattle.fm_drain.specs.ToBase.{ToBaseDoes, ToBaseRefused, ToBaseOnBook, IsAtBase};
+ghost use Rattle.fm_store.specs.Cursors.{AreAtCursors};
 ghost use Rattle.fm_store.specs.StoreLeft.{AreSameStore};
 ghost use Rattle.fm_store.specs.StoreOf.{StoreStandsFor};
 

@@ -27,7 +27,8 @@ use Rattle.fm_retrace.specs.Retracing.{AreNumbered, AreWithin, cursors_of, hands
 use Rattle.fm_retrace.specs.Retracing.{meanings_of}
 use Rattle.fm_retrace.proofs.Come.{all_at}
 use Rattle.fm_retrace.specs.declared.retraced.Retraced.{Retraced}
-use Rattle.fm_store.specs.Adopting.{Adopts, AdoptRefused, IsAdopted, IsHandOf, KnowAll}
+use Rattle.fm_store.specs.Adopting.{Adopts, AdoptRefused, IsAdopted, KnowAll}
+use Rattle.fm_store.specs.Cursors.{IsAtCursor}
 use Rattle.fm_store.specs.Beside.{beside_of}
 use Rattle.fm_looks.specs.FaultLog.{BeginsAt, FaultsDamage, RecordsKept}
 use Rattle.fm_store.specs.Loading.{AreAtBase, AreSilent, BaseRefused, states_of}
@@ -251,7 +252,7 @@ module _ {D M : Type 0} (o : OpenedOf D) (b : Beside D) (is : b ≡ beside_of o)
       → AreFirstModules (made_modules m kept) → meanings_of m later ≡ meanings_of m modules
       → AreWithin (b.base + length entries) later → cursors ≡ cursors_of b.base later → (i : ℕ)
       (h : HandOf M) → slice_get (hands_from b.base 0 later) i ≡ Some h
-      → IsHandOf m (store_over (beside_of o) flt o.entries cursors kept saves).logs i h
+      → IsAtCursor m (store_over (beside_of o) flt o.entries cursors kept saves).logs i h
   hand_of m modules later loaded first same within cursors_are i h there =
       let found = hands_at b.base 0 later i h there in
       let own : Retraced M = found.0 in

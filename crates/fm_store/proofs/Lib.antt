@@ -19,3 +19,4 @@ pub mod BaseSlots
 pub mod Retold
 pub mod Adopts
 pub mod Adopted
+pub mod Cursors

@@ -1,5 +1,5 @@
 -- What the adopting of modules by an open store does.
-use Rattle.std.specs.Prelude.{◌≡◌, ℕ, ◌≤◌, List, map, length, slice_get, Some, None}
+use Rattle.std.specs.Prelude.{◌≡◌, ℕ, List, map, length, slice_get, Some, None}
 use Rattle.std.specs.Option.{ForSome}
 use Rattle.fm_outer.specs.declared.disk.Disk.{Ghosts}
 use Rattle.fm_core.specs.Book.{Book, ModuleState}
@@ -8,13 +8,12 @@ use Rattle.fm_core.specs.Meaning.{State, conf_of}
 use Rattle.fm_core.specs.Seen.{FollowsAs}
 use Rattle.fm_core.specs.declared.module.Module.{Ghosts as ModuleGhosts}
 use Rattle.fm_logs.specs.Contents.{Contents, AreTold}
-use Rattle.fm_logs.specs.LogsOf.{LogsOf}
 use Rattle.fm_logs.specs.declared.disks.Disks.{Disks}
 use Rattle.fm_logs.specs.declared.fault.StoreFault.{StoreFault}
 use Rattle.fm_logs.specs.declared.fault.StoreFault.TheVariants.{Disk, Damaged, NoMemory}
+use Rattle.fm_store.specs.Cursors.{IsAtCursor}
 use Rattle.fm_store.specs.Opened.{OpenedOf, Opens, RoseOnAny, disks_of}
 use Rattle.fm_looks.specs.Opening.{WasRead, AllStorePass, FirstStoreFinds, all_looks, book_read}
-use Rattle.fm_store.specs.StoreCalls.{next_entry}
 use Rattle.fm_store.specs.StoreOf.{StoreOf, StoreStandsFor}
 
 -- each module that ever has a configuration knows so many
@@ -29,15 +28,6 @@ pub record HandsFollow {M : Type 0} (m : ModuleGhosts M) (k : Book) (hands : Lis
   pub follow : (i : ℕ) (h : HandOf M) → slice_get hands i ≡ Some h → FollowsAs k i (shown m h)
   pub cursors_are : map (λ h. h.cursor) hands ≡ k.cursors
 
--- the hand is that of module i, at the module's cursor, which lies between the base and the end
-pub record IsHandOf {D M : Type 0} (m : ModuleGhosts M) (logs : LogsOf D) (i : ℕ) (h : HandOf M)
-    : Type 0 where
-  pub number_is : h.number ≡ i
-  pub own_is : (m.meaning h.object).own ≡ i
-  pub cursor_is : slice_get logs.cursors i ≡ Some h.cursor
-  pub from_base : logs.base ≤ h.cursor
-  pub to_end : h.cursor ≤ next_entry logs
-
 -- what is in memory then
 pub record IsAdopted {D M : Type 0} (m : ModuleGhosts M) (o : OpenedOf D) (kept : List M)
     (store : StoreOf D M) (hands : List (HandOf M)) : Type 0 where
@@ -51,7 +41,7 @@ pub record IsAdopted {D M : Type 0} (m : ModuleGhosts M) (o : OpenedOf D) (kept 
   pub kept_are : store.base.kept ≡ kept
   pub hands_are : map (λ h. h.cursor) hands ≡ store.logs.cursors
   pub as_many : length hands ≡ length kept
-  pub each : (i : ℕ) (h : HandOf M) → slice_get hands i ≡ Some h → IsHandOf m store.logs i h
+  pub each : (i : ℕ) (h : HandOf M) → slice_get hands i ≡ Some h → IsAtCursor m store.logs i h
 
 -- The contents pass all looks, and the store stands for the book that these read, in which each
 -- module is at its floor; the hands follow it.

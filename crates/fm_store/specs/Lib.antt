@@ -7,5 +7,6 @@ pub mod StoreOf
 pub mod StoreReading
 pub mod Opened
 pub mod Loading
+pub mod Cursors
 pub mod Adopting
 pub mod Beside

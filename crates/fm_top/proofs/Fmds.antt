@@ -1,10 +1,8 @@
 -- From an open store that `fmd -1` works to what its disks hold.
 use Rattle.std.proofs.Common.{◌≡◌, inl, inr, ℕ, ◌+◌, ◌≤◌, List, [], Bool, true}
-use Rattle.std.proofs.Common.{false, length, Some, None, Result, Ok, Err, refl, sym, ◌∙◌, ap}
-use Rattle.std.proofs.Common.{subst, arith, length-append}
-use Rattle.std.specs.List.{slice_get}
+use Rattle.std.proofs.Common.{false, length, Some, None, Result, Ok, Err, refl, sym, ◌∙◌}
+use Rattle.std.proofs.Common.{subst, arith}
 use Rattle.std.specs.Prelude.{MatchResult}
-use Rattle.std.proofs.lemmas.List.{length-map}
 use Rattle.dx_engine.specs.Diagnosers.{DiagnoserOf, diagnosers}
 use Rattle.fm_answers.specs.Accounts.{Accounts}
 use Rattle.fm_answers.specs.Answers.{entries_of}
@@ -22,7 +20,7 @@ use Rattle.fm_core.specs.Book.{ModuleState}
 use Rattle.fm_core.specs.Hands.{HandOf, shown}
 use Rattle.fm_core.proofs.Drains.{drained_floored}
 use Rattle.fm_core.proofs.Keeping.{follows_longer}
-use Rattle.fm_drain.specs.DrainCalls.{AllFollow, AreAtCursors}
+use Rattle.fm_drain.specs.DrainCalls.{AllFollow}
 use Rattle.fm_entry.specs.declared.entry.Entry.{Entry}
 use Rattle.fm_init.specs.Making.{AreFirstModules}
 use Rattle.fm_journal.specs.declared.fault.FullKind.{FullKind}
@@ -50,6 +48,8 @@ use Rattle.fm_saved.specs.declared.conf.Conf.{Conf}
 use Rattle.fm_drain.specs.BaseLimits.{BaseIsFull, Figures, figures_of}
 use Rattle.fm_drain.specs.ToBase.{IsBasedOf}
 use Rattle.fm_sources.specs.declared.sources.Sources.{Sources}
+use Rattle.fm_store.proofs.Cursors.{adopted_cursors, longer_cursors}
+use Rattle.fm_store.specs.Cursors.{AreAtCursors}
 use Rattle.fm_store.specs.Opened.{NoneFailed, RoseOnAny}
 use Rattle.fm_store.specs.StoreCalls.{next_entry}
 use Rattle.fm_store.specs.StoreLeft.{store_disk, AreDisksOf, EachLeft}
@@ -87,38 +87,14 @@ opened_few opened is = omega (arith, is.few, is.adopted.as_many)
 
 pub opened_hands : {D : Type 0} (opened : OpenStore D) → IsOpenStore opened
     → AreAtCursors diagnosers opened.store.logs opened.hands.items
-opened_hands opened is = record {
-  as_many = sym (length-map opened.hands.items (λ h. h.cursor))
-      ∙ ap length is.adopted.hands_are;
-  each = λ i h got. let one = is.adopted.each i h got in record {
-    number_is = one.number_is;
-    own_is = one.own_is;
-    cursor_is = one.cursor_is;
-    from_base = one.from_base;
-    to_end = one.to_end;
-  };
-}
+opened_hands opened is = adopted_cursors diagnosers _ _ opened.store opened.hands.items is.adopted
 
 -- hands at their cursors are there still once entries were taken
 pub hands_on : {D : Type 0} (g : Ghosts D) (old new : StoreOf D DiagnoserOf)
     (hands : List (HandOf DiagnoserOf)) (es : List Entry) → Recorded g old new es None
     → AreAtCursors diagnosers old.logs hands → AreAtCursors diagnosers new.logs hands
-hands_on g old new hands es went at = record {
-  as_many = at.as_many ∙ ap length (sym went.cursors_are);
-  each = λ i h got. let one = at.each i h got in record {
-    number_is = one.number_is;
-    own_is = one.own_is;
-    cursor_is = ap (λ cs. slice_get cs i) went.cursors_are ∙ one.cursor_is;
-    from_base = omega (arith, one.from_base, went.base_is);
-    to_end = omega (
-      arith,
-      one.to_end,
-      went.base_is,
-      ap length went.entries_are,
-      length-append old.logs.entries es,
-    );
-  };
-}
+hands_on g old new hands es went at = longer_cursors diagnosers old.logs new.logs es hands
+    went.cursors_are went.base_is went.entries_are at
 
 -- ---- what the disks of a drained store hold
 

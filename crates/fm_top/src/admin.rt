@@ -1,8 +1,8 @@
 // The operator's commands that put one text.
 ghost use Rattle.std.specs.Prelude.{◌≡◌, ◌≤◌, Err, None, length, IfOk};
 ghost use Rattle.fm_answers.specs.StreamsAt.{SinkAt, SourceAt, sink_at};
-ghost use Rattle.fm_drain.specs.DrainCalls.{AreAtCursors};
 ghost use Rattle.fm_saved.specs.declared.conf.Conf.{Conf};
+ghost use Rattle.fm_store.specs.Cursors.{AreAtCursors};
 ghost use Rattle.fm_store.specs.StoreLeft.{AreSameStore};
 ghost use Rattle.dx_engine.specs.Diagnosers.{diagnosers};
 ghost use Rattle.fm_top.specs.Admin.{AdminDone, AdminRan, rotated_text};

@@ -1,7 +1,7 @@
 // The configuration of a store as an operator is shown it.
 ghost use Rattle.std.specs.Prelude.{◌≡◌, ◌≤◌, None, length, IfOk, IfErr};
 ghost use Rattle.fm_config.specs.Sizes.{IsConfText};
-ghost use Rattle.fm_drain.specs.DrainCalls.{AreAtCursors};
+ghost use Rattle.fm_store.specs.Cursors.{AreAtCursors};
 ghost use Rattle.fm_store.specs.StoreLeft.{AreSameStore};
 ghost use Rattle.dx_engine.specs.Diagnosers.{diagnosers};
 ghost use Rattle.fm_top.specs.Admin.{AdminDone};

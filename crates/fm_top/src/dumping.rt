@@ -1,7 +1,7 @@
 // The logs of a store as an operator reads them.
 ghost use Rattle.std.specs.Prelude.{◌≡◌, ◌≤◌, None, length};
 ghost use Rattle.fm_command.specs.declared.words.AdminCommand.TheVariants.{Dump};
-ghost use Rattle.fm_drain.specs.DrainCalls.{AreAtCursors};
+ghost use Rattle.fm_store.specs.Cursors.{AreAtCursors};
 ghost use Rattle.fm_store.specs.StoreLeft.{AreSameStore};
 ghost use Rattle.dx_engine.specs.Diagnosers.{diagnosers};
 ghost use Rattle.fm_top.specs.Admin.{AdminDone};

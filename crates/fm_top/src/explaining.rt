@@ -1,7 +1,7 @@
 // The operator's command `explain`.
 ghost use Rattle.std.specs.Prelude.{◌≡◌, ◌≤◌, Err, None, length};
 ghost use Rattle.fm_answers.specs.StreamsAt.{SinkAt, SourceAt, sink_at};
-ghost use Rattle.fm_drain.specs.DrainCalls.{AreAtCursors};
+ghost use Rattle.fm_store.specs.Cursors.{AreAtCursors};
 ghost use Rattle.fm_store.specs.StoreLeft.{AreSameStore};
 ghost use Rattle.dx_engine.specs.Diagnosers.{diagnosers};
 ghost use Rattle.fm_top.specs.Calls.{names_of};

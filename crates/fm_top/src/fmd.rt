@@ -3,7 +3,7 @@ ghost use Rattle.std.specs.Prelude.{◌≡◌, ◌≤◌, None, length, map};
 ghost use Rattle.fm_act.specs.Reconciled.{actuator_state};
 ghost use Rattle.fm_answers.specs.Accounts.{Accounts};
 ghost use Rattle.fm_answers.specs.StreamsAt.{source_at, sink_at};
-ghost use Rattle.fm_drain.specs.DrainCalls.{AreAtCursors};
+ghost use Rattle.fm_store.specs.Cursors.{AreAtCursors};
 ghost use Rattle.fm_store.specs.StoreLeft.{AreSameStore};
 ghost use Rattle.dx_engine.specs.Diagnosers.{diagnosers};
 ghost use Rattle.fm_top.specs.Calls.{names_of};

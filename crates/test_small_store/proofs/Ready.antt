@@ -1,53 +1,28 @@
 -- Hands that stay at their modules' cursors.
 use Rattle.std.proofs.Common.{◌≡◌, ℕ, List, [], ◌∷◌, length, slice_get}
-use Rattle.std.proofs.Common.{◌==◌, sym, ◌∙◌, ap, subst, arith, length-append}
+use Rattle.std.proofs.Common.{◌==◌, sym, ◌∙◌, ap, arith}
 use Rattle.fm_core.proofs.Tests.{true_eq}
-use Rattle.std.proofs.lemmas.List.{length-map}
 use Rattle.fm_core.specs.Hands.{HandOf}
 use Rattle.fm_core.specs.declared.module.Module.{Ghosts as ModuleGhosts}
 use Rattle.fm_core.proofs.Lists.{list_all_get}
-use Rattle.fm_drain.specs.DrainCalls.{AreAtCursors}
 use Rattle.fm_entry.specs.declared.entry.Entry.{Entry}
 use Rattle.fm_logs.specs.LogsOf.{LogsOf, TakesEntry}
 use Rattle.fm_outer.specs.declared.disk.Disk.{Ghosts}
-use Rattle.fm_store.specs.Adopting.{IsAdopted}
-use Rattle.fm_store.specs.Opened.{OpenedOf}
+use Rattle.fm_store.proofs.Cursors.{longer_cursors}
+use Rattle.fm_store.specs.Cursors.{AreAtCursors}
 use Rattle.fm_store.specs.Rotating.{Rotates}
 use Rattle.fm_store.specs.StoreCalls.{AreAtEnd, Checkpoints, next_entry}
 use Rattle.fm_store.specs.StoreOf.{StoreOf}
 
 module _ {D M : Type 0} (m : ModuleGhosts M) where
-  -- the hands of modules that were adopted
-  pub adopted_cursors : (o : OpenedOf D) (kept : List M) (store : StoreOf D M)
-      (hands : List (HandOf M)) → IsAdopted m o kept store hands
-      → AreAtCursors m store.logs hands
-  adopted_cursors o kept store hands is = record {
-    as_many = sym (length-map hands (λ (h : HandOf M). h.cursor))
-        ∙ ap (λ (l : List ℕ). length l) is.hands_are;
-    each = λ i h there. let of = is.each i h there in record {
-      number_is = of.number_is;
-      own_is = of.own_is;
-      cursor_is = of.cursor_is;
-      from_base = of.from_base;
-      to_end = of.to_end;
-    };
-  }
-
   -- after an entry more
   pub taken_cursors : (g : Ghosts D) (old new : LogsOf D) (e : Entry) (n : ℕ)
       (hands : List (HandOf M)) → TakesEntry g old new e n → AreAtCursors m old hands
       → AreAtCursors m new hands
   taken_cursors g old new e n hands takes at =
-      subst (λ (l : LogsOf D). AreAtCursors m l hands) (sym takes.logs_are) (record {
-        as_many = at.as_many;
-        each = λ i h there. let of = at.each i h there in record {
-          number_is = of.number_is;
-          own_is = of.own_is;
-          cursor_is = of.cursor_is;
-          from_base = of.from_base;
-          to_end = omega (arith, of.to_end, length-append old.entries (e ∷ []));
-        };
-      })
+      longer_cursors m old new (e ∷ []) hands (ap (λ (l : LogsOf D). l.cursors) takes.logs_are)
+      (ap (λ (l : LogsOf D). l.base) takes.logs_are)
+      (ap (λ (l : LogsOf D). l.entries) takes.logs_are) at
 
   -- after the base has moved to the end
   based_cursors : (old new : LogsOf D) (hands : List (HandOf M))

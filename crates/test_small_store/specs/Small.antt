@@ -1,7 +1,7 @@
 -- A small store, as its steps leave it.
 use Rattle.std.specs.Prelude.{◌≡◌, ℕ, [], length}
 use Rattle.fm_core.specs.Counter.{CounterOf, counters}
-use Rattle.fm_drain.specs.DrainCalls.{AreAtCursors}
+use Rattle.fm_store.specs.Cursors.{AreAtCursors}
 use Rattle.test_small_store.specs.declared.small.SmallStore.{SmallStore}
 
 -- a counter that has counted nothing

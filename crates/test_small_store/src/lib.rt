@@ -9,7 +9,7 @@
 //! so that a path of steps is written with `?`.
 //!
 //! **Promises.** Each step leaves the hands at their modules' cursors (`HasHandsAtCursors`), so
-//! that a drain may follow any step.
+//! that a drain, which is of the programs above, may follow any step.
 #![tactic(auto)]
 
 mod disks;

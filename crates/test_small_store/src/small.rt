@@ -8,7 +8,6 @@ ghost use Rattle.test_small_store.specs.Small.{HasHandsAtCursors, fresh_counter}
 use crate::later::closed_with;
 use crate::parts::{counters, mixed_report, report};
 use fm_core::{Counter, Hand};
-use fm_drain::drain;
 use fm_entry::Entry;
 use fm_logs::{DiskName, Disks, StoreFault};
 use fm_outer::MemDisk;
@@ -167,29 +166,6 @@ impl SmallStore {
             small = small.take_next(alloc)?;
         }
         Ok(small)
-    }
-
-    /// Lets both modules take all entries, and commits what they say.
-    pub fn drain(self, alloc: Global) -> Result<SmallStore, Stopped>
-        requires ready { HasHandsAtCursors self }
-        ensures ready { IfOk result HasHandsAtCursors }
-        ensures at_end { IfOk result (λ small. AreAtEnd small.store.logs) }
-    {
-        let SmallStore {
-            mut store,
-            hands,
-            taken,
-        } = self;
-        let (hands, done) = drain(&mut store, alloc, hands);
-        let small = SmallStore {
-            store,
-            hands,
-            taken,
-        };
-        match done {
-            Ok(()) => Ok(small),
-            Err(fault) => Err(small.stop(alloc, fault)),
-        }
     }
 
     /// Writes a checkpoint, where both modules are at the end.

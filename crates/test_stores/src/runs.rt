@@ -1,10 +1,11 @@
 // Runs of a store: it is opened, makes steps, and is closed.
 ghost use Rattle.std.specs.Prelude.{IfOk};
+ghost use Rattle.fm_store.specs.StoreCalls.{AreAtEnd};
 ghost use Rattle.test_small_store.specs.Small.{HasHandsAtCursors};
 
 use crate::steps::Step;
 use crate::store_bytes::{CallCounts, FailingCalls, StoreBytes, bytes_left, disks_with};
-use fm_drain::drain_to_base;
+use fm_drain::{drain, drain_to_base};
 use fm_logs::{DiskName, Disks, StoreFault};
 use fm_outer::{Image, MemDisk, NoMemory};
 use std::alloc::Global;
@@ -26,6 +27,29 @@ pub struct Ran {
     pub left: StoreBytes,
     pub calls: CallCounts,
     pub answer: RunAnswer,
+}
+
+/// Lets both modules take all entries, and commits what they say.
+fn drained(alloc: Global, small: SmallStore) -> Result<SmallStore, Stopped>
+    requires ready { HasHandsAtCursors small }
+    ensures ready { IfOk result HasHandsAtCursors }
+    ensures at_end { IfOk result (λ small. AreAtEnd small.store.logs) }
+{
+    let SmallStore {
+        mut store,
+        hands,
+        taken,
+    } = small;
+    let (hands, done) = drain(&mut store, alloc, hands);
+    let small = SmallStore {
+        store,
+        hands,
+        taken,
+    };
+    match done {
+        Ok(()) => Ok(small),
+        Err(fault) => Err(small.stop(alloc, fault)),
+    }
 }
 
 /// Drains the store with its base at its end.
@@ -55,7 +79,7 @@ fn to_checkpoint(alloc: Global, small: SmallStore) -> Result<SmallStore, Stopped
     requires { HasHandsAtCursors small }
     ensures { IfOk result HasHandsAtCursors }
 {
-    match small.drain(alloc) {
+    match drained(alloc, small) {
         Ok(small) => small.checkpoint(alloc),
         Err(stopped) => Err(stopped),
     }
@@ -66,7 +90,7 @@ fn to_rotation(alloc: Global, small: SmallStore) -> Result<SmallStore, Stopped>
     requires { HasHandsAtCursors small }
     ensures { IfOk result HasHandsAtCursors }
 {
-    match small.drain(alloc) {
+    match drained(alloc, small) {
         Ok(small) => small.rotate(alloc),
         Err(stopped) => Err(stopped),
     }
@@ -80,7 +104,7 @@ fn make(alloc: Global, small: SmallStore, step: Step) -> Result<SmallStore, Stop
     match step {
         Step::Take(count) => small.take(alloc, count),
         Step::Mixed(count) => small.take_mixed(alloc, count),
-        Step::Drain => small.drain(alloc),
+        Step::Drain => drained(alloc, small),
         Step::Checkpoint => to_checkpoint(alloc, small),
         Step::Rotate => to_rotation(alloc, small),
         Step::End => to_base(alloc, small),

@@ -1,7 +1,7 @@
 -- The hands of modules that were adopted are at their cursors.
 use Rattle.std.proofs.Common.{List, length, ap, ◌∙◌}
 use Rattle.fm_core.specs.Counter.{CounterOf, counters}
-use Rattle.test_small_store.proofs.Ready.{adopted_cursors}
+use Rattle.fm_store.proofs.Cursors.{adopted_cursors}
 use Rattle.test_small_store.proofs.small.adopted.Goals as goal
 
 pub returns-in-Ok-adopt : goal.returns-in-Ok-adopt
