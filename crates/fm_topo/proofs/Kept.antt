@@ -15,7 +15,7 @@ use Rattle.std.proofs.lemmas.List.Sums.{sum_by-cons}
 use Rattle.std.proofs.lemmas.Grind.{common_steps}
 use Rattle.fm_name.specs.Path.{is_path, parts_of}
 use Rattle.fm_name.specs.Order.{path_cmp}
-use Rattle.fm_name.specs.OrderLaws.{path_cmp_total}
+use Rattle.fm_name.specs.OrderLaws.{path_cmp_total, path_tie}
 use Rattle.fm_name.proofs.Cutting.{some_text}
 use Rattle.fm_topo.specs.Line.{topology_lines, line_end, content_of, is_skipped, is_clean_byte}
 use Rattle.fm_topo.specs.Line.{words_from, path_of, words_of}

@@ -10,7 +10,7 @@ use Rattle.std.specs.Map.{keys_of}
 use Rattle.std.proofs.lemmas.Grind.{common_steps}
 use Rattle.fm_name.specs.Path.{is_path, parts_of}
 use Rattle.fm_name.specs.Order.{path_cmp}
-use Rattle.fm_name.specs.OrderLaws.{path_cmp_total}
+use Rattle.fm_name.specs.OrderLaws.{path_cmp_total, path_tie}
 use Rattle.fm_name.proofs.Cutting.{split_none, count_map}
 use Rattle.fm_topo.specs.Line.{topology_lines, line_end, content_of, is_skipped}
 use Rattle.fm_topo.specs.Property.{Properties}
@@ -18,7 +18,6 @@ use Rattle.fm_topo.specs.Topology.{Topology, has_path, with_line, lines_topology
 use Rattle.fm_topo.specs.Fault.{parent_of, lacks_parent, line_fault, fault_at, IsClean}
 use Rattle.fm_topo.specs.Printed.{place_line, topology_text}
 use Rattle.fm_topo.specs.Lawful.{IsPlace, IsTopology, ReadsAs}
-use Rattle.fm_topo.proofs.Search.{path_tie}
 use Rattle.fm_topo.proofs.Maps.{all_map, all_front, all_middle, sorted_front, sorted_cut}
 use Rattle.fm_topo.proofs.Maps.{lookup_behind, lookup_front, fold_ascending}
 use Rattle.fm_topo.proofs.Cuts.{all_weaker, position_none, split_at}
