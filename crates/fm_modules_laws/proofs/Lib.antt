@@ -1,3 +1,4 @@
 pub mod CopiedGuards
 pub mod OneRow
 pub mod OneBook
+pub mod Exact

@@ -1,11 +1,13 @@
 //! The laws, each as the contract of a call that does nothing.
 
 ghost use Rattle.std.specs.Option.{option_map};
-ghost use Rattle.std.specs.Prelude.{◌≡◌, ℕ, List, Some, slice_get};
+ghost use Rattle.std.specs.Prelude.{◌≡◌, ◌≤◌, ◌^◌, ℕ, All, List, Some, slice_get};
 ghost use Rattle.ev_check.specs.CheckedFile.{CheckedFile};
 ghost use Rattle.ev_graph.specs.Lawful.{GraphValue};
 ghost use Rattle.ev_inst.specs.Instances.{IsGraphOf};
-ghost use Rattle.fm_core.specs.Book.{ModuleState};
+ghost use Rattle.fm_core.specs.Book.{ModuleState, next_number, with_entries};
+ghost use Rattle.fm_entry.specs.Entries.{IsSpelled};
+ghost use Rattle.fm_entry.specs.declared.entry.Entry.{Entry};
 ghost use Rattle.fm_logs.specs.Contents.{Contents};
 ghost use Rattle.fm_logs.specs.ReadsAsBook.{ReadsAsBook};
 ghost use Rattle.fm_logs.specs.StoreBook.{StoreBook};
@@ -14,7 +16,11 @@ ghost use Rattle.dx_state.specs.Configured.{Configuration};
 ghost use Rattle.fm_modules.specs.KeptTexts.{ConfMakes};
 ghost use Rattle.fm_modules.specs.Modules.{AreModulesOf};
 ghost use Rattle.fm_sources.specs.Rules.{IsRuleFile};
+ghost use Rattle.fm_store.specs.StoreOf.{StoreOf, StoreStandsFor};
 ghost use Rattle.fm_topo.specs.Topology.{topology_of};
+ghost use Rattle.fm_modules_laws.specs.ExactSuspects.{HasExactSuspects};
+
+use fm_outer::Disk;
 
 /// A configuration makes one row: of each of its rule files one configuration of a module.
 pub fn a_configuration_makes_one_row()
@@ -45,4 +51,14 @@ pub fn contents_read_as_one_book()
         → AreModulesOf book.confs fresh → ReadsAsBook fresh c book
         → AreModulesOf other.confs others → ReadsAsBook others c other
         → (fresh ≡ others) × (book ≡ other) }
+{}
+
+/// The book of a store whose modules are those of the texts that it keeps has exact suspects once
+/// it is drained, and so it has with more entries that have spellings, up to the greatest number of
+/// entries.
+pub fn stores_have_exact_suspects<D: Disk, M>()
+    ensures { (fresh : List ModuleState) (store : StoreOf D M) (k : StoreBook) (more : List Entry)
+        (made : AreModulesOf k.confs fresh) → StoreStandsFor D.Disk fresh store k
+        → next_number (with_entries k.book more) ≤ 2 ^ 46 → All IsSpelled more
+        → HasExactSuspects made (with_entries k.book more) }
 {}

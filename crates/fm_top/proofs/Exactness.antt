@@ -6,8 +6,8 @@ use Rattle.fm_answers.specs.Recording.{store_with}
 use Rattle.fm_conclude.specs.Concluding.{IsConcluded}
 use Rattle.fm_entry.specs.Entries.{IsSpelled}
 use Rattle.fm_entry.specs.declared.entry.Entry.{Entry}
-use Rattle.fm_exact.proofs.Exact.{stands_exact}
-use Rattle.fm_exact.specs.ExactSuspects.{HasExactSuspects}
+use Rattle.fm_modules_laws.proofs.Exact.{stands_exact}
+use Rattle.fm_modules_laws.specs.ExactSuspects.{HasExactSuspects}
 use Rattle.fm_logs.specs.Contents.{Contents}
 use Rattle.fm_outer.specs.declared.disk.Disk.{Ghosts}
 use Rattle.fm_store.specs.StoreOf.{StoreOf, StoreStandsFor}

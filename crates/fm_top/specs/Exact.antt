@@ -2,7 +2,7 @@
 use Rattle.std.specs.Prelude.{List}
 use Rattle.fm_core.specs.Book.{with_entries}
 use Rattle.fm_entry.specs.declared.entry.Entry.{Entry}
-use Rattle.fm_exact.specs.ExactSuspects.{HasExactSuspects}
+use Rattle.fm_modules_laws.specs.ExactSuspects.{HasExactSuspects}
 use Rattle.fm_logs.specs.Contents.{Contents}
 use Rattle.fm_top.specs.Kept.{BookAt}
 

@@ -14,7 +14,7 @@
 //! does, where it keeps just what was read (`as_read`). It then has fm_conclude drain the store and
 //! move its base to its end, brings the actuators to hold what the drained book wants out of use,
 //! and puts the summary (`settle`). Whatever the rule files, the topology and the entries are, that
-//! book has exact suspects, by a law of fm_exact (`specs/Exact`).
+//! book has exact suspects, by a law of fm_modules_laws (`specs/Exact`).
 //!
 //! What is done with a store is a `tasks::StoreTask`. One chain of calls (`opened`) opens the store
 //! on six lent disks, does the task with it and gives the disks back, and says what came of it by

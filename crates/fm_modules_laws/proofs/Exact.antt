@@ -21,7 +21,7 @@ use Rattle.dx_along.proofs.Books.{exact_book}
 use Rattle.dx_along.proofs.Graphs.{listed_graphs}
 use Rattle.fm_modules.specs.KeptTexts.{ConfMakes, EachHas, TextMakes}
 use Rattle.fm_modules.specs.Modules.{AreModulesOf, configurations_at, file_count, first_module}
-use Rattle.fm_exact.specs.ExactSuspects.{HasExactSuspects, rules_by_file}
+use Rattle.fm_modules_laws.specs.ExactSuspects.{HasExactSuspects, rules_by_file}
 
 -- where there is no configuration of a number, the one without events has a graph
 none_graph : HasGraph (or_none (slice_get [] 0))
