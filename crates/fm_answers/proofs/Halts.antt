@@ -109,7 +109,7 @@ stops_on went next goes_on t u v p q r is_told k l xs ys line _ counted held put
     absurd stops
 
 -- a run over one piece, and then one that stops at a line of the next
-pub moved_halts : {T : Type 0} (went : T → T → Taken) (next : T → ℕ)
+unfoldable pub moved_halts : {T : Type 0} (went : T → T → Taken) (next : T → ℕ)
     (goes_on : (a b c : T) (es fs : List Entry) (last : Option (Stop × Entry)) → went a b es None
     → went b c fs last → went a c (es ++ fs) last)
     (numbers : (a b : T) (es : List Entry) → went a b es None → next b ≡ next a + length es)

@@ -149,6 +149,7 @@ pub on_stopped : {T : Type 0} (went : T → T → Taken) (next : T → ℕ)
     → MovedOn (went t u) (Appends p q) is_told (next t) (Consumes x y) a b k l i
     → StoppedOn (went u v) (Appends q r) is_told (next u) (Consumes y z) b l i stop
     → StoppedOn (went t v) (Appends p r) is_told (next t) (Consumes x z) a k 0 stop
+unfolding moved_halts
 on_stopped went next goes_on numbers t u v p q r x y z is_told a b k l i stop first (inl broken) =
     inl (record {
       piece = first.piece ++ broken.piece;
