@@ -1,6 +1,6 @@
 -- What `fmd -1` did, in the words of the whole call.
 use Rattle.std.proofs.Common.{◌≡◌, inl, inr, ℕ, zero, suc, List, [], ◌∷◌, map, refl, sym}
-use Rattle.std.proofs.Common.{◌∙◌, subst, true, Some, OnOk, IfErr, Result, Ok, Err}
+use Rattle.std.proofs.Common.{◌∙◌, subst, arith, true, Some, OnOk, IfErr, Result, Ok, Err}
 use Rattle.std.specs.List.{AllZip}
 use Rattle.std.specs.Io.KnownBytes.{Appends, Consumes}
 use Rattle.std.proofs.KnownBytes.{Appends-nil, Consumes-nil}
@@ -264,7 +264,7 @@ module _ (before after : Outside) where
               (sym other.consumed) (Consumes-nil before.input.left);
           lines = [];
           others = [];
-          first = inl ([], [], refl, ended_none);
+          first = inl ([], [], refl, omega arith, ended_none);
           answered = whole_answered (Appends before.out.bytes after.out.bytes)
               (next_number grew.stood.book.book) []
               (subst (Appends before.out.bytes after.out.bytes)
