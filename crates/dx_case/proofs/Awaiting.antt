@@ -4,12 +4,12 @@ use Rattle.std.proofs.Common.{length, get_or, take, leb, sym, ap, subst, ◌∙�
 use Rattle.std.proofs.Common.{slice_get, Option, Some, None, refl}
 use Rattle.std.proofs.lemmas.Bool.{false≢true}
 use Rattle.std.proofs.lemmas.List.{take_more}
-use Rattle.ev_graph.specs.Sets.{is_member}
+use Rattle.ev_incidence.specs.Sets.{is_member}
 use Rattle.ev_graph.specs.Kinds.{has_kind, is_report_node, is_report_kind}
 use Rattle.ev_graph.specs.declared.nodes.Node.{Node}
 use Rattle.ev_graph.specs.declared.nodes.NodeKind.{NodeKind}
 use Rattle.ev_graph.specs.declared.nodes.NodeKind.TheVariants.{Fault, Defect, Upset, Inner, Report}
-use Rattle.ev_graph.proofs.Occurrences.{in_push}
+use Rattle.ev_incidence.proofs.Occurrences.{in_push}
 use Rattle.dx_explain.specs.Cases.{is_awaited}
 use Rattle.dx_case.specs.Changes.{within_of, within_kind, within_if_any}
 use Rattle.dx_case.specs.Cases.{AreAwaited}

@@ -10,12 +10,12 @@ use Rattle.std.proofs.lemmas.Bool.{both_ways, not-true, not_from_false, false_fr
 use Rattle.std.proofs.lemmas.List.{take_more, length-set}
 use Rattle.std.proofs.lemmas.List.Folds.{list_any-append}
 use Rattle.std.proofs.lemmas.Option.{slice_get_within, same_Some}
-use Rattle.ev_graph.specs.Sets.{NodeSet, is_member}
+use Rattle.ev_incidence.specs.Sets.{NodeSet, is_member}
 use Rattle.ev_graph.specs.Cutting.{is_cut}
 use Rattle.ev_graph.specs.Lawful.{GraphValue}
 use Rattle.ev_graph.specs.declared.nodes.Node.{Node}
 use Rattle.ev_graph.specs.declared.instances.Link.{Link}
-use Rattle.ev_graph.proofs.Occurrences.{in_push, in_more, in_last}
+use Rattle.ev_incidence.proofs.Occurrences.{in_push, in_more, in_last}
 use Rattle.dx_sets.specs.Engine.{CutsOf}
 use Rattle.dx_story.proofs.Answers.{same_answer}
 use Rattle.dx_live.specs.Live.{LiveValue, IsLiveOf, IsLiveBest, live_root, cut_with, all_but}

@@ -12,10 +12,10 @@ use Rattle.std.proofs.lemmas.Bool.{false_from_ne_true}
 use Rattle.std.proofs.lemmas.List.{get_or_default, drop_all, append-nil, take_all}
 use Rattle.ev_graph.proofs.CutLists.{link_trans}
 use Rattle.dx_case.specs.Places.{IsPlaceOf}
-use Rattle.ev_graph.specs.Sets.{ascends, ascends_by, starts_above}
+use Rattle.ev_incidence.specs.Sets.{ascends, ascends_by, starts_above}
 use Rattle.ev_graph.specs.Cutting.{is_before_link}
 use Rattle.ev_graph.specs.declared.instances.Link.{Link}
-use Rattle.ev_graph.proofs.Ascending.{rises}
+use Rattle.ev_incidence.proofs.Ascending.{rises}
 use Rattle.fm_entry.specs.declared.broken.Broken.{Broken}
 use Rattle.fm_entry.specs.Words.{is_link_before}
 use Rattle.dx_explain.specs.Cases.{inserted, broken_of, with_links}

@@ -6,7 +6,7 @@ use Rattle.std.specs.Int.RustNames.{bit_or}
 use Rattle.std.proofs.lemmas.Bool.{false≢true}
 use Rattle.std.proofs.lemmas.List.{take_more}
 use Rattle.std.proofs.lemmas.Nat.Bits.{bit_at_or, bit_at_set_same}
-use Rattle.ev_graph.proofs.Occurrences.{in_push}
+use Rattle.ev_incidence.proofs.Occurrences.{in_push}
 use Rattle.dx_case.specs.Numbers.{IsMask}
 
 pub mask_none : IsMask 0 []

@@ -5,12 +5,12 @@ use Rattle.std.proofs.Common.{inl, inr, arith, Some}
 use Rattle.std.specs.List.{filter, list_all}
 use Rattle.std.proofs.lemmas.Bool.{and_parts, and_from, or_left}
 use Rattle.std.proofs.lemmas.Option.{slice_get_cases, slice_get_within, same_Some}
-use Rattle.ev_graph.specs.Sets.{NodeSet, is_member, ascends, IsSubset}
+use Rattle.ev_incidence.specs.Sets.{NodeSet, is_member, ascends, IsSubset}
 use Rattle.ev_graph.specs.Kinds.{is_report_node}
 use Rattle.ev_graph.specs.Cutting.{is_cut}
 use Rattle.ev_graph.specs.Lawful.{GraphValue}
 use Rattle.ev_graph.specs.declared.instances.Link.{Link}
-use Rattle.ev_graph.proofs.Occurrences.{all_from}
+use Rattle.ev_incidence.proofs.Occurrences.{all_from}
 use Rattle.dx_sets.specs.Engine.{CutsOf}
 use Rattle.dx_story.specs.Greatest.{no_other_report, IsAllowedStory}
 use Rattle.dx_explain.specs.Explaining.{IsPossible}

@@ -7,17 +7,18 @@ use Rattle.std.specs.List.Retain.{IsFiltered, DiffersFromLast}
 use Rattle.std.specs.List.Sorted.{IsPermutation, IsSorted}
 use Rattle.std.proofs.lemmas.Bool.{cases_eq, and_parts, or_left}
 use Rattle.std.proofs.lemmas.Bool.{eq-eqb, leb-true}
-use Rattle.ev_graph.specs.Sets.{NodeSet, is_member}
+use Rattle.ev_incidence.specs.Sets.{NodeSet, is_member}
 use Rattle.ev_graph.specs.Kinds.{is_root_node, is_report_node}
-use Rattle.ev_graph.specs.Wiring.{Wiring, wiring}
+use Rattle.ev_incidence.specs.Wiring.{Wiring}
+use Rattle.ev_graph.specs.Wired.{wiring}
 use Rattle.ev_graph.specs.Cutting.{without}
 use Rattle.ev_graph.specs.Rules.{IsProduced}
-use Rattle.ev_graph.specs.Table.{row_at, IncidenceValue, IsIncidence, wiring_of}
-use Rattle.ev_graph.specs.Reached.{IsReach, CanSearch, MarkedValue}
+use Rattle.ev_incidence.specs.Table.{row_at, IncidenceValue, IsIncidence, wiring_of}
+use Rattle.ev_incidence.specs.Reached.{IsReach, CanSearch, MarkedValue}
 use Rattle.ev_graph.specs.Lawful.{GraphValue, IsGraph, IsIncidenceOf}
-use Rattle.ev_graph.proofs.Occurrences.{in_filter, filter_in, all_from, in_transposed}
-use Rattle.ev_graph.proofs.Occurrences.{transposed_in}
-use Rattle.ev_graph.proofs.Occurrences.{row_in_range, in_at}
+use Rattle.ev_incidence.proofs.Occurrences.{in_filter, filter_in, all_from, in_transposed}
+use Rattle.ev_incidence.proofs.Occurrences.{transposed_in}
+use Rattle.ev_incidence.proofs.Occurrences.{row_in_range, in_at}
 use Rattle.ev_graph.proofs.Building.{wiring_same}
 use Rattle.dx_sets.specs.Engine.{CutsOf}
 use Rattle.dx_story.specs.Story.{IsStory}

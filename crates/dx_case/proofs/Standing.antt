@@ -5,11 +5,11 @@ use Rattle.std.proofs.Common.{Option, Some, None}
 use Rattle.std.specs.List.{filter, list_all}
 use Rattle.std.proofs.lemmas.Bool.{cases_Bool, and_parts, and_from, or_cases, or_left, or_right}
 use Rattle.std.proofs.lemmas.Bool.{both_ways, not-true, not_from_false, false_from_ne_true}
-use Rattle.ev_graph.specs.Sets.{NodeSet, is_member, ascends, IsSubset}
+use Rattle.ev_incidence.specs.Sets.{NodeSet, is_member, ascends, IsSubset}
 use Rattle.ev_graph.specs.Kinds.{has_kind, is_report_node}
 use Rattle.ev_graph.specs.Lawful.{GraphValue}
 use Rattle.ev_graph.specs.declared.nodes.NodeKind.{NodeKind}
-use Rattle.ev_graph.proofs.Occurrences.{all_in, any_in, any_from, in_filter, filter_in}
+use Rattle.ev_incidence.proofs.Occurrences.{all_in, any_in, any_from, in_filter, filter_in}
 use Rattle.dx_sets.specs.Engine.{CutsOf}
 use Rattle.dx_story.specs.Greatest.{IsAllowedStory}
 use Rattle.dx_explain.specs.Explaining.{IsPossible}

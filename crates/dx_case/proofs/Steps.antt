@@ -7,12 +7,12 @@ use Rattle.std.proofs.lemmas.Bool.{cases_Bool, and_parts, and_from, or_cases, or
 use Rattle.std.proofs.lemmas.Bool.{both_ways, not-true, not_from_false, false_from_ne_true}
 use Rattle.std.proofs.lemmas.Bool.{false≢true, eqb-true, ltb-true, lt-ltb, leb-true, le-leb}
 use Rattle.std.proofs.lemmas.Bool.{cases_lt}
-use Rattle.ev_graph.specs.Sets.{NodeSet, is_member, ascends, ascends_by, IsSubset}
+use Rattle.ev_incidence.specs.Sets.{NodeSet, is_member, ascends, ascends_by, IsSubset}
 use Rattle.ev_graph.specs.Kinds.{has_kind, is_report_node}
 use Rattle.ev_graph.specs.Cutting.{is_cut, is_before_link}
 use Rattle.ev_graph.specs.Lawful.{GraphValue, IsGraph}
 use Rattle.ev_graph.specs.declared.instances.Link.{Link}
-use Rattle.ev_graph.proofs.Occurrences.{all_in, all_from}
+use Rattle.ev_incidence.proofs.Occurrences.{all_in, all_from}
 use Rattle.dx_sets.specs.Engine.{CutsOf}
 use Rattle.dx_live.specs.Live.{no_cut, all_allowed}
 use Rattle.fm_core.specs.Meaning.{OpenCase}

@@ -1,7 +1,7 @@
 -- The candidates of a case: a live set for each root that may still account for it.
 use Rattle.std.specs.Prelude.{◌≡◌, ◌&&◌, not, ℕ, Bool, true, List, map, Some, slice_get}
 use Rattle.std.specs.List.{list_all, list_any}
-use Rattle.ev_graph.specs.Sets.{NodeSet, is_member, ascends}
+use Rattle.ev_incidence.specs.Sets.{NodeSet, is_member, ascends}
 use Rattle.ev_graph.specs.Kinds.{has_kind, is_report_node}
 use Rattle.ev_graph.specs.declared.nodes.Node.{Node}
 use Rattle.ev_graph.specs.declared.nodes.NodeKind.{NodeKind}

@@ -2,7 +2,7 @@
 use Rattle.std.specs.Prelude.{◌≡◌, ◌-◌, ℕ, Bool, true, false, List, map}
 use Rattle.std.specs.Prelude.{Option, Some, None, ◌≤◌, ◌<◌, length}
 use Rattle.std.specs.List.{list_all, list_any, filter}
-use Rattle.ev_graph.specs.Sets.{NodeSet, is_member, ascends, ascends_by}
+use Rattle.ev_incidence.specs.Sets.{NodeSet, is_member, ascends, ascends_by}
 use Rattle.ev_graph.specs.Kinds.{is_report_node}
 use Rattle.ev_graph.specs.Cutting.{is_before_link}
 use Rattle.ev_graph.specs.Lawful.{GraphValue, IsGraph}

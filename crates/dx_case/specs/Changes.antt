@@ -1,7 +1,7 @@
 -- What happens to a live set when links are cut and reports go.
 use Rattle.std.specs.Prelude.{◌≡◌, ◌&&◌, ◌||◌, not, ℕ, true, nat_lt, List, length, Option}
 use Rattle.std.specs.Prelude.{Some, None, slice_get, ◌<◌, ◌≤◌}
-use Rattle.ev_graph.specs.Sets.{NodeSet, is_member}
+use Rattle.ev_incidence.specs.Sets.{NodeSet, is_member}
 use Rattle.ev_graph.specs.Cutting.{is_cut}
 use Rattle.ev_graph.specs.Lawful.{GraphValue}
 use Rattle.ev_graph.specs.declared.nodes.Node.{Node}

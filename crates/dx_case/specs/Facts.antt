@@ -1,7 +1,7 @@
 -- What is kept of a case.
 use Rattle.std.specs.Prelude.{◌&&◌, ℕ, Bool, nat_le, nat_lt, length}
 use Rattle.std.specs.List.{list_all}
-use Rattle.ev_graph.specs.Sets.{ascends, ascends_by}
+use Rattle.ev_incidence.specs.Sets.{ascends, ascends_by}
 use Rattle.ev_graph.specs.Kinds.{is_report_node}
 use Rattle.ev_graph.specs.Lawful.{GraphValue}
 use Rattle.fm_core.specs.Meaning.{OpenCase}

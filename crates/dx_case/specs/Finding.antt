@@ -1,6 +1,6 @@
 -- The roots that reach a report, and the reports that roots reach.
 use Rattle.std.specs.Prelude.{◌≡◌, ℕ, true, List, Some, slice_get}
-use Rattle.ev_graph.specs.Sets.{NodeSet, is_member, ascends}
+use Rattle.ev_incidence.specs.Sets.{NodeSet, is_member, ascends}
 use Rattle.ev_graph.specs.Kinds.{is_root_node}
 use Rattle.ev_graph.specs.Lawful.{GraphValue}
 use Rattle.dx_sets.specs.Engine.{CutsOf}

@@ -1,7 +1,7 @@
 -- Numbers with a mask.
 use Rattle.std.specs.Prelude.{◌≡◌, ◌%◌, ℕ, List, true}
 use Rattle.std.specs.Int.{bit_at}
-use Rattle.ev_graph.specs.Sets.{is_member}
+use Rattle.ev_incidence.specs.Sets.{is_member}
 
 pub record NumbersValue : Type 0 where
   pub items : List ℕ

@@ -2,7 +2,7 @@
 
 ghost use Rattle.std.specs.Prelude.{◌≡◌, true, IfOk};
 ghost use Rattle.std.specs.List.{list_all, list_any, filter};
-ghost use Rattle.ev_graph.specs.Sets.{ascends};
+ghost use Rattle.ev_incidence.specs.Sets.{ascends};
 ghost use Rattle.dx_live.specs.Live.{live_set};
 ghost use Rattle.dx_case.specs.Candidates.{keeps, is_held, is_left};
 

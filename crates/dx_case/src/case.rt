@@ -3,7 +3,7 @@
 ghost use Rattle.std.specs.Prelude.{◌≡◌, ◌&&◌, ◌||◌, [], true, false, map, Some};
 ghost use Rattle.std.specs.Prelude.{None, IfOk, OnOk, OnErr};
 ghost use Rattle.std.specs.List.{list_all, list_any, filter};
-ghost use Rattle.ev_graph.specs.Sets.{ascends, is_member};
+ghost use Rattle.ev_incidence.specs.Sets.{ascends, is_member};
 ghost use Rattle.ev_graph.specs.Kinds.{is_report_node};
 ghost use Rattle.ev_graph.specs.Lawful.{GraphValue};
 ghost use Rattle.dx_explain.specs.Cases.{case_opened, case_joined, broken_of, verdict_of};

@@ -2,7 +2,7 @@
 
 ghost use Rattle.std.specs.Prelude.{◌≡◌, ◌<◌, ◌≤◌, [], true, false};
 ghost use Rattle.std.specs.List.{list_all};
-ghost use Rattle.ev_graph.specs.Sets.{ascends};
+ghost use Rattle.ev_incidence.specs.Sets.{ascends};
 ghost use Rattle.ev_graph.specs.Kinds.{is_report_node};
 ghost use Rattle.dx_live.specs.Live.{IsLiveOf};
 ghost use Rattle.dx_case.specs.Changes.{within_of, is_over, goes, gone_of, IsChanged, AreChanged};

@@ -2,7 +2,7 @@
 
 ghost use Rattle.std.specs.Prelude.{◌≡◌, map, IfOk};
 ghost use Rattle.std.specs.List.{list_all};
-ghost use Rattle.ev_graph.specs.Sets.{ascends_by};
+ghost use Rattle.ev_incidence.specs.Sets.{ascends_by};
 ghost use Rattle.ev_graph.specs.Kinds.{is_report_node};
 ghost use Rattle.fm_entry.specs.Words.{is_link_before};
 ghost use Rattle.dx_explain.specs.Cases.{broken_of};

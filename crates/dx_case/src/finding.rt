@@ -3,7 +3,7 @@
 ghost use Rattle.std.specs.Prelude.{◌≡◌, ◌<◌, true, length, IfOk};
 ghost use Rattle.std.specs.List.{list_all};
 ghost use Rattle.ev_graph.specs.Kinds.{is_root_node, is_report_node};
-ghost use Rattle.ev_graph.specs.Sets.{ascends};
+ghost use Rattle.ev_incidence.specs.Sets.{ascends};
 ghost use Rattle.dx_case.specs.Candidates.{AreCovered, is_of_kind};
 ghost use Rattle.dx_case.specs.Kinds.{is_asked};
 ghost use Rattle.dx_case.specs.Finding.{AreSorted, AreRootsOf, AreFresh};
@@ -12,7 +12,8 @@ ghost use Rattle.dx_case.specs.Starts.{IsFreshOf};
 use crate::candidate::{Candidate, copies_of};
 use crate::kinds::Asked;
 use dx_live::Live;
-use ev_graph::{Graph, Marked, NoMemory, Node, search};
+use ev_graph::{Graph, NoMemory, Node};
+use ev_incidence::{Marked, search};
 use std::alloc::Global;
 
 /// Those of some nodes that are of a kind, ascending.

@@ -4,9 +4,9 @@
 //! **Model.** Contracts see a [`Case`] as an open case of fm_core (`open_of`: its number, when it
 //! was opened, its entries, what was observed, the broken links) and the moment that it has come to
 //! (`time_of`), none once it is finished. What is allowed and pending then and what explains the
-//! case are the words of dx_explain, at a moment or, once the case is finished, with nothing allowed
-//! but what was observed (specs/Cases). A call that needs the graph says that the case was made in
-//! it (`IsCaseOf`).
+//! case are the words of dx_explain, at a moment or, once the case is finished, with nothing
+//! allowed but what was observed (specs/Cases). A call that needs the graph says that the case was
+//! made in it (`IsCaseOf`).
 //!
 //! **Invariant.** A case has a candidate for each root that is possible, by rising number: the
 //! greatest story of that root with reports within what is allowed, in the graph less the broken

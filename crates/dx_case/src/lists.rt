@@ -1,7 +1,7 @@
 //! Lists in order, with items more.
 
 ghost use Rattle.std.specs.Prelude.{◌≡◌, true, map, nat_lt, OnOk};
-ghost use Rattle.ev_graph.specs.Sets.{ascends, ascends_by, is_member};
+ghost use Rattle.ev_incidence.specs.Sets.{ascends, ascends_by, is_member};
 ghost use Rattle.ev_graph.specs.Cutting.{is_before_link};
 ghost use Rattle.dx_explain.specs.Cases.{inserted, with_links, broken_of};
 ghost use Rattle.dx_case.specs.Places.{IsPlaceOf};

@@ -1,7 +1,7 @@
 //! Ascending numbers that tell most others apart without a look at them.
 
 ghost use Rattle.std.specs.Prelude.{◌≡◌, ◌<◌, ℕ, List, true, false, length, slice_index, IfOk};
-ghost use Rattle.ev_graph.specs.Sets.{ascends, is_member};
+ghost use Rattle.ev_incidence.specs.Sets.{ascends, is_member};
 ghost use Rattle.dx_case.specs.Numbers.{NumbersValue, IsMask};
 
 use crate::lists::is_among;

@@ -4,7 +4,7 @@ use Rattle.std.proofs.Common.{refl, if◌then◌else◌}
 use Rattle.std.specs.List.{list_all}
 use Rattle.std.proofs.lemmas.Bool.{and_from, and_parts}
 use Rattle.fm_entry.specs.declared.list_event.ListEvent.{ListEvent}
-use Rattle.ev_graph.specs.Sets.{ascends}
+use Rattle.ev_incidence.specs.Sets.{ascends}
 use Rattle.dx_explain.specs.Cases.{inserted}
 use Rattle.dx_said.specs.Making.{with_words}
 use Rattle.dx_state.specs.LawfulState.{solved_numbers}

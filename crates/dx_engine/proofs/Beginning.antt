@@ -6,7 +6,7 @@ use Rattle.std.specs.List.{All, AllByRecursion, list_all}
 use Rattle.std.proofs.lemmas.Bool.{and_parts}
 use Rattle.fm_core.specs.Meaning.{OpenCase, Diagnosis}
 use Rattle.ev_graph.specs.Lawful.{GraphValue}
-use Rattle.ev_graph.specs.Sets.{ascends}
+use Rattle.ev_incidence.specs.Sets.{ascends}
 use Rattle.ev_graph.specs.declared.nodes.EngineSpec.{EngineSpec}
 use Rattle.dx_serd.specs.Rates.{RateOf}
 use Rattle.dx_serd.proofs.Moments.{past_later}

@@ -7,7 +7,7 @@ use Rattle.std.proofs.lemmas.List.{length-map}
 use Rattle.std.proofs.lemmas.List.Folds.{list_all-map}
 use Rattle.fm_entry.specs.Words.{event_fits}
 use Rattle.ev_graph.specs.Kinds.{is_report_node}
-use Rattle.ev_graph.specs.Sets.{ascends_by}
+use Rattle.ev_incidence.specs.Sets.{ascends_by}
 use Rattle.ev_graph.specs.Lawful.{GraphValue, IsGraph, is_before_node}
 use Rattle.ev_graph.specs.Lawful.{has_engine_limits}
 use Rattle.ev_graph.specs.Kinds.{has_limits}

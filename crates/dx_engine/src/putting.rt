@@ -1,7 +1,7 @@
 //! What a turn has come to, put in place or undone.
 
 ghost use Rattle.std.specs.Prelude.{◌≡◌, IfOk, OnOk, OnErr, IsTrue};
-ghost use Rattle.ev_graph.specs.Sets.{ascends};
+ghost use Rattle.ev_incidence.specs.Sets.{ascends};
 ghost use Rattle.dx_said.specs.Making.{with_words};
 ghost use Rattle.dx_state.specs.LawfulState.{solved_numbers};
 ghost use Rattle.dx_turn.specs.Turning.{made_or};

@@ -7,11 +7,11 @@ use Rattle.std.proofs.lemmas.Bool.{cases_Bool, cases_eq, and_parts, and_from}
 use Rattle.std.proofs.lemmas.Bool.{false≢true}
 use Rattle.std.proofs.lemmas.Bool.{cond-true, cond-false}
 use Rattle.std.proofs.lemmas.List.Elements.{filter-append}
-use Rattle.ev_graph.specs.Sets.{is_member, ascends}
+use Rattle.ev_incidence.specs.Sets.{is_member, ascends}
 use Rattle.ev_graph.specs.Kinds.{has_kind}
 use Rattle.ev_graph.specs.Lawful.{GraphValue, IsGraph}
 use Rattle.ev_graph.specs.declared.nodes.NodeKind.{NodeKind}
-use Rattle.ev_graph.proofs.Occurrences.{in_filter, filter_in, in_more, in_last, in_push}
+use Rattle.ev_incidence.proofs.Occurrences.{in_filter, filter_in, in_more, in_last, in_push}
 use Rattle.dx_explain.specs.Laws.{Explains}
 use Rattle.fm_core.specs.Meaning.{OpenCase}
 use Rattle.dx_explain.specs.Search.{numbers_below}

@@ -7,13 +7,14 @@ use Rattle.std.proofs.lemmas.List.{length-map}
 use Rattle.std.proofs.lemmas.Bool.{cases_Bool, and_parts, and_from, or_cases, or_left}
 use Rattle.std.proofs.lemmas.Bool.{or_right, eqb-true, eq-eqb, lt-ltb, both_ways, not-true}
 use Rattle.std.proofs.lemmas.Bool.{not_from_false, not_from_true, and_right}
-use Rattle.ev_graph.specs.Sets.{NodeSet, is_member, has_mark, IsSubset}
+use Rattle.ev_incidence.specs.Sets.{NodeSet, is_member, has_mark, IsSubset}
 use Rattle.ev_graph.specs.Kinds.{is_root_node}
-use Rattle.ev_graph.specs.Wiring.{Wiring, wiring}
-use Rattle.ev_graph.specs.Table.{IncidenceValue}
+use Rattle.ev_incidence.specs.Wiring.{Wiring}
+use Rattle.ev_graph.specs.Wired.{wiring}
+use Rattle.ev_incidence.specs.Table.{IncidenceValue}
 use Rattle.ev_graph.specs.Cutting.{without}
 use Rattle.ev_graph.specs.Lawful.{GraphValue, IsIncidenceOf}
-use Rattle.ev_graph.proofs.Occurrences.{all_in, all_from}
+use Rattle.ev_incidence.proofs.Occurrences.{all_in, all_from}
 use Rattle.ev_graph.proofs.Building.{wiring_same}
 use Rattle.dx_sets.specs.Fit.{IsFit, IsGreatestFit}
 use Rattle.dx_sets.specs.Sets.{SetsValue}

@@ -3,9 +3,9 @@ use Rattle.std.proofs.Common.{◌≡◌, ◌+◌, ◌++◌, ◌<◌, ℕ, Bool, 
 use Rattle.std.proofs.Common.{eqb, ltb, refl, sym, ap, subst, ◌∙◌, inl, inr, arith}
 use Rattle.std.proofs.lemmas.Bool.{cases_eq, both_ways, and_parts, and_from, or_left}
 use Rattle.std.proofs.lemmas.Bool.{or_right, eq-eqb, lt-ltb, false≢true}
-use Rattle.ev_graph.specs.Sets.{NodeSet, is_member, has_mark, IsSubset, ascends}
+use Rattle.ev_incidence.specs.Sets.{NodeSet, is_member, has_mark, IsSubset, ascends}
 use Rattle.ev_graph.specs.Lawful.{GraphValue}
-use Rattle.ev_graph.proofs.Occurrences.{in_push, in_more, in_last}
+use Rattle.ev_incidence.proofs.Occurrences.{in_push, in_more, in_last}
 use Rattle.dx_sets.specs.Engine.{CutsOf}
 use Rattle.dx_sets.proofs.Leaving.{marked_below}
 use Rattle.dx_explain.specs.Explaining.{AreMembers, IsExplanation, IsExplanationList}

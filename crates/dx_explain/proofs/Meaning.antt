@@ -2,10 +2,10 @@
 use Rattle.std.proofs.Common.{◌≡◌, ◌&&◌, not, ℕ, Bool, true, false, List, length}
 use Rattle.std.specs.List.{list_all}
 use Rattle.std.proofs.lemmas.Bool.{and_parts, and_from, not-true, not_from_false}
-use Rattle.ev_graph.specs.Sets.{NodeSet, is_member}
+use Rattle.ev_incidence.specs.Sets.{NodeSet, is_member}
 use Rattle.ev_graph.specs.Kinds.{is_report_node, is_report_kind}
 use Rattle.ev_graph.specs.Lawful.{GraphValue, IsGraph}
-use Rattle.ev_graph.proofs.Occurrences.{all_in, all_from}
+use Rattle.ev_incidence.proofs.Occurrences.{all_in, all_from}
 use Rattle.dx_sets.specs.Engine.{CutsOf}
 use Rattle.dx_explain.specs.Laws.{Explains, IsPending}
 use Rattle.dx_story.proofs.Roots.{root_below}

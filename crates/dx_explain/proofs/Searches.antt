@@ -4,7 +4,7 @@ use Rattle.std.proofs.Common.{eqb, ltb, refl, inl, inr, sym, ap, ◌∙◌, arit
 use Rattle.std.proofs.lemmas.Bool.{cases_Bool, cases_eq, and_parts, and_from, or_cases, or_left}
 use Rattle.std.proofs.lemmas.Bool.{or_right, eq-eqb, eqb-true, lt-ltb, ltb-true, false≢true}
 use Rattle.std.proofs.lemmas.Bool.{both_ways}
-use Rattle.ev_graph.specs.Sets.{NodeSet}
+use Rattle.ev_incidence.specs.Sets.{NodeSet}
 use Rattle.dx_story.proofs.Answers.{same_answer}
 use Rattle.dx_explain.specs.Search.{some_below, every_below, some_set, empty_set, with_member}
 use Rattle.dx_explain.specs.Search.{IsSetBelow}

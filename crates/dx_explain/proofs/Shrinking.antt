@@ -2,9 +2,9 @@
 use Rattle.std.proofs.Common.{◌≡◌, ◌&&◌, not, ℕ, true, inl, inr, sym, ◌∙◌}
 use Rattle.std.proofs.lemmas.Bool.{cases_Bool, and_parts, and_from, or_cases, or_left, or_right}
 use Rattle.std.proofs.lemmas.Bool.{both_ways, not-true, not_from_false}
-use Rattle.ev_graph.specs.Sets.{NodeSet, IsSubset}
+use Rattle.ev_incidence.specs.Sets.{NodeSet, IsSubset}
 use Rattle.ev_graph.specs.Kinds.{is_report_node}
-use Rattle.ev_graph.specs.Wiring.{wiring}
+use Rattle.ev_graph.specs.Wired.{wiring}
 use Rattle.ev_graph.specs.Lawful.{GraphValue}
 use Rattle.dx_sets.specs.Engine.{CutsOf}
 use Rattle.dx_sets.proofs.Cuts.{produced_fewer, shown_fewer}

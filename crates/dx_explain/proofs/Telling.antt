@@ -7,16 +7,17 @@ use Rattle.std.specs.Prelude.{nat_le}
 use Rattle.std.proofs.lemmas.Bool.{cases_Bool, cases_eq, cases_lt, and_parts, and_from, or_cases}
 use Rattle.std.proofs.lemmas.Bool.{or_left, or_right, eq-eqb, eqb-true, ltb-true, false≢true}
 use Rattle.std.proofs.lemmas.Bool.{both_ways, not-true, not_from_false, false_from_ne_true}
-use Rattle.ev_graph.specs.Sets.{NodeSet, is_member, IsSubset}
+use Rattle.ev_incidence.specs.Sets.{NodeSet, is_member, IsSubset}
 use Rattle.ev_graph.specs.Kinds.{has_kind, is_root_node, is_report_node}
-use Rattle.ev_graph.specs.Wiring.{Wiring, causes_if_any, effects_if_any}
+use Rattle.ev_incidence.specs.Wiring.{Wiring}
+use Rattle.ev_graph.specs.Wired.{causes_if_any, effects_if_any}
 use Rattle.ev_graph.specs.Rules.{is_enough, is_met, IsProduced, IsShown}
 use Rattle.ev_graph.specs.Kinds.{has_engine_below}
 use Rattle.ev_graph.specs.Lawful.{GraphValue, IsGraph, is_in_range, are_below}
 use Rattle.ev_graph.specs.declared.nodes.Node.{Node}
 use Rattle.ev_graph.specs.declared.nodes.NodeKind.{NodeKind}
 use Rattle.ev_graph.specs.declared.instances.Instance.{Instance}
-use Rattle.ev_graph.proofs.Occurrences.{filter_in, all_in, all_from}
+use Rattle.ev_incidence.proofs.Occurrences.{filter_in, all_in, all_from}
 use Rattle.dx_story.specs.Story.{IsStory}
 use Rattle.dx_sets.specs.Engine.{CutsOf}
 use Rattle.dx_story.specs.Greatest.{no_other_report}

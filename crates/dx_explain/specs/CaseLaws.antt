@@ -1,6 +1,6 @@
 -- What the tests mean, in the relations of stories.
 use Rattle.std.specs.Prelude.{◌≡◌, ◌↔◌, ℕ, Bool, true, List, slice_get}
-use Rattle.ev_graph.specs.Sets.{is_member, ascends}
+use Rattle.ev_incidence.specs.Sets.{is_member, ascends}
 use Rattle.ev_graph.specs.Kinds.{has_kind}
 use Rattle.ev_graph.specs.declared.nodes.NodeKind.{NodeKind}
 use Rattle.ev_graph.specs.Lawful.{GraphValue, IsGraph}

@@ -2,7 +2,7 @@
 use Rattle.std.specs.Prelude.{◌==◌, ◌+◌, ◌++◌, ◌∷◌, [], ◌&&◌, ◌||◌, not, ℕ, Bool, false, List}
 use Rattle.std.specs.Prelude.{length, nat_le, nat_lt, slice_get, true, if◌then◌else◌}
 use Rattle.std.specs.List.{filter, list_any}
-use Rattle.ev_graph.specs.Sets.{NodeSet, is_member}
+use Rattle.ev_incidence.specs.Sets.{NodeSet, is_member}
 use Rattle.ev_graph.specs.Kinds.{has_kind, is_report_node, is_upset_kind}
 use Rattle.ev_graph.specs.Lawful.{GraphValue}
 use Rattle.ev_graph.specs.declared.instances.Link.{Link}

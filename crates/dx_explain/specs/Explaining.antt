@@ -1,6 +1,6 @@
 -- Which roots are possible, and what explains by one.
 use Rattle.std.specs.Prelude.{◌≡◌, ◌==◌, ◌&&◌, ◌||◌, ◌<◌, ◌≤◌, not, ℕ, true, List, length}
-use Rattle.ev_graph.specs.Sets.{NodeSet, is_member, has_mark, IsSubset, ascends}
+use Rattle.ev_incidence.specs.Sets.{NodeSet, is_member, has_mark, IsSubset, ascends}
 use Rattle.ev_graph.specs.Kinds.{is_root_node}
 use Rattle.ev_graph.specs.Lawful.{GraphValue}
 use Rattle.ev_graph.specs.declared.nodes.Node.{Node}

@@ -1,8 +1,8 @@
 -- What cases rest on: how what is possible changes, and when it is decided.
 use Rattle.std.specs.Prelude.{◌≡◌, ◌&&◌, ◌↔◌, ℕ, true, false}
-use Rattle.ev_graph.specs.Sets.{NodeSet, IsSubset}
+use Rattle.ev_incidence.specs.Sets.{NodeSet, IsSubset}
 use Rattle.ev_graph.specs.Kinds.{is_report_node}
-use Rattle.ev_graph.specs.Wiring.{wiring}
+use Rattle.ev_graph.specs.Wired.{wiring}
 use Rattle.ev_graph.specs.Cutting.{without}
 use Rattle.ev_graph.specs.Lawful.{GraphValue}
 use Rattle.dx_story.specs.Story.{IsStory}

@@ -1,7 +1,7 @@
 -- Searches: over the numbers below one, and over all sets of them.
 use Rattle.std.specs.Prelude.{◌≡◌, ◌==◌, ◌&&◌, ◌||◌, ◌++◌, ◌∷◌, [], ◌<◌, ℕ, zero, suc, Bool, true}
 use Rattle.std.specs.Prelude.{false, List}
-use Rattle.ev_graph.specs.Sets.{NodeSet}
+use Rattle.ev_incidence.specs.Sets.{NodeSet}
 
 -- some number below n passes the test; each does
 unfoldable pub some_below : ℕ → (ℕ → Bool) → Bool

@@ -2,9 +2,10 @@
 -- computes them, since there are as many sets as there are sets of nodes.
 use Rattle.std.specs.Prelude.{◌==◌, ◌&&◌, ◌||◌, not, ℕ, Bool, List, length}
 use Rattle.std.specs.List.{list_all}
-use Rattle.ev_graph.specs.Sets.{NodeSet, is_member}
+use Rattle.ev_incidence.specs.Sets.{NodeSet, is_member}
 use Rattle.ev_graph.specs.Kinds.{is_root_node, is_report_node}
-use Rattle.ev_graph.specs.Wiring.{Wiring, wiring}
+use Rattle.ev_incidence.specs.Wiring.{Wiring}
+use Rattle.ev_graph.specs.Wired.{wiring}
 use Rattle.ev_graph.specs.Cutting.{without}
 use Rattle.ev_graph.specs.Rules.{is_enough, is_met}
 use Rattle.ev_graph.specs.Lawful.{GraphValue}

@@ -1,6 +1,7 @@
 //! Laws of the tests of cases.
 
-ghost use Rattle.dx_explain.specs.CaseLaws.{ExplainsIs, PendingIs, WaitsIs, BlamedIs, BlamedAscends};
+ghost use Rattle.dx_explain.specs.CaseLaws.{ExplainsIs, PendingIs, WaitsIs, BlamedIs};
+ghost use Rattle.dx_explain.specs.CaseLaws.{BlamedAscends};
 
 /// A root explains what was seen exactly where some story of it has just that as its reports.
 pub fn explains_is()

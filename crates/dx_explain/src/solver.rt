@@ -4,10 +4,10 @@ ghost use Rattle.std.specs.Prelude.{◌≡◌, ◌<◌, ◌^◌, ◌&&◌, [], O
 ghost use Rattle.std.specs.Prelude.{length};
 ghost use Rattle.std.specs.Bool.{OnTrue, OnFalse};
 ghost use Rattle.std.specs.List.{list_all};
-ghost use Rattle.ev_graph.specs.Sets.{ascends, is_member};
+ghost use Rattle.ev_incidence.specs.Sets.{ascends, is_member};
 ghost use Rattle.ev_graph.specs.Kinds.{is_root_node};
 ghost use Rattle.ev_graph.specs.Cutting.{AreLinks, is_cut, without};
-ghost use Rattle.ev_graph.specs.Wiring.{wiring};
+ghost use Rattle.ev_graph.specs.Wired.{wiring};
 ghost use Rattle.dx_sets.specs.Fit.{IsGreatestFit};
 ghost use Rattle.dx_sets.specs.Engine.{HaveLeftBelow};
 ghost use Rattle.dx_explain.specs.Explaining.{may_stay, set_of, FitsGraph, AreMembers, IsPossible};

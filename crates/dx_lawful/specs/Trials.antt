@@ -4,7 +4,7 @@ use Rattle.std.specs.List.{list_all}
 use Rattle.fm_entry.specs.declared.broken.Broken.{Broken}
 use Rattle.fm_entry.specs.declared.list_event.ListEvent.{ListEvent}
 use Rattle.fm_core.specs.Meaning.{OpenCase, Diagnosis}
-use Rattle.ev_graph.specs.Sets.{ascends, is_member}
+use Rattle.ev_incidence.specs.Sets.{ascends, is_member}
 use Rattle.ev_graph.specs.Kinds.{is_report_node}
 use Rattle.ev_graph.specs.Lawful.{GraphValue}
 use Rattle.dx_state.specs.LawfulState.{events_ascend, suspect_name, has_marks, are_engines}

@@ -2,7 +2,7 @@
 
 ghost use Rattle.std.specs.Prelude.{◌≡◌, ◌&&◌, ◌^◌, true, nat_lt};
 ghost use Rattle.std.specs.List.{list_all};
-ghost use Rattle.ev_graph.specs.Sets.{ascends};
+ghost use Rattle.ev_incidence.specs.Sets.{ascends};
 ghost use Rattle.ev_graph.specs.Kinds.{is_report_node};
 ghost use Rattle.dx_lawful.specs.Trials.{is_guarded_link, could_be_open};
 

@@ -1,7 +1,7 @@
 //! The numbers of cases.
 
 ghost use Rattle.std.specs.Prelude.{◌≡◌, ◌&&◌, true, IfOk};
-ghost use Rattle.ev_graph.specs.Sets.{ascends, is_member};
+ghost use Rattle.ev_incidence.specs.Sets.{ascends, is_member};
 ghost use Rattle.dx_state.specs.LawfulState.{open_numbers, solved_numbers, are_apart};
 ghost use Rattle.dx_lawful.specs.Trials.{are_numbered};
 

@@ -5,12 +5,13 @@ use Rattle.std.proofs.Common.{get_or, leb, eqb, suc, refl, sym, ◌∙◌, inl, 
 use Rattle.std.specs.List.{filter, count_by}
 use Rattle.std.proofs.lemmas.Bool.{cases_eq, cases_Bool, both_ways, and_parts, or_right, cond-true}
 use Rattle.std.proofs.lemmas.Bool.{cond-false}
-use Rattle.ev_graph.specs.Sets.{NodeSet, is_member, IsSubset}
+use Rattle.ev_incidence.specs.Sets.{NodeSet, is_member, IsSubset}
 use Rattle.ev_graph.specs.Kinds.{is_root_node, is_report_node}
-use Rattle.ev_graph.specs.Wiring.{Wiring, wiring}
+use Rattle.ev_incidence.specs.Wiring.{Wiring}
+use Rattle.ev_graph.specs.Wired.{wiring}
 use Rattle.ev_graph.specs.Cutting.{without}
 use Rattle.ev_graph.specs.Lawful.{GraphValue, IsGraph}
-use Rattle.ev_graph.proofs.Occurrences.{filter_in}
+use Rattle.ev_incidence.proofs.Occurrences.{filter_in}
 use Rattle.dx_story.specs.Story.{IsStory}
 use Rattle.dx_sets.specs.Fit.{IsFit}
 use Rattle.dx_sets.specs.Engine.{CutsOf, CutsWithin, wiring_cut}

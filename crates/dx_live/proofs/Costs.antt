@@ -8,8 +8,8 @@ use Rattle.std.proofs.lemmas.List.{length-map}
 use Rattle.std.proofs.lemmas.List.Sums.{sum_by-cons, length-filter, count_by-le-length}
 use Rattle.std.proofs.lemmas.Bool.{cases_Bool, and_parts, or_left, or_right, eq-eqb, ltb-true}
 use Rattle.std.proofs.lemmas.Bool.{eqb-true, both_ways}
-use Rattle.ev_graph.specs.Sets.{is_member, has_mark, ascends}
-use Rattle.ev_graph.specs.Table.{row_at, IncidenceValue, IsIncidence}
+use Rattle.ev_incidence.specs.Sets.{is_member, has_mark, ascends}
+use Rattle.ev_incidence.specs.Table.{row_at, IncidenceValue, IsIncidence}
 use Rattle.ev_graph.specs.Lawful.{GraphValue, links, links_of, IsIncidenceOf}
 use Rattle.ev_graph.specs.declared.instances.Instance.{Instance}
 use Rattle.dx_sets.specs.Sets.{SetsValue, sum_below}

@@ -4,7 +4,7 @@ use Rattle.std.proofs.Common.{get_or}
 use Rattle.std.proofs.Common.{refl, sym, ap, ◌∙◌, inl, inr}
 use Rattle.std.proofs.lemmas.Bool.{cases_Bool, and_parts, or_left, eqb-true, eq-eqb}
 use Rattle.std.proofs.lemmas.Bool.{both_ways}
-use Rattle.ev_graph.specs.Sets.{NodeSet, is_member, has_mark, ascends}
+use Rattle.ev_incidence.specs.Sets.{NodeSet, is_member, has_mark, ascends}
 use Rattle.ev_graph.specs.Lawful.{GraphValue, IsGraph}
 use Rattle.ev_graph.specs.declared.instances.Link.{Link}
 use Rattle.dx_sets.specs.Sets.{SetsValue}
@@ -12,7 +12,7 @@ use Rattle.dx_sets.specs.Engine.{CutsOf}
 use Rattle.dx_sets.proofs.Filling.{steady_fit}
 use Rattle.dx_story.proofs.Answers.{same_answer}
 use Rattle.dx_live.specs.Region.{AreLocalCuts, IsLinkOf, IsNoLinkOf}
-use Rattle.ev_graph.proofs.Occurrences.{in_at}
+use Rattle.ev_incidence.proofs.Occurrences.{in_at}
 use Rattle.dx_live.specs.Cuts.{CutsValue, cut_at, CutIsMade}
 use Rattle.dx_live.specs.Live.{LiveOver, root_over, cuts_over, IsLiveOver, IsBestOver}
 use Rattle.dx_live.specs.Live.{cut_with}

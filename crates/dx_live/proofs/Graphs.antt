@@ -4,14 +4,14 @@ use Rattle.std.proofs.Common.{[], ◌∷◌}
 use Rattle.std.proofs.Common.{length, slice_get}
 use Rattle.std.specs.List.{list_all}
 use Rattle.std.proofs.lemmas.Bool.{and_parts, ltb-true, false≢true, not-true}
-use Rattle.ev_graph.specs.Sets.{is_member}
+use Rattle.ev_incidence.specs.Sets.{is_member}
 use Rattle.ev_graph.specs.Kinds.{is_root_node, is_report_node, has_limits}
-use Rattle.ev_graph.specs.Wiring.{wiring, effects_if_any, k_if_any}
+use Rattle.ev_graph.specs.Wired.{wiring, effects_if_any, k_if_any}
 use Rattle.ev_graph.specs.Lawful.{GraphValue, IsGraph, has_counts, keeps_kinds, has_engine_limits}
 use Rattle.ev_graph.specs.declared.nodes.Node.{Node}
 use Rattle.ev_graph.specs.declared.nodes.EngineSpec.{EngineSpec}
 use Rattle.ev_graph.specs.declared.instances.Instance.{Instance}
-use Rattle.ev_graph.proofs.Occurrences.{all_in}
+use Rattle.ev_incidence.proofs.Occurrences.{all_in}
 use Rattle.dx_live.specs.Region.{AreCounted, AreRising}
 
 counted_at : (is : List Instance) → list_all has_counts is ≡ true → (j e : ℕ)

@@ -8,10 +8,10 @@ use Rattle.std.proofs.lemmas.List.{get_or_append_left, get_or_past}
 use Rattle.std.proofs.lemmas.List.Elements.{filter_more}
 use Rattle.std.proofs.lemmas.Bool.{cases_eq, cases_lt, cond-true, cond-false, false≢true}
 use Rattle.std.proofs.Common.{◌-◌, ◌≤◌}
-use Rattle.ev_graph.specs.Sets.{is_member, ascends}
-use Rattle.ev_graph.proofs.Ascending.{rises}
-use Rattle.ev_graph.specs.Table.{row_at, AreRowsBelow}
-use Rattle.ev_graph.proofs.Occurrences.{in_at, in_push}
+use Rattle.ev_incidence.specs.Sets.{is_member, ascends}
+use Rattle.ev_incidence.proofs.Ascending.{rises}
+use Rattle.ev_incidence.specs.Table.{row_at, AreRowsBelow}
+use Rattle.ev_incidence.proofs.Occurrences.{in_at, in_push}
 use Rattle.dx_live.specs.Region.{IsLocalRow, AreLocalRows}
 
 pub row_none : (nodes : List ℕ) → IsLocalRow nodes [] []

@@ -10,13 +10,13 @@ use Rattle.std.proofs.lemmas.Bool.{cases_eq, cases_lt, cases_Bool, and_parts, an
 use Rattle.std.proofs.lemmas.Bool.{or_left, or_right, eqb-true, eq-eqb, ne_eqb, ltb-true, lt-ltb}
 use Rattle.std.proofs.lemmas.Bool.{cond-true, cond-false, false≢true, both_ways, not_from_false}
 use Rattle.std.proofs.lemmas.Bool.{and_right}
-use Rattle.ev_graph.specs.Sets.{is_member, has_mark, ascends, occurs}
-use Rattle.ev_graph.specs.Table.{row_at, IncidenceValue}
+use Rattle.ev_incidence.specs.Sets.{is_member, has_mark, ascends, occurs}
+use Rattle.ev_incidence.specs.Table.{row_at, IncidenceValue}
 use Rattle.ev_graph.specs.declared.instances.Link.{Link}
-use Rattle.ev_graph.proofs.Occurrences.{occurs-cons, in_occurs, occurs_filter, row_in_range}
-use Rattle.ev_graph.proofs.Occurrences.{filter_yes}
-use Rattle.ev_graph.proofs.Occurrences.{filter_no, filter_in, in_at}
-use Rattle.ev_graph.proofs.Ascending.{rises}
+use Rattle.ev_incidence.proofs.Occurrences.{occurs-cons, in_occurs, occurs_filter, row_in_range}
+use Rattle.ev_incidence.proofs.Occurrences.{filter_yes}
+use Rattle.ev_incidence.proofs.Occurrences.{filter_no, filter_in, in_at}
+use Rattle.ev_incidence.proofs.Ascending.{rises}
 use Rattle.dx_sets.specs.Sets.{SetsValue}
 use Rattle.dx_sets.specs.Engine.{CutsOf, uncut, IsSteady, SettlesTo}
 use Rattle.dx_sets.specs.Links.{CutsOne, LinkIsLost}

@@ -9,14 +9,15 @@ use Rattle.std.proofs.lemmas.List.{get_or_past, length-replicate}
 use Rattle.std.proofs.lemmas.Bool.{cases_lt, cases_eq, and_parts, and_from, and_right, or_left}
 use Rattle.std.proofs.lemmas.Bool.{or_right}
 use Rattle.std.proofs.lemmas.Bool.{ltb-true, lt-ltb, eq-eqb}
-use Rattle.ev_graph.specs.Sets.{is_member, has_mark, ascends, ascends_by}
+use Rattle.ev_incidence.specs.Sets.{is_member, has_mark, ascends, ascends_by}
 use Rattle.ev_graph.specs.Kinds.{is_root_node}
-use Rattle.ev_graph.specs.Wiring.{Wiring, wiring, effects_if_any}
-use Rattle.ev_graph.specs.Table.{row_at, IncidenceValue, wiring_of}
+use Rattle.ev_incidence.specs.Wiring.{Wiring}
+use Rattle.ev_graph.specs.Wired.{wiring, effects_if_any}
+use Rattle.ev_incidence.specs.Table.{row_at, IncidenceValue, wiring_of}
 use Rattle.ev_graph.specs.Lawful.{GraphValue, IsGraph, IsIncidenceOf, is_ascending, is_before_node}
 use Rattle.ev_graph.specs.Lawful.{is_before_engine, links}
 use Rattle.ev_graph.specs.declared.instances.Instance.{Instance}
-use Rattle.ev_graph.proofs.Ascending.{rises}
+use Rattle.ev_incidence.proofs.Ascending.{rises}
 use Rattle.ev_graph.proofs.Building.{wiring_same}
 use Rattle.dx_sets.specs.Sets.{SetsValue}
 use Rattle.dx_sets.specs.Engine.{CutsOf, AreSized, AreFilled, IsSteady, SettlesTo, cost}

@@ -13,7 +13,7 @@ use Rattle.std.proofs.lemmas.List.Sorted.{list_any-IsPermutation}
 use Rattle.std.proofs.lemmas.Map.Keys.{IsStrictlyIncreasing-dedup}
 use Rattle.std.proofs.lemmas.Bool.{and_from, or_cases, or_left, or_right, eqb-true, eq-eqb, lt-ltb}
 use Rattle.std.proofs.lemmas.Bool.{false≢true}
-use Rattle.ev_graph.specs.Sets.{is_member, ascends}
+use Rattle.ev_incidence.specs.Sets.{is_member, ascends}
 use Rattle.dx_story.proofs.Answers.{same_answer}
 
 contains_from : (xs : List ℕ) (x : ℕ) → is_member xs x ≡ true → Contains xs x

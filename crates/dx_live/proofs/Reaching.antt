@@ -3,10 +3,10 @@ use Rattle.std.proofs.Common.{◌≡◌, ◌<◌, ◌^◌, ℕ, true, List, [], 
 use Rattle.std.proofs.Common.{refl, sym, ap, ◌∙◌, arith, eqb, zero, suc}
 use Rattle.std.proofs.lemmas.List.{get_or-map}
 use Rattle.std.proofs.lemmas.Bool.{or_left, eq-eqb}
-use Rattle.ev_graph.specs.Sets.{is_member, ascends}
-use Rattle.ev_graph.specs.Reached.{IsReach}
-use Rattle.ev_graph.specs.Table.{IncidenceValue, IsIncidence, wiring_of}
-use Rattle.ev_graph.proofs.Occurrences.{in_transposed}
+use Rattle.ev_incidence.specs.Sets.{is_member, ascends}
+use Rattle.ev_incidence.specs.Reached.{IsReach}
+use Rattle.ev_incidence.specs.Table.{IncidenceValue, IsIncidence, wiring_of}
+use Rattle.ev_incidence.proofs.Occurrences.{in_transposed}
 use Rattle.dx_live.specs.Region.{IsLocalTable, IsRegionOf}
 
 -- a list in order, of the same members

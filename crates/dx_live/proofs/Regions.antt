@@ -12,14 +12,14 @@ use Rattle.std.proofs.lemmas.Bool.{or_right, eqb-true, eq-eqb, ne_eqb, ltb-true,
 use Rattle.std.proofs.lemmas.Bool.{le-leb}
 use Rattle.std.proofs.lemmas.Bool.{cond-true, cond-false, false≢true, both_ways, not-true}
 use Rattle.std.proofs.lemmas.Bool.{not_from_false}
-use Rattle.ev_graph.specs.Sets.{NodeSet, is_member, IsSubset, ascends}
-use Rattle.ev_graph.specs.Wiring.{Wiring}
-use Rattle.ev_graph.specs.Table.{row_at}
+use Rattle.ev_incidence.specs.Sets.{NodeSet, is_member, IsSubset, ascends}
+use Rattle.ev_incidence.specs.Wiring.{Wiring}
+use Rattle.ev_incidence.specs.Table.{row_at}
 use Rattle.ev_graph.specs.Cutting.{without}
-use Rattle.ev_graph.proofs.Ascending.{rises}
-use Rattle.ev_graph.proofs.Occurrences.{in_at, place_in, in_filter, filter_in, filter_yes}
-use Rattle.ev_graph.proofs.Occurrences.{filter_no}
-use Rattle.ev_graph.proofs.Occurrences.{row_in_range}
+use Rattle.ev_incidence.proofs.Ascending.{rises}
+use Rattle.ev_incidence.proofs.Occurrences.{in_at, place_in, in_filter, filter_in, filter_yes}
+use Rattle.ev_incidence.proofs.Occurrences.{filter_no}
+use Rattle.ev_incidence.proofs.Occurrences.{row_in_range}
 use Rattle.dx_sets.specs.Fit.{IsFit}
 use Rattle.dx_sets.specs.Engine.{CutsOf, uncut, wiring_cut}
 use Rattle.dx_live.specs.Region.{RegionValue, IsRegionOf, local, lifted}
@@ -105,7 +105,8 @@ count_kept X R (x ∷ xs) h =
       away : (y : ℕ) → R y ≡ false → X y ≡ false
       away y f = elim (cases_Bool (X y)) [ inl t ↦ absurd (both_ways (R y) f (h y t)) | inr n ↦ n ]
 
-pub some_counted : (X : NodeSet) (xs : List ℕ) → 0 < count_by X xs → (x : ℕ) × (is_member xs x ≡ true)
+pub some_counted : (X : NodeSet) (xs : List ℕ) → 0 < count_by X xs
+    → (x : ℕ) × (is_member xs x ≡ true)
     × (X x ≡ true)
 some_counted X [] h = absurd (omega (arith, h))
 some_counted X (x ∷ xs) h = elim (cases_Bool (X x)) [

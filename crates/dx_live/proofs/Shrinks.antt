@@ -6,9 +6,9 @@ use Rattle.std.proofs.Common.{inr, arith}
 use Rattle.std.proofs.lemmas.Bool.{both_ways, and_parts, and_from, or_cases}
 use Rattle.std.proofs.lemmas.Bool.{or_left, or_right, not-true, not_from_false}
 use Rattle.std.proofs.lemmas.Bool.{eq-eqb, ne_eqb, false_from_ne_true}
-use Rattle.ev_graph.specs.Sets.{NodeSet, is_member, has_mark, IsSubset, ascends}
+use Rattle.ev_incidence.specs.Sets.{NodeSet, is_member, has_mark, IsSubset, ascends}
 use Rattle.ev_graph.specs.Kinds.{is_report_node}
-use Rattle.ev_graph.specs.Table.{IncidenceValue, row_at}
+use Rattle.ev_incidence.specs.Table.{IncidenceValue, row_at}
 use Rattle.ev_graph.specs.Lawful.{GraphValue, IsGraph}
 use Rattle.dx_sets.specs.Fit.{IsFit}
 use Rattle.dx_sets.specs.Sets.{SetsValue, removed, sum_below}

@@ -8,10 +8,10 @@ use Rattle.std.proofs.lemmas.List.{length-append, length-replicate, get_or_past,
 use Rattle.std.proofs.lemmas.List.{get_or_append_left, length_push}
 use Rattle.std.proofs.lemmas.List.Sums.{sum_by-cons}
 use Rattle.std.proofs.lemmas.Bool.{cases_lt, cases_eq, cond-true}
-use Rattle.ev_graph.specs.Sets.{NodeSet, is_member, occurs}
-use Rattle.ev_graph.specs.Table.{row_at, IncidenceValue, IsIncidence, IsTranspose}
+use Rattle.ev_incidence.specs.Sets.{NodeSet, is_member, occurs}
+use Rattle.ev_incidence.specs.Table.{row_at, IncidenceValue, IsIncidence, IsTranspose}
 use Rattle.ev_graph.specs.Lawful.{GraphValue, IsIncidenceOf}
-use Rattle.ev_graph.proofs.Occurrences.{transposed_in, row_in_range}
+use Rattle.ev_incidence.proofs.Occurrences.{transposed_in, row_in_range}
 use Rattle.dx_sets.specs.Sets.{SetsValue, sum_below, sum_held}
 use Rattle.dx_sets.specs.Engine.{CutsOf, cost}
 use Rattle.dx_sets.proofs.Sums.{sum_below_same}

@@ -2,9 +2,9 @@
 use Rattle.std.proofs.Common.{◌≡◌, ◌+◌, ◌<◌, ◌^◌, ℕ, suc, true, List, [], ◌∷◌, length, map}
 use Rattle.std.proofs.Common.{get_or, eqb, refl, sym, ap, subst, ◌∙◌, arith}
 use Rattle.std.proofs.lemmas.Bool.{or_left, or_right, eq-eqb}
-use Rattle.ev_graph.specs.Sets.{is_member, ascends}
-use Rattle.ev_graph.specs.Table.{row_at, IncidenceValue, IsIncidence, wiring_of}
-use Rattle.ev_graph.proofs.Occurrences.{in_at, place_in, in_transposed, row_in_range}
+use Rattle.ev_incidence.specs.Sets.{is_member, ascends}
+use Rattle.ev_incidence.specs.Table.{row_at, IncidenceValue, IsIncidence, wiring_of}
+use Rattle.ev_incidence.proofs.Occurrences.{in_at, place_in, in_transposed, row_in_range}
 use Rattle.dx_live.specs.Region.{AreNumbersBelow, IsLocalRow, IsLocalTable, IsPartOf, IsRegionOf}
 use Rattle.dx_live.proofs.Ordered.{strict_ascends}
 use Rattle.dx_live.proofs.Regions.{filter_all}

@@ -2,8 +2,8 @@
 use Rattle.std.specs.Prelude.{◌≡◌, ◌==◌, ◌&&◌, ◌||◌, ◌+◌, ◌<◌, ℕ, suc, Bool, true, List, [], ◌∷◌}
 use Rattle.std.specs.Prelude.{length}
 use Rattle.std.specs.Prelude.{slice_index, if◌then◌else◌}
-use Rattle.ev_graph.specs.Sets.{is_member, has_mark, ascends, IsSubset}
-use Rattle.ev_graph.specs.Table.{row_at, IncidenceValue}
+use Rattle.ev_incidence.specs.Sets.{is_member, has_mark, ascends, IsSubset}
+use Rattle.ev_incidence.specs.Table.{row_at, IncidenceValue}
 use Rattle.ev_graph.specs.declared.instances.Link.{Link}
 use Rattle.dx_sets.specs.Sets.{SetsValue}
 use Rattle.dx_sets.specs.Engine.{CutsOf, IsSteady, KeepsFit, wiring_cut}

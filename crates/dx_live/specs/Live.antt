@@ -1,14 +1,14 @@
 -- The set of one root, what was cut of the graph, and what a step may still look at.
 use Rattle.std.specs.Prelude.{◌≡◌, ◌==◌, ◌&&◌, ◌||◌, ◌++◌, ◌∷◌, ◌<◌, [], not, ℕ, zero, suc, true}
 use Rattle.std.specs.Prelude.{false, nat_lt, List, length, map, replicate, slice_index}
-use Rattle.ev_graph.specs.Sets.{NodeSet, has_mark, occurs, IsSubset}
+use Rattle.ev_incidence.specs.Sets.{NodeSet, has_mark, occurs, IsSubset}
 use Rattle.ev_graph.specs.Kinds.{is_root_node}
-use Rattle.ev_graph.specs.Wiring.{wiring}
+use Rattle.ev_graph.specs.Wired.{wiring}
 use Rattle.ev_graph.specs.Lawful.{GraphValue, IsIncidenceOf}
 use Rattle.dx_sets.specs.Sets.{SetsValue}
 use Rattle.dx_sets.specs.Fit.{IsFit}
 use Rattle.dx_sets.specs.Engine.{CutsOf, IsSteady, wiring_cut, cost}
-use Rattle.ev_graph.specs.Table.{IncidenceValue}
+use Rattle.ev_incidence.specs.Table.{IncidenceValue}
 use Rattle.dx_story.specs.Greatest.{IsAllowedStory, IsGreatestStory}
 use Rattle.ev_graph.specs.declared.instances.Link.{Link}
 use Rattle.dx_live.specs.Region.{KeptRegion, RegionValue, IsRegionOf, AreLocalCuts, lifted}

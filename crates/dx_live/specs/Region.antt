@@ -3,9 +3,9 @@ use Rattle.std.specs.Prelude.{◌≡◌, ◌==◌, ◌&&◌, ◌<◌, ◌^◌, �
 use Rattle.std.specs.Prelude.{List, [], ◌∷◌, length, map, slice_index, if◌then◌else◌}
 use Rattle.std.specs.Prelude.{Option, Some, None}
 use Rattle.std.specs.List.{filter}
-use Rattle.ev_graph.specs.Sets.{NodeSet, is_member, ascends}
-use Rattle.ev_graph.specs.Wiring.{Wiring, IsCauseOf}
-use Rattle.ev_graph.specs.Table.{row_at, IncidenceValue, IsIncidence}
+use Rattle.ev_incidence.specs.Sets.{NodeSet, is_member, ascends}
+use Rattle.ev_incidence.specs.Wiring.{Wiring, IsCauseOf}
+use Rattle.ev_incidence.specs.Table.{row_at, IncidenceValue, IsIncidence}
 use Rattle.ev_graph.specs.declared.instances.Link.{Link}
 use Rattle.dx_sets.specs.Engine.{CutsOf}
 

@@ -2,11 +2,12 @@
 
 ghost use Rattle.std.specs.Prelude.{◌≡◌, ◌==◌, ◌&&◌, ◌||◌, ◌+◌, ◌<◌, ◌^◌, ℕ, true, false, None};
 ghost use Rattle.std.specs.Prelude.{length, slice_set, IfOk, IfSome};
-ghost use Rattle.ev_graph.specs.Sets.{is_member, has_mark, ascends};
+ghost use Rattle.ev_incidence.specs.Sets.{is_member, has_mark, ascends};
 ghost use Rattle.dx_live.specs.Cuts.{CutsValue, mark_place, cut_at, AreStarts, AreAscending};
 
 use crate::region::{number_at, place_among};
-use ev_graph::{CutTest, Incidence, NoMemory};
+use ev_graph::{CutTest, NoMemory};
+use ev_incidence::Incidence;
 use smallvec::SmallVec;
 use std::alloc::Global;
 use std::marker::Model;
@@ -24,7 +25,7 @@ pub struct Cuts {
 
 impl Model for Cuts {
     ghost use Rattle.std.specs.Prelude.{◌≡◌, ℕ, false};
-    ghost use Rattle.ev_graph.specs.Sets.{has_mark};
+    ghost use Rattle.ev_incidence.specs.Sets.{has_mark};
     ghost use Rattle.dx_live.specs.Cuts.{CutsValue};
 
     ghost Value = { CutsValue };

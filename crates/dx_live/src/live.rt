@@ -2,9 +2,9 @@
 
 ghost use Rattle.std.specs.Prelude.{◌≡◌, ◌+◌, ◌*◌, ◌<◌, ◌≤◌, [], ℕ, true, false, length, IfOk};
 ghost use Rattle.std.specs.Prelude.{◌^◌, nat_lt, slice_index, IfSome, None};
-ghost use Rattle.ev_graph.specs.Sets.{NodeSet, has_mark, is_member, ascends};
+ghost use Rattle.ev_incidence.specs.Sets.{NodeSet, has_mark, is_member, ascends};
 ghost use Rattle.ev_graph.specs.Kinds.{is_root_node, is_report_node};
-ghost use Rattle.ev_graph.specs.Table.{row_at, IsIncidence};
+ghost use Rattle.ev_incidence.specs.Table.{row_at, IsIncidence};
 ghost use Rattle.ev_graph.specs.Lawful.{links};
 ghost use Rattle.dx_sets.specs.Sets.{removed};
 ghost use Rattle.dx_sets.specs.Engine.{CutsOf, IsSteady, SettlesTo, cost};
@@ -16,7 +16,8 @@ ghost use Rattle.dx_live.specs.Live.{all_allowed, all_but, cut_with, IsWhole, Be
 use crate::cuts::{Cuts, LocalCuts, NoneCut};
 use crate::region::{Region, place_among};
 use dx_sets::{Sets, Steps, begin, fill, lose_link, settle};
-use ev_graph::{CutTest, Graph, Incidence, Link, NoMemory};
+use ev_graph::{CutTest, Graph, Link, NoMemory};
+use ev_incidence::Incidence;
 use std::alloc::Global;
 use std::marker::Model;
 use std::sync::ledger::Ledger;
@@ -34,7 +35,7 @@ pub struct Live {
 
 impl Model for Live {
     ghost use Rattle.std.specs.Prelude.{◌≡◌, ◌<◌, true, length};
-    ghost use Rattle.ev_graph.specs.Sets.{ascends};
+    ghost use Rattle.ev_incidence.specs.Sets.{ascends};
     ghost use Rattle.dx_live.specs.Live.{LiveValue};
 
     ghost Value = { LiveValue };

@@ -2,13 +2,14 @@
 
 ghost use Rattle.std.specs.Prelude.{◌≡◌, ◌<◌, ◌≤◌, ◌^◌, ℕ, true, map, length, slice_index, IfOk};
 ghost use Rattle.std.specs.Prelude.{◌==◌, ◌&&◌, IfSome, None, OnOk, false, nat_lt};
-ghost use Rattle.ev_graph.specs.Sets.{is_member, ascends};
-ghost use Rattle.ev_graph.specs.Table.{IsIncidence, wiring_of};
+ghost use Rattle.ev_incidence.specs.Sets.{is_member, ascends};
+ghost use Rattle.ev_incidence.specs.Table.{IsIncidence, wiring_of};
 ghost use Rattle.dx_live.specs.Region.{IsLocalRow, AreLocalRows, IsLocalTable, IsRegionOf};
 ghost use Rattle.dx_live.specs.Region.{IsPartOf, AreNumbersBelow, IsWholeOf};
 ghost use Rattle.dx_live.specs.Region.{table_over, region_over};
 
-use ev_graph::{Incidence, Marked, NoMemory, Rows, search};
+use ev_graph::NoMemory;
+use ev_incidence::{Incidence, Marked, Rows, search};
 use std::alloc::Global;
 use std::marker::Model;
 use std::sync::Arc;
@@ -31,7 +32,7 @@ impl Model for Part {
     ghost Value = { KeptRegion };
 
     ghost use Rattle.std.specs.Prelude.{◌≡◌, ◌<◌, ◌^◌, true, length};
-    ghost use Rattle.ev_graph.specs.Sets.{ascends};
+    ghost use Rattle.ev_incidence.specs.Sets.{ascends};
 
     ghost view = { λ p. record {
       nodes = p.nodes.items;

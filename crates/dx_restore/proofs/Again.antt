@@ -11,7 +11,7 @@ use Rattle.std.proofs.lemmas.List.Elements.{All-push}
 use Rattle.fm_core.specs.Meaning.{OpenCase, Diagnosis}
 use Rattle.ev_graph.specs.Lawful.{GraphValue, has_engine_limits}
 use Rattle.ev_graph.specs.Kinds.{is_report_node}
-use Rattle.ev_graph.specs.Sets.{ascends, ascends_by}
+use Rattle.ev_incidence.specs.Sets.{ascends, ascends_by}
 use Rattle.ev_graph.specs.declared.nodes.EngineSpec.{EngineSpec}
 use Rattle.fm_entry.specs.Words.{is_link_before}
 use Rattle.dx_serd.specs.Rates.{IsLimited, are_kept, none_past}

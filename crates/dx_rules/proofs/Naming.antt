@@ -12,7 +12,7 @@ use Rattle.std.proofs.lemmas.Bool.{false≢true, lt-ltb, and_parts, cases_lt}
 use Rattle.std.proofs.lemmas.Bool.Decides.{nat_tests}
 use Rattle.fm_name.specs.Events.{event_cmp, event_eq, event_cmp_total, event_cmp_ties, event_tie}
 use Rattle.fm_name.specs.declared.events.EventName.{EventName}
-use Rattle.ev_graph.specs.Sets.{ascends_by}
+use Rattle.ev_incidence.specs.Sets.{ascends_by}
 use Rattle.ev_graph.specs.Kinds.{is_report_kind}
 use Rattle.ev_graph.specs.Lawful.{GraphValue, IsGraph, is_before_node}
 use Rattle.ev_graph.specs.declared.nodes.Node.{Node}
@@ -118,6 +118,7 @@ report_found g name (Some at) graph h =
       | None ↦ λ is f. absurd (false≢true f)
       | Some n ↦ λ is f. sym (place_at test g.nodes at
           (one_passes test g.nodes at n is f
-          (λ i m e t. same_place g.nodes i at m n up e is (name_of name m t ∙ sym (name_of name n f))))
+          (λ i m e t. same_place g.nodes i at m n up e is
+          (name_of name m t ∙ sym (name_of name n f))))
           (low_at g.nodes at n is))
     ] refl h

@@ -4,10 +4,10 @@
 //! `Rules` of dx_state: a single configuration of some number, which is of no list, or a list in
 //! which configurations are numbered from 0. A [`Ruled`] is one configuration (`ruled_of`).
 //!
-//! A configuration has guards of the links that payloads can break, or none where they can break
-//! no link; and it keeps the [`Classes`] of its graph's reports and a [`ReportIndex`] of them, which
-//! its meaning leaves out. Contracts see the `Guards` of a graph as a `GuardsValue` (ev_guards) and a
-//! payload as its `Pairs` (fm_nv): `guarding_of` makes of the guards what dx_state says of a
+//! A configuration has guards of the links that payloads can break, or none where they can break no
+//! link; and it keeps the [`Classes`] of its graph's reports and a [`ReportIndex`] of them, which
+//! its meaning leaves out. Contracts see the `Guards` of a graph as a `GuardsValue` (ev_guards) and
+//! a payload as its `Pairs` (fm_nv): `guarding_of` makes of the guards what dx_state says of a
 //! configuration, which links payloads can break and which of them a payload breaks
 //! (`specs/Payloads`).
 //!

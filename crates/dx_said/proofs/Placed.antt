@@ -9,7 +9,7 @@ use Rattle.std.specs.List.Sorted.{IsPartitionedBy}
 use Rattle.std.proofs.lemmas.Bool.{and_parts}
 use Rattle.std.proofs.lemmas.Bool.Decides.{nat_tests}
 use Rattle.fm_entry.specs.declared.list_event.ListEvent.{ListEvent}
-use Rattle.ev_graph.specs.Sets.{ascends}
+use Rattle.ev_incidence.specs.Sets.{ascends}
 use Rattle.dx_state.specs.LawfulState.{solved_numbers}
 use Rattle.dx_state.proofs.Lists.{is_strict, strict_of, ascends_of}
 use Rattle.dx_step.proofs.Parts.{inserted_strict}

@@ -2,7 +2,7 @@
 
 ghost use Rattle.std.specs.Prelude.{◌≡◌, ◌+◌, ◌<◌, ◌≤◌, OnOk, OnErr, IsTrue};
 ghost use Rattle.std.specs.Prelude.{vec_len, vec_capacity};
-ghost use Rattle.ev_graph.specs.Sets.{ascends};
+ghost use Rattle.ev_incidence.specs.Sets.{ascends};
 ghost use Rattle.dx_state.specs.LawfulState.{solved_numbers};
 ghost use Rattle.dx_step.specs.Said.{with_last_word};
 ghost use Rattle.dx_said.specs.Making.{IsPlace, with_words};

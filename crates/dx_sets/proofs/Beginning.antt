@@ -5,9 +5,9 @@ use Rattle.std.proofs.Common.{subst, ◌∙◌, arith, inl, inr}
 use Rattle.std.proofs.lemmas.Bool.{cases_lt, cases_eq, cases_Bool, and_parts, and_from, and_right}
 use Rattle.std.proofs.lemmas.Bool.{eqb-true, eq-eqb, ne_eqb, ltb-true, lt-ltb, both_ways, not-true}
 use Rattle.std.proofs.lemmas.Bool.{not_from_false, not_from_true}
-use Rattle.ev_graph.specs.Sets.{NodeSet, is_member, has_mark}
-use Rattle.ev_graph.specs.Table.{row_at, IncidenceValue, IsIncidence}
-use Rattle.ev_graph.proofs.Occurrences.{row_in_range}
+use Rattle.ev_incidence.specs.Sets.{NodeSet, is_member, has_mark}
+use Rattle.ev_incidence.specs.Table.{row_at, IncidenceValue, IsIncidence}
+use Rattle.ev_incidence.proofs.Occurrences.{row_in_range}
 use Rattle.dx_sets.specs.Sets.{SetsValue, removed, Moves}
 use Rattle.dx_sets.specs.Engine.{CutsOf, uncut, wiring_cut, supports, AreExact, AreGiven}
 use Rattle.dx_sets.specs.Engine.{AreMet, AreMetBelow, KeepsFit, IsOnWay, CausesLeave, HaveLeftBelow}

@@ -5,11 +5,11 @@ use Rattle.std.specs.List.{count_by, filter}
 use Rattle.std.proofs.lemmas.List.Sums.{sum_by-cons}
 use Rattle.std.proofs.lemmas.Bool.{cases_Bool, and_parts, and_from, or_cases, or_left, or_right}
 use Rattle.std.proofs.lemmas.Bool.{both_ways, le-leb, leb-true, not-true, not_from_false}
-use Rattle.ev_graph.specs.Sets.{NodeSet, is_member, IsSubset}
-use Rattle.ev_graph.specs.Wiring.{Wiring}
+use Rattle.ev_incidence.specs.Sets.{NodeSet, is_member, IsSubset}
+use Rattle.ev_incidence.specs.Wiring.{Wiring}
 use Rattle.ev_graph.specs.Rules.{IsProduced, IsShown}
 use Rattle.ev_graph.specs.Cutting.{without}
-use Rattle.ev_graph.proofs.Occurrences.{filter_yes, filter_no, filter_in, in_filter}
+use Rattle.ev_incidence.proofs.Occurrences.{filter_yes, filter_no, filter_in, in_filter}
 use Rattle.dx_sets.specs.Fit.{IsFit}
 use Rattle.dx_sets.specs.Engine.{CutsOf, CutsWithin}
 

@@ -8,10 +8,10 @@ use Rattle.std.proofs.lemmas.Bool.{cases_eq, cases_Bool, and_parts, and_from}
 use Rattle.std.proofs.lemmas.Bool.{or_left, or_right, eq-eqb, ne_eqb, leb-true}
 use Rattle.std.proofs.lemmas.Bool.{le-leb, cond-true, cond-false}
 use Rattle.std.proofs.lemmas.Bool.{not_from_false}
-use Rattle.ev_graph.specs.Sets.{NodeSet, is_member, has_mark, occurs, IsSubset}
-use Rattle.ev_graph.specs.Table.{row_at, IncidenceValue, IsIncidence}
-use Rattle.ev_graph.proofs.Occurrences.{occurs-cons, in_occurs, row_in_range}
-use Rattle.ev_graph.proofs.Occurrences.{in_transposed, transposed_in, filter_in, occurs_filter}
+use Rattle.ev_incidence.specs.Sets.{NodeSet, is_member, has_mark, occurs, IsSubset}
+use Rattle.ev_incidence.specs.Table.{row_at, IncidenceValue, IsIncidence}
+use Rattle.ev_incidence.proofs.Occurrences.{occurs-cons, in_occurs, row_in_range}
+use Rattle.ev_incidence.proofs.Occurrences.{in_transposed, transposed_in, filter_in, occurs_filter}
 use Rattle.dx_sets.specs.Fit.{IsFit, IsGreatestFit}
 use Rattle.dx_sets.specs.Sets.{SetsValue, weight, sum_below}
 use Rattle.dx_sets.specs.Engine.{CutsOf, uncut, wiring_cut, AreSized, AreExact}

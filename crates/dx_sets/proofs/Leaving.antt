@@ -6,7 +6,7 @@ use Rattle.std.specs.List.{sum_by, count_by}
 use Rattle.std.proofs.lemmas.List.{get_or_past, length-set}
 use Rattle.std.proofs.lemmas.List.Sums.{sum_by_push, sum_by-cons}
 use Rattle.std.proofs.lemmas.Bool.{cases_lt, cases_eq, cases_Bool, false≢true}
-use Rattle.ev_graph.specs.Sets.{has_mark, occurs}
+use Rattle.ev_incidence.specs.Sets.{has_mark, occurs}
 use Rattle.dx_sets.specs.Sets.{SetsValue, removed, weight, sum_held, sum_below, Moves}
 use Rattle.dx_sets.proofs.Sums.{count_unmark, sum_unmark}
 

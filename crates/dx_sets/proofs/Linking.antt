@@ -6,11 +6,12 @@ use Rattle.std.specs.List.{count_by, filter, sum_by}
 use Rattle.std.proofs.lemmas.List.Sums.{sum_by-cons}
 use Rattle.std.proofs.lemmas.Bool.{cases_eq, cases_Bool, eq-eqb, ne_eqb, cond-true, cond-false}
 use Rattle.std.proofs.lemmas.Bool.{le-leb, lt-leb, not_from_false, not_from_true}
-use Rattle.ev_graph.specs.Sets.{NodeSet, is_member, has_mark, occurs}
-use Rattle.ev_graph.specs.Table.{row_at, IncidenceValue}
+use Rattle.ev_incidence.specs.Sets.{NodeSet, is_member, has_mark, occurs}
+use Rattle.ev_incidence.specs.Table.{row_at, IncidenceValue}
 use Rattle.ev_graph.specs.declared.instances.Link.{Link}
-use Rattle.ev_graph.proofs.Occurrences.{occurs-cons, in_occurs, filter_yes, filter_no, filter_in}
-use Rattle.ev_graph.proofs.Occurrences.{in_transposed, row_in_range}
+use Rattle.ev_incidence.proofs.Occurrences.{occurs-cons, in_occurs, filter_yes, filter_no}
+use Rattle.ev_incidence.proofs.Occurrences.{filter_in}
+use Rattle.ev_incidence.proofs.Occurrences.{in_transposed, row_in_range}
 use Rattle.dx_sets.specs.Sets.{SetsValue, weight, sum_below}
 use Rattle.dx_sets.specs.Engine.{CutsOf, uncut, supports, AreExact}
 use Rattle.dx_sets.specs.Engine.{AreMet, cost, giver_lost, IsPaying, CausesLeave, IsOnWay}

@@ -5,9 +5,9 @@ use Rattle.std.proofs.Common.{List, length, get_or, drop, refl, sym, ap, subst, 
 use Rattle.std.specs.List.{filter}
 use Rattle.std.proofs.lemmas.List.{at_drop_more}
 use Rattle.std.proofs.lemmas.Bool.{not_from_false}
-use Rattle.ev_graph.specs.Sets.{has_mark}
-use Rattle.ev_graph.specs.Table.{row_at, IncidenceValue, IsIncidence}
-use Rattle.ev_graph.proofs.Occurrences.{in_at, transposed_in, row_in_range}
+use Rattle.ev_incidence.specs.Sets.{has_mark}
+use Rattle.ev_incidence.specs.Table.{row_at, IncidenceValue, IsIncidence}
+use Rattle.ev_incidence.proofs.Occurrences.{in_at, transposed_in, row_in_range}
 use Rattle.dx_sets.specs.Sets.{SetsValue}
 use Rattle.dx_sets.specs.Engine.{CutsOf, uncut_gets, wiring_cut, AreExact, AreGiven, AreMet}
 use Rattle.dx_sets.specs.Engine.{KeepsFit, IsOnWay, IsOwed, IsPaying, CausesLeave, IsLooking, cost}

@@ -10,10 +10,10 @@ use Rattle.std.proofs.lemmas.Bool.{cases_lt, cases_eq, cases_Bool, and_parts, an
 use Rattle.std.proofs.lemmas.Bool.{or_parts, eqb-true, eq-eqb, ne_eqb, leb-true, le-leb, lt-leb}
 use Rattle.std.proofs.lemmas.Bool.{cond-true, cond-false, false≢true, both_ways}
 use Rattle.std.proofs.lemmas.Bool.{not_from_false, not-true}
-use Rattle.ev_graph.specs.Sets.{NodeSet, is_member, has_mark, occurs, IsSubset}
-use Rattle.ev_graph.specs.Table.{row_at, IncidenceValue, IsIncidence}
-use Rattle.ev_graph.proofs.Occurrences.{occurs-cons, occurs_in}
-use Rattle.ev_graph.proofs.Occurrences.{count_within, occurs_filter}
+use Rattle.ev_incidence.specs.Sets.{NodeSet, is_member, has_mark, occurs, IsSubset}
+use Rattle.ev_incidence.specs.Table.{row_at, IncidenceValue, IsIncidence}
+use Rattle.ev_incidence.proofs.Occurrences.{occurs-cons, occurs_in}
+use Rattle.ev_incidence.proofs.Occurrences.{count_within, occurs_filter}
 use Rattle.dx_sets.specs.Fit.{IsFit}
 use Rattle.dx_sets.specs.Sets.{SetsValue, removed, weight, sum_held, sum_below, Moves}
 use Rattle.dx_sets.specs.Engine.{CutsOf, uncut, wiring_cut, supports, AreSized, AreExact, AreGiven}

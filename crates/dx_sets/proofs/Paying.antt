@@ -5,10 +5,11 @@ use Rattle.std.proofs.Common.{get_or, drop, refl, ap, ◌∙◌, arith}
 use Rattle.std.specs.List.{filter}
 use Rattle.std.proofs.lemmas.List.{at_drop_more}
 use Rattle.std.proofs.lemmas.Bool.{cond-true, eq-eqb, not_from_false}
-use Rattle.ev_graph.specs.Sets.{occurs}
-use Rattle.ev_graph.specs.Table.{row_at, IncidenceValue}
-use Rattle.ev_graph.proofs.Occurrences.{occurs-cons, filter_yes, filter_no, in_at, in_transposed}
-use Rattle.ev_graph.proofs.Occurrences.{row_in_range}
+use Rattle.ev_incidence.specs.Sets.{occurs}
+use Rattle.ev_incidence.specs.Table.{row_at, IncidenceValue}
+use Rattle.ev_incidence.proofs.Occurrences.{occurs-cons, filter_yes, filter_no, in_at}
+use Rattle.ev_incidence.proofs.Occurrences.{in_transposed}
+use Rattle.ev_incidence.proofs.Occurrences.{row_in_range}
 use Rattle.dx_sets.specs.Sets.{SetsValue}
 use Rattle.dx_sets.specs.Engine.{CutsOf, giver_lost, IsOwed, IsPaying}
 use Rattle.dx_sets.proofs.Losing.{paid_one, paying_same}

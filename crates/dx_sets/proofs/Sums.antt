@@ -5,8 +5,8 @@ use Rattle.std.proofs.Common.{arith, inl, inr, get_or-set_same, get_or-set_other
 use Rattle.std.specs.List.{count_by}
 use Rattle.std.proofs.lemmas.List.Sums.{sum_by-cons}
 use Rattle.std.proofs.lemmas.Bool.{cases_lt, cases_eq, cond-true, cond-false, eq-eqb, ne_eqb}
-use Rattle.ev_graph.specs.Sets.{has_mark, occurs}
-use Rattle.ev_graph.proofs.Occurrences.{occurs-cons}
+use Rattle.ev_incidence.specs.Sets.{has_mark, occurs}
+use Rattle.ev_incidence.proofs.Occurrences.{occurs-cons}
 use Rattle.dx_sets.specs.Sets.{sum_below}
 
 pub sum_below_same : (n : ℕ) (f g : ℕ → ℕ) → ((i : ℕ) → i < n → f i ≡ g i)

@@ -4,9 +4,9 @@ use Rattle.std.specs.Prelude.{nat_lt}
 use Rattle.std.specs.Prelude.{false, cond, List}
 use Rattle.std.specs.Prelude.{length, slice_index, slice_set}
 use Rattle.std.specs.List.{filter, count_by}
-use Rattle.ev_graph.specs.Sets.{NodeSet, is_member, has_mark, occurs, IsSubset}
-use Rattle.ev_graph.specs.Wiring.{Wiring}
-use Rattle.ev_graph.specs.Table.{row_at, IncidenceValue, IsIncidence, wiring_of}
+use Rattle.ev_incidence.specs.Sets.{NodeSet, is_member, has_mark, occurs, IsSubset}
+use Rattle.ev_incidence.specs.Wiring.{Wiring}
+use Rattle.ev_incidence.specs.Table.{row_at, IncidenceValue, IsIncidence, wiring_of}
 use Rattle.ev_graph.specs.Cutting.{without}
 use Rattle.dx_sets.specs.Fit.{IsFit}
 use Rattle.dx_sets.specs.Sets.{SetsValue, removed, weight, sum_held, sum_below, Moves}

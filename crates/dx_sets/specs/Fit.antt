@@ -1,7 +1,7 @@
 -- Sets whose members are caused and shown, and the greatest of them.
 use Rattle.std.specs.Prelude.{◌≡◌, ℕ, true}
-use Rattle.ev_graph.specs.Sets.{NodeSet, IsSubset}
-use Rattle.ev_graph.specs.Wiring.{Wiring}
+use Rattle.ev_incidence.specs.Sets.{NodeSet, IsSubset}
+use Rattle.ev_incidence.specs.Wiring.{Wiring}
 use Rattle.ev_graph.specs.Rules.{IsProduced, IsShown}
 
 -- each member other than the root is caused, and each is shown

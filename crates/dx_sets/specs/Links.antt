@@ -1,7 +1,7 @@
 -- A link that is cut.
 use Rattle.std.specs.Prelude.{◌≡◌, ◌==◌, ◌&&◌, ◌||◌, ◌+◌, ◌-◌, ◌⊎◌, [], ℕ, length, slice_index}
 use Rattle.std.specs.Prelude.{slice_set}
-use Rattle.ev_graph.specs.Table.{row_at, IncidenceValue}
+use Rattle.ev_incidence.specs.Table.{row_at, IncidenceValue}
 use Rattle.ev_graph.specs.declared.instances.Link.{Link}
 use Rattle.dx_sets.specs.Sets.{SetsValue}
 use Rattle.dx_sets.specs.Engine.{CutsOf, IsPaying, CausesLeave, IsSteady, IsOnWay}

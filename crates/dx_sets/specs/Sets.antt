@@ -2,7 +2,7 @@
 use Rattle.std.specs.Prelude.{◌≡◌, ◌+◌, ◌++◌, ◌∷◌, [], ℕ, zero, suc, Bool, false}
 use Rattle.std.specs.Prelude.{cond, List, length, slice_set}
 use Rattle.std.specs.List.{count_by, sum_by}
-use Rattle.ev_graph.specs.Sets.{has_mark, occurs, IsSubset}
+use Rattle.ev_incidence.specs.Sets.{has_mark, occurs, IsSubset}
 
 -- The set, by marks; what has left it and is not yet looked at; for each instance how many causes
 -- and effects are in the set or not yet looked at; for each node how many instances give it.

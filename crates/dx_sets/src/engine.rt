@@ -2,7 +2,7 @@
 //! gave and what it showed.
 
 ghost use Rattle.std.specs.Prelude.{◌≡◌, ◌+◌, ◌<◌, [], length, slice_index};
-ghost use Rattle.ev_graph.specs.Table.{row_at, IsIncidence};
+ghost use Rattle.ev_incidence.specs.Table.{row_at, IsIncidence};
 ghost use Rattle.dx_sets.specs.Engine.{uncut_gets, AreGiven, IsLooking, cost};
 ghost use Rattle.dx_sets.specs.Engine.{hangs_by_one, left_if_last, giver_lost, IsOwed, IsPaying};
 ghost use Rattle.dx_sets.specs.Engine.{CausesLeave};
@@ -10,7 +10,8 @@ ghost use Rattle.dx_sets.specs.Engine.{IsSteady, SettlesTo};
 
 use crate::sets::Sets;
 use crate::steps::Steps;
-use ev_graph::{CutTest, Incidence};
+use ev_graph::CutTest;
+use ev_incidence::Incidence;
 use std::sync::ledger::Ledger;
 
 /// Whether a node is given by one instance alone and is not the root.

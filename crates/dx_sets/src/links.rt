@@ -1,14 +1,15 @@
 //! A link that is cut: the instance gives the effect no more, and has an effect less.
 
 ghost use Rattle.std.specs.Prelude.{◌≡◌, ◌+◌, ◌<◌, [], slice_index};
-ghost use Rattle.ev_graph.specs.Sets.{occurs};
+ghost use Rattle.ev_incidence.specs.Sets.{occurs};
 ghost use Rattle.dx_sets.specs.Engine.{uncut, IsSteady, cost};
 ghost use Rattle.dx_sets.specs.Links.{GiftIsLost, EffectLeaves, LinkIsLost};
 
 use crate::engine::{lose_giver, remove_causes_of};
 use crate::sets::Sets;
 use crate::steps::Steps;
-use ev_graph::{CutTest, Incidence, Link};
+use ev_graph::{CutTest, Link};
+use ev_incidence::Incidence;
 use std::sync::ledger::Ledger;
 
 /// Where the instance gives its effects, the effect of the link has one giver fewer.

@@ -3,7 +3,7 @@
 ghost use Rattle.std.specs.Prelude.{◌≡◌, ◌+◌, ◌-◌, ◌<◌, ◌≤◌, ◌++◌, ◌∷◌, [], ℕ, true, length, cond};
 ghost use Rattle.std.specs.Prelude.{replicate, false};
 ghost use Rattle.std.specs.Prelude.{slice_index, slice_set, IfOk, IfSome, IfNone, None};
-ghost use Rattle.ev_graph.specs.Sets.{has_mark};
+ghost use Rattle.ev_incidence.specs.Sets.{has_mark};
 ghost use Rattle.dx_sets.specs.Sets.{SetsValue, removed};
 
 use ev_graph::NoMemory;

@@ -4,7 +4,7 @@
 ghost use Rattle.std.specs.Prelude.{◌≡◌, ◌<◌, [], length, not};
 ghost use Rattle.std.specs.Bool.{OnTrue};
 ghost use Rattle.std.specs.List.{count_by};
-ghost use Rattle.ev_graph.specs.Table.{row_at, IsIncidence};
+ghost use Rattle.ev_incidence.specs.Table.{row_at, IsIncidence};
 ghost use Rattle.dx_sets.specs.Engine.{uncut, AreSized, AreExact, AreGiven, IsOnWay, IsSteady};
 ghost use Rattle.dx_sets.specs.Engine.{has_enough, HaveEnough};
 ghost use Rattle.dx_sets.specs.Engine.{SettlesTo, is_giver, AreFilled, HaveCounts, is_ungiven};
@@ -12,7 +12,8 @@ ghost use Rattle.dx_sets.specs.Engine.{SettlesTo, is_giver, AreFilled, HaveCount
 use crate::engine::{remove_causes_of, settle};
 use crate::sets::Sets;
 use crate::steps::Steps;
-use ev_graph::{CutTest, Incidence};
+use ev_graph::CutTest;
+use ev_incidence::Incidence;
 use std::marker::Brand;
 use std::sync::ledger::{Blank, Ledger};
 

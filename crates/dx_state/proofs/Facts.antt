@@ -6,7 +6,7 @@ use Rattle.std.proofs.lemmas.Bool.{and_from, and_parts, leb-true, le-leb, ltb-tr
 use Rattle.fm_entry.specs.Words.{word_fits, links_ascend, event_fits}
 use Rattle.fm_entry.specs.declared.list_event.ListEvent.{ListEvent}
 use Rattle.fm_core.specs.Meaning.{OpenCase, Diagnosis}
-use Rattle.ev_graph.specs.Sets.{ascends, ascends_by}
+use Rattle.ev_incidence.specs.Sets.{ascends, ascends_by}
 use Rattle.ev_graph.specs.Kinds.{is_report_node}
 use Rattle.ev_graph.specs.Lawful.{is_before_node}
 use Rattle.dx_state.specs.Configured.{Configuration}

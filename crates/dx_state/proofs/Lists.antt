@@ -7,7 +7,7 @@ use Rattle.std.proofs.lemmas.Bool.{false≢true, and_from, and_parts}
 use Rattle.std.proofs.lemmas.Bool.Decides.{nat_tests}
 use Rattle.fm_entry.specs.declared.broken.Broken.{Broken}
 use Rattle.fm_entry.specs.Words.{is_link_before, links_ascend}
-use Rattle.ev_graph.specs.Sets.{ascends}
+use Rattle.ev_incidence.specs.Sets.{ascends}
 use Rattle.ev_graph.specs.Cutting.{is_cut}
 use Rattle.ev_graph.specs.declared.instances.Link.{Link}
 

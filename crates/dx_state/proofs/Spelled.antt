@@ -18,7 +18,7 @@ use Rattle.fm_entry.specs.WordBytes.{has_links, word_bytes, head_byte}
 use Rattle.fm_entry.specs.declared.broken.Broken.{Broken}
 use Rattle.fm_entry.specs.declared.list_event.ListEvent.{ListEvent}
 use Rattle.fm_core.specs.Meaning.{OpenCase, Diagnosis}
-use Rattle.ev_graph.specs.Sets.{is_member}
+use Rattle.ev_incidence.specs.Sets.{is_member}
 use Rattle.ev_graph.specs.Kinds.{has_kind, is_report_kind, is_report_node}
 use Rattle.ev_graph.specs.Lawful.{GraphValue, has_engine_limits}
 use Rattle.ev_graph.specs.Cutting.{is_cut}

@@ -15,7 +15,7 @@ use Rattle.fm_entry.specs.declared.list_event.ListKind.TheVariants.{Suspect as S
 use Rattle.fm_entry.specs.declared.list_event.ListKind.TheVariants.{Updated}
 use Rattle.fm_entry.specs.declared.list_event.ListEvent.{ListEvent}
 use Rattle.fm_core.specs.Meaning.{OpenCase, Diagnosis}
-use Rattle.ev_graph.specs.Sets.{ascends, ascends_by, is_member}
+use Rattle.ev_incidence.specs.Sets.{ascends, ascends_by, is_member}
 use Rattle.ev_graph.specs.Kinds.{is_report_node}
 use Rattle.ev_graph.specs.Cutting.{is_cut}
 use Rattle.ev_graph.specs.Lawful.{GraphValue, is_before_node, has_engine_limits}

@@ -7,7 +7,7 @@ use Rattle.std.specs.List.{list_all, filter}
 use Rattle.std.proofs.lemmas.Bool.{false≢true, and_from, and_parts, ltb-true, lt-ltb, eqb-true}
 use Rattle.std.proofs.lemmas.Bool.{eq-eqb}
 use Rattle.std.proofs.lemmas.List.Folds.{list_all-append, list_any-append}
-use Rattle.ev_graph.specs.Sets.{ascends, is_member}
+use Rattle.ev_incidence.specs.Sets.{ascends, is_member}
 use Rattle.ev_graph.specs.Kinds.{has_kind}
 use Rattle.ev_graph.specs.Lawful.{GraphValue}
 use Rattle.ev_graph.specs.declared.nodes.NodeKind.{NodeKind}

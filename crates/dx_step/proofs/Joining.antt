@@ -15,7 +15,7 @@ use Rattle.fm_name.specs.declared.events.EventName.{EventName}
 use Rattle.fm_entry.specs.Words.{is_link_before, links_ascend, event_fits}
 use Rattle.fm_entry.specs.declared.broken.Broken.{Broken}
 use Rattle.fm_core.specs.Meaning.{OpenCase, Diagnosis}
-use Rattle.ev_graph.specs.Sets.{ascends, is_member}
+use Rattle.ev_incidence.specs.Sets.{ascends, is_member}
 use Rattle.ev_graph.specs.Kinds.{is_report_node, is_report_kind, has_kind}
 use Rattle.ev_graph.specs.Cutting.{is_cut}
 use Rattle.ev_graph.specs.declared.nodes.Node.{Node}

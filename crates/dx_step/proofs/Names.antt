@@ -9,7 +9,7 @@ use Rattle.std.specs.declared.cmp.Ordering.TheVariants.{Less, Equal, Greater}
 use Rattle.std.proofs.lemmas.Bool.{false≢true, and_from, and_parts, ltb-true}
 use Rattle.fm_name.specs.Events.{event_cmp, event_cmp_total}
 use Rattle.fm_name.specs.declared.events.EventName.{EventName}
-use Rattle.ev_graph.specs.Sets.{ascends, ascends_by}
+use Rattle.ev_incidence.specs.Sets.{ascends, ascends_by}
 use Rattle.ev_graph.specs.Lawful.{GraphValue, is_before_node}
 use Rattle.ev_graph.specs.declared.nodes.Node.{Node}
 use Rattle.dx_state.specs.LawfulState.{events_ascend}

@@ -9,7 +9,7 @@ use Rattle.fm_entry.specs.declared.list_event.ListKind.TheVariants.{Undiagnosabl
 use Rattle.fm_entry.specs.declared.list_event.ListKind.TheVariants.{Upset as UpsetWord}
 use Rattle.fm_entry.specs.declared.list_event.ListEvent.{ListEvent}
 use Rattle.fm_core.specs.Meaning.{OpenCase}
-use Rattle.ev_graph.specs.Sets.{ascends, is_member}
+use Rattle.ev_incidence.specs.Sets.{ascends, is_member}
 use Rattle.ev_graph.specs.Kinds.{has_kind, is_report_node, is_root_kind, is_upset_kind}
 use Rattle.ev_graph.specs.Lawful.{GraphValue, IsGraph}
 use Rattle.ev_graph.specs.declared.nodes.NodeKind.{NodeKind}

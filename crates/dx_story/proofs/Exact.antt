@@ -7,16 +7,17 @@ use Rattle.std.proofs.lemmas.Bool.{cases_eq, cases_Bool, and_parts, and_from}
 use Rattle.std.proofs.lemmas.Bool.{or_cases, or_left, or_right, eqb-true, eq-eqb, lt-ltb}
 use Rattle.std.proofs.lemmas.Bool.{false≢true, both_ways, not-true, not_from_false}
 use Rattle.std.proofs.lemmas.Bool.{false_from_ne_true}
-use Rattle.ev_graph.specs.Sets.{NodeSet, is_member, ascends}
+use Rattle.ev_incidence.specs.Sets.{NodeSet, is_member, ascends}
 use Rattle.ev_graph.specs.Kinds.{is_root_node, is_report_node}
-use Rattle.ev_graph.specs.Wiring.{Wiring}
-use Rattle.ev_graph.specs.Table.{row_at, IncidenceValue, IsIncidence, wiring_of}
+use Rattle.ev_incidence.specs.Wiring.{Wiring}
+use Rattle.ev_incidence.specs.Table.{row_at, IncidenceValue, IsIncidence, wiring_of}
 use Rattle.ev_graph.specs.Cutting.{is_cut, without}
 use Rattle.ev_graph.specs.Lawful.{GraphValue, are_below, IsIncidenceOf}
 use Rattle.ev_graph.specs.declared.nodes.Node.{Node}
 use Rattle.ev_graph.specs.declared.instances.Link.{Link}
-use Rattle.ev_graph.proofs.Occurrences.{in_filter, filter_in, all_in, all_from, any_in, any_from}
-use Rattle.ev_graph.proofs.Occurrences.{in_transposed, transposed_in, place_in}
+use Rattle.ev_incidence.proofs.Occurrences.{in_filter, filter_in, all_in, all_from, any_in}
+use Rattle.ev_incidence.proofs.Occurrences.{any_from}
+use Rattle.ev_incidence.proofs.Occurrences.{in_transposed, transposed_in, place_in}
 use Rattle.ev_graph.proofs.Building.{wiring_same, below_at}
 use Rattle.ev_graph.specs.Rules.{IsProduced, IsShown}
 use Rattle.dx_story.specs.Story.{wiring_less, IsExactStory}

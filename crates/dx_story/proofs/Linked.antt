@@ -4,8 +4,8 @@ use Rattle.std.proofs.Common.{◌∙◌, Some, arith}
 use Rattle.std.specs.List.{list_all, slice_get}
 use Rattle.std.proofs.lemmas.Bool.{and_parts, and_from}
 use Rattle.std.proofs.lemmas.Option.{same_Some, slice_get_within}
-use Rattle.ev_graph.specs.Sets.{ascends_by}
-use Rattle.ev_graph.specs.Wiring.{wiring}
+use Rattle.ev_incidence.specs.Sets.{ascends_by}
+use Rattle.ev_graph.specs.Wired.{wiring}
 use Rattle.ev_graph.specs.Cutting.{AreLinks, is_before_link}
 use Rattle.ev_graph.specs.declared.instances.Instance.{Instance}
 use Rattle.ev_graph.specs.declared.instances.Link.{Link}

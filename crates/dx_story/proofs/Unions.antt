@@ -4,10 +4,10 @@ use Rattle.std.proofs.Common.{arith, inl, inr}
 use Rattle.std.specs.List.{count_by}
 use Rattle.std.proofs.lemmas.Bool.{and_parts, and_from, or_cases, or_left, or_right, le-leb}
 use Rattle.std.proofs.lemmas.Bool.{leb-true}
-use Rattle.ev_graph.specs.Sets.{NodeSet, is_member, IsSubset}
-use Rattle.ev_graph.specs.Wiring.{Wiring}
+use Rattle.ev_incidence.specs.Sets.{NodeSet, is_member, IsSubset}
+use Rattle.ev_incidence.specs.Wiring.{Wiring}
 use Rattle.ev_graph.specs.declared.nodes.Node.{Node}
-use Rattle.ev_graph.proofs.Occurrences.{count_within}
+use Rattle.ev_incidence.proofs.Occurrences.{count_within}
 use Rattle.ev_graph.specs.Rules.{IsProduced, IsShown}
 use Rattle.dx_story.specs.Story.{IsStory, union}
 

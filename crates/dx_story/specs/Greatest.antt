@@ -1,8 +1,8 @@
 -- Stories whose reports are among some, and the greatest of them.
 use Rattle.std.specs.Prelude.{◌||◌, not, ℕ, Bool, List}
-use Rattle.ev_graph.specs.Sets.{NodeSet, IsSubset}
+use Rattle.ev_incidence.specs.Sets.{NodeSet, IsSubset}
 use Rattle.ev_graph.specs.Kinds.{is_report_node}
-use Rattle.ev_graph.specs.Wiring.{wiring}
+use Rattle.ev_graph.specs.Wired.{wiring}
 use Rattle.ev_graph.specs.Cutting.{without}
 use Rattle.ev_graph.specs.Lawful.{GraphValue}
 use Rattle.ev_graph.specs.declared.nodes.Node.{Node}

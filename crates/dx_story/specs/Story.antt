@@ -1,8 +1,9 @@
 -- Stories: which sets of events one root accounts for.
 use Rattle.std.specs.Prelude.{◌≡◌, ◌<◌, ◌&&◌, ◌||◌, ℕ, true, List, length, slice_index}
-use Rattle.ev_graph.specs.Sets.{NodeSet, is_member, ascends}
+use Rattle.ev_incidence.specs.Sets.{NodeSet, is_member, ascends}
 use Rattle.ev_graph.specs.Kinds.{is_root_node, is_report_node}
-use Rattle.ev_graph.specs.Wiring.{Wiring, wiring}
+use Rattle.ev_incidence.specs.Wiring.{Wiring}
+use Rattle.ev_graph.specs.Wired.{wiring}
 use Rattle.ev_graph.specs.Rules.{IsProduced, IsShown}
 use Rattle.ev_graph.specs.Cutting.{is_cut, without}
 use Rattle.ev_graph.specs.Lawful.{GraphValue}

@@ -2,11 +2,11 @@
 use Rattle.std.specs.Prelude.{◌==◌, ◌&&◌, ◌||◌, not, ℕ, Bool, nat_le, List, slice_index}
 use Rattle.std.specs.Prelude.{slice_get}
 use Rattle.std.specs.List.{count_by, filter, list_all, list_any}
-use Rattle.ev_graph.specs.Sets.{NodeSet, is_member, ascends}
+use Rattle.ev_incidence.specs.Sets.{NodeSet, is_member, ascends}
 use Rattle.ev_graph.specs.Kinds.{is_root_node, is_report_node}
 use Rattle.ev_graph.specs.Lawful.{are_below}
-use Rattle.ev_graph.specs.Table.{row_at, IncidenceValue}
-use Rattle.ev_graph.specs.Wiring.{effects_if_any}
+use Rattle.ev_incidence.specs.Table.{row_at, IncidenceValue}
+use Rattle.ev_graph.specs.Wired.{effects_if_any}
 use Rattle.ev_graph.specs.declared.nodes.Node.{Node}
 use Rattle.ev_graph.specs.declared.instances.Instance.{Instance}
 use Rattle.ev_graph.specs.declared.instances.Link.{Link}

@@ -2,19 +2,19 @@
 
 ghost use Rattle.std.specs.Prelude.{◌≡◌, ◌==◌, ◌↔◌, ◌&&◌, ◌||◌, not, [], IsTrue, true, slice_index};
 ghost use Rattle.std.specs.List.{count_by, filter, list_all, list_any};
-ghost use Rattle.ev_graph.specs.Sets.{is_member, ascends};
+ghost use Rattle.ev_incidence.specs.Sets.{is_member, ascends};
 ghost use Rattle.ev_graph.specs.Kinds.{is_root_node, is_report_node};
-ghost use Rattle.ev_graph.specs.Table.{row_at};
-ghost use Rattle.ev_graph.specs.Wiring.{wiring};
+ghost use Rattle.ev_incidence.specs.Table.{row_at};
+ghost use Rattle.ev_graph.specs.Wired.{wiring};
 ghost use Rattle.ev_graph.specs.Cutting.{AreLinks};
 ghost use Rattle.dx_story.specs.Story.{IsExactStory};
 ghost use Rattle.dx_story.specs.Tests.{gives_at, shows_at, fits_at, are_nodes, are_reports};
 ghost use Rattle.dx_story.specs.Tests.{has_one_root};
 
 use ev_graph::{
-    CutList, CutTest, Graph, Incidence, Link, Node, are_below, ascends, contains, is_report_node,
-    is_root_node,
+    CutList, CutTest, Graph, Link, Node, are_below, ascends, contains, is_report_node, is_root_node,
 };
+use ev_incidence::Incidence;
 
 /// Whether `story` is a story of `root` in the graph whose reports are exactly `seen`, both lists
 /// ascending and in range and `seen` not empty.

@@ -2,8 +2,8 @@
 
 ghost use Rattle.std.specs.Prelude.{◌≡◌, ◌↔◌, ◌&&◌, IsTrue};
 ghost use Rattle.std.specs.List.{list_all};
-ghost use Rattle.ev_graph.specs.Sets.{ascends_by};
-ghost use Rattle.ev_graph.specs.Wiring.{wiring};
+ghost use Rattle.ev_incidence.specs.Sets.{ascends_by};
+ghost use Rattle.ev_graph.specs.Wired.{wiring};
 ghost use Rattle.ev_graph.specs.Cutting.{AreLinks, is_before_link};
 ghost use Rattle.dx_story.specs.Tests.{is_link_of};
 

@@ -5,7 +5,7 @@ use Rattle.std.specs.List.{list_any, list_all}
 use Rattle.std.proofs.lemmas.Bool.{false≢true, and_from, and_parts, or_from}
 use Rattle.fm_entry.specs.declared.suspect.Mark.{Mark}
 use Rattle.fm_entry.specs.declared.list_event.ListEvent.{ListEvent}
-use Rattle.ev_graph.specs.Sets.{ascends}
+use Rattle.ev_incidence.specs.Sets.{ascends}
 use Rattle.dx_state.specs.LawfulState.{solved_numbers}
 use Rattle.dx_state.proofs.Lists.{is_strict, strict_of, ascends_of}
 use Rattle.dx_step.specs.Said.{with_last_word}

@@ -8,7 +8,7 @@ use Rattle.std.specs.List.{All, list_all}
 use Rattle.std.proofs.lemmas.Bool.{and_parts, ltb-true, leb-true}
 use Rattle.std.proofs.lemmas.List.{take_more_set, map-append}
 use Rattle.fm_core.specs.Meaning.{OpenCase}
-use Rattle.ev_graph.specs.Sets.{ascends}
+use Rattle.ev_incidence.specs.Sets.{ascends}
 use Rattle.ev_graph.specs.declared.nodes.EngineSpec.{EngineSpec}
 use Rattle.ev_graph.specs.Kinds.{has_limits}
 use Rattle.ev_graph.specs.Lawful.{GraphValue, has_engine_limits, IsGraph}

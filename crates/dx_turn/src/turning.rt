@@ -2,7 +2,7 @@
 
 ghost use Rattle.std.specs.Prelude.{◌≡◌, IfOk, OnOk, IsTrue};
 ghost use Rattle.std.specs.List.{All};
-ghost use Rattle.ev_graph.specs.Sets.{ascends};
+ghost use Rattle.ev_incidence.specs.Sets.{ascends};
 ghost use Rattle.dx_case.specs.Starts.{AreStartsOf};
 ghost use Rattle.dx_state.specs.LawfulState.{solved_numbers};
 ghost use Rattle.dx_step.specs.Turns.{settle_all};

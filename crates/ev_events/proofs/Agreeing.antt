@@ -20,7 +20,8 @@ use Rattle.ev_join.proofs.Placings.{begun, placing_begun}
 use Rattle.ev_events.specs.Names.{iterator_at, iterator_of, Knows}
 use Rattle.ev_events.specs.Fits.{is_that, instance_bound, instance_across, fits_at, fits_part}
 use Rattle.ev_events.specs.Fits.{fit_instances}
-use Rattle.ev_events.specs.Slots.{first_place, slot_at, slot_of, slots_of, keeps, keep_all, column_of}
+use Rattle.ev_events.specs.Slots.{first_place, slot_at, slot_of, slots_of, keeps, keep_all}
+use Rattle.ev_events.specs.Slots.{column_of}
 use Rattle.ev_events.specs.Slots.{columns_of, values_at}
 use Rattle.ev_events.specs.declared.slots.Slot.{Slot}
 use Rattle.ev_events.specs.declared.slots.Slot.TheVariants.{Like}
@@ -135,7 +136,8 @@ module _ (vs : List (List ℕ)) (parts : List Part) (b xs : List ℕ) (full : le
         → slice_get xs i ≡ Some x → iterator_of p ≡ Some v → keeps xs (slot_of parts p) x ≡ true
     down_keeps i p x v s t h =
         let f = first_down i p v s h in
-        let same = same_Some f.instance x (sym (bound_is f.place f.part f.instance v f.stands f.there
+        let same = same_Some f.instance x
+        (sym (bound_is f.place f.part f.instance v f.stands f.there
         f.has) ∙ bound_is i p x v s t h) in
         ap (λ (slot : Slot). keeps xs slot x) (slot_down v p.name p.at h)
         ∙ is_that_from (slice_get xs (first_place (goes_down v) parts)) x

@@ -15,7 +15,7 @@ use Rattle.ev_check.specs.declared.checked.DeclKind.{DeclKind}
 use Rattle.ev_check.specs.declared.checked.DeclKind.TheVariants as kinds
 use Rattle.ev_check.specs.declared.checked.EventSpec.{EventSpec}
 use Rattle.ev_check.specs.declared.checked.SerdSpec.{SerdSpec}
-use Rattle.ev_graph.specs.Sets.{ascends_by, starts_above}
+use Rattle.ev_incidence.specs.Sets.{ascends_by, starts_above}
 use Rattle.ev_graph.specs.declared.nodes.Node.{Node}
 use Rattle.ev_graph.specs.declared.nodes.EngineSpec.{EngineSpec}
 use Rattle.ev_events.proofs.Places.{none_is_not, there_is, within_is, get_map, map_there}

@@ -13,8 +13,8 @@ use Rattle.std.proofs.lemmas.Option.{slice_get_cases, same_Some}
 use Rattle.std.proofs.lemmas.Bool.{cases_lt}
 use Rattle.fm_name.specs.Events.{event_cmp, event_cmp_total, event_tie}
 use Rattle.fm_name.specs.declared.events.EventName.{EventName}
-use Rattle.ev_graph.specs.Sets.{ascends_by}
-use Rattle.ev_graph.proofs.Ascending.{rises_by}
+use Rattle.ev_incidence.specs.Sets.{ascends_by}
+use Rattle.ev_incidence.proofs.Ascending.{rises_by}
 use Rattle.ev_events.specs.Placed.{is_before_name}
 
 pub name_found : (names : List EventName) (name : EventName) (at : ℕ) → at < length names

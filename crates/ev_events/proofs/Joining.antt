@@ -130,7 +130,8 @@ rows_there t b row =
       only : (j : ℕ) (u : TableValue) → slice_get (t ∷ []) j ≡ Some u
           → HasRow u.rows (bound_values u.columns b)
       only zero u at =
-          subst (λ (v : TableValue). HasRow v.rows (bound_values v.columns b)) (same_Some t u at) row
+          subst (λ (v : TableValue). HasRow v.rows (bound_values v.columns b)) (same_Some t u at)
+          row
       only (suc j) u at = none_is_not u at
 
 pub sums_same : (f g : List ℕ → ℕ) (bs : List (List ℕ))

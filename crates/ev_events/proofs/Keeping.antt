@@ -26,7 +26,7 @@ use Rattle.fm_name.specs.declared.events.EventName.{EventName}
 use Rattle.fm_topo.specs.Topology.{Topology}
 use Rattle.fm_topo.specs.Groups.{names_text, places_of, group_of}
 use Rattle.ev_tree.specs.declared.tree.Declared.{Declared}
-use Rattle.ev_graph.specs.Sets.{ascends_by}
+use Rattle.ev_incidence.specs.Sets.{ascends_by}
 use Rattle.ev_words.specs.Iterators.{same_name}
 use Rattle.ev_events.proofs.Places.{none_is_not, any_found, within_is, get_map, map_there}
 use Rattle.ev_events.proofs.Agreeing.{same_from}

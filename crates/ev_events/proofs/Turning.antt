@@ -33,7 +33,8 @@ use Rattle.ev_events.specs.Bindings.{IsBinding, AreBindings, AreAllBindings, can
 use Rattle.ev_events.specs.Bindings.{patterns_of}
 use Rattle.ev_events.specs.Sheets.{AreTablesOf}
 use Rattle.ev_events.specs.Slots.{first_place}
-use Rattle.ev_events.specs.Turned.{instances_at, places_among, turned_names, with_names, with_numbered}
+use Rattle.ev_events.specs.Turned.{instances_at, places_among, turned_names, with_names}
+use Rattle.ev_events.specs.Turned.{with_numbered}
 use Rattle.ev_events.proofs.Agreeing.{names_same, same_from}
 use Rattle.ev_events.proofs.Joining.{links_same, pattern_at, row_there, rows_there}
 use Rattle.ev_events.proofs.Joining.{sums_same, table_at}

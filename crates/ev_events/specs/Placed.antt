@@ -11,7 +11,7 @@ use Rattle.fm_name.specs.Events.{event_cmp}
 use Rattle.fm_name.specs.declared.events.EventName.{EventName}
 use Rattle.fm_topo.specs.Topology.{Topology}
 use Rattle.ev_tree.specs.declared.tree.Declared.{Declared}
-use Rattle.ev_graph.specs.Sets.{ascends_by}
+use Rattle.ev_incidence.specs.Sets.{ascends_by}
 use Rattle.ev_words.specs.Iterators.{same_name}
 
 -- event order

@@ -8,7 +8,8 @@ ghost use Rattle.fm_topo.specs.Groups.{IsGrouped};
 ghost use Rattle.ev_join.specs.Candidates.{AreAllCandidates, AreCandidates, links_at};
 ghost use Rattle.ev_join.specs.declared.join_fault.JoinFault.TheVariants.{Links};
 ghost use Rattle.ev_events.specs.Names.{iterators, Knows, KnowSides};
-ghost use Rattle.ev_events.specs.Bindings.{AreAllBindings, AreBindings, candidate_links, patterns_of};
+ghost use Rattle.ev_events.specs.Bindings.{AreAllBindings, AreBindings, candidate_links};
+ghost use Rattle.ev_events.specs.Bindings.{patterns_of};
 ghost use Rattle.ev_events.specs.Sheets.{AreTablesOf};
 
 use crate::names::{Iterators, iterators_of, turned_names};

@@ -27,8 +27,8 @@
 //!
 //! **Patterns.** At a path that fits, the condition of a pattern is asked with the names that are
 //! bound there: the vertical iterators, and the horizontal ones of the pattern by the path
-//! (`specs/Asking.antt`). The pattern gives its event where it has no condition, where the condition
-//! holds, and where it asks the payload, which is not known before a report comes
+//! (`specs/Asking.antt`). The pattern gives its event where it has no condition, where the
+//! condition holds, and where it asks the payload, which is not known before a report comes
 //! (`specs/Giving.antt`).
 //!
 //! **Promises.** [`candidates_of`] answers all candidates of a propagation, each once, in order of

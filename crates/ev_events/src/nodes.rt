@@ -4,7 +4,7 @@ ghost use Rattle.std.specs.Prelude.{◌≡◌, ◌≤◌, ◌<◌, List, ℕ, So
 ghost use Rattle.std.specs.Prelude.{IfOk, MatchOption};
 ghost use Rattle.fm_topo.specs.Groups.{IsGrouped};
 ghost use Rattle.ev_check.specs.Lawful.{file_events, spec_event};
-ghost use Rattle.ev_graph.specs.Sets.{ascends_by};
+ghost use Rattle.ev_incidence.specs.Sets.{ascends_by};
 ghost use Rattle.ev_check.specs.declared.checked.DeclKind.TheVariants as kinds;
 ghost use Rattle.ev_events.specs.Nodes.{AreEngines, AreEnginesAt, AreEnginesThere, AreNodes};
 ghost use Rattle.ev_events.specs.Nodes.{AreNodesAt, AreNodesThere, EngineIsThere, HasEngine};

@@ -2,7 +2,8 @@
 use Rattle.std.proofs.Common.{◌≡◌, inl, inr, ℕ, zero, suc, ◌<◌, arith}
 use Rattle.std.proofs.lemmas.Bool.{true≢false}
 use Rattle.std.proofs.Common.{sym, ◌∙◌, refl}
-use Rattle.ev_graph.specs.Wiring.{Wiring, wiring, IsCauseOf, Chain}
+use Rattle.ev_incidence.specs.Wiring.{Wiring, IsCauseOf, Chain}
+use Rattle.ev_graph.specs.Wired.{wiring}
 use Rattle.ev_graph.specs.Lawful.{GraphValue, IsGraph, IsRefused}
 use Rattle.ev_graph.specs.declared.fault.GraphFault.{GraphFault}
 use Rattle.ev_graph.specs.declared.fault.GraphFault.TheVariants.{TooManyNodes, TooManyLinks, Order}

@@ -22,22 +22,25 @@ use Rattle.ev_graph.specs.declared.nodes.NodeKind.{NodeKind}
 use Rattle.ev_graph.specs.declared.nodes.NodeKind.TheVariants.{Fault, Defect, Upset, Inner, Report}
 use Rattle.ev_graph.specs.declared.instances.Instance.{Instance}
 use Rattle.ev_graph.specs.declared.fault.GraphFault.TheVariants.{Kinds, Cyclic}
-use Rattle.ev_graph.specs.Sets.{is_member, ascends_by, IsSubset}
+use Rattle.ev_incidence.specs.Sets.{is_member, ascends_by, IsSubset}
 use Rattle.ev_graph.specs.Kinds.{is_report_node, is_upset_node, is_report_kind, is_upset_kind}
 use Rattle.ev_graph.specs.Kinds.{has_kind}
-use Rattle.ev_graph.specs.Wiring.{Wiring, wiring, causes_if_any, effects_if_any, n_if_any, k_if_any}
-use Rattle.ev_graph.specs.Wiring.{IsCauseOf}
-use Rattle.ev_graph.specs.Wiring.{Chain, HasChain, ReachesItself}
-use Rattle.ev_graph.specs.Table.{row_at, IncidenceValue, IsIncidence, AreRowsBelow, wiring_of}
-use Rattle.ev_graph.specs.Reached.{IsLinked, Trail, IsReachedFrom, IsReach, CanSearch, MarkedValue}
-use Rattle.ev_graph.specs.Ranking.{HaveCauses, AreRanks}
+use Rattle.ev_incidence.specs.Wiring.{Wiring}
+use Rattle.ev_graph.specs.Wired.{wiring, causes_if_any, effects_if_any, n_if_any, k_if_any}
+use Rattle.ev_incidence.specs.Wiring.{IsCauseOf}
+use Rattle.ev_incidence.specs.Wiring.{Chain, HasChain, ReachesItself}
+use Rattle.ev_incidence.specs.Table.{row_at, IncidenceValue, IsIncidence, AreRowsBelow, wiring_of}
+use Rattle.ev_incidence.specs.Reached.{IsLinked, Trail, IsReachedFrom, IsReach, CanSearch}
+use Rattle.ev_incidence.specs.Reached.{MarkedValue}
+use Rattle.ev_incidence.specs.Ranking.{HaveCauses, AreRanks}
 use Rattle.ev_graph.specs.Lawful.{GraphValue, TripsUpset, AreAllUpsets, are_below, is_in_range}
 use Rattle.ev_graph.specs.Lawful.{has_counts, are_counted, keep_kinds, IsNumbered, IsKindred}
 use Rattle.ev_graph.specs.Lawful.{IsCountedGraph, IsGraph, IsRefused, IsIncidenceOf, IsBuilt}
 use Rattle.ev_graph.specs.Lawful.{is_before_node, name_in, has_engine_limits}
 use Rattle.ev_graph.specs.Kinds.{has_limits}
-use Rattle.ev_graph.proofs.Ascending.{rises_by}
-use Rattle.ev_graph.proofs.Occurrences.{in_at, transposed_in, in_transposed, row_in_range, place_in}
+use Rattle.ev_incidence.proofs.Ascending.{rises_by}
+use Rattle.ev_incidence.proofs.Occurrences.{in_at, transposed_in, in_transposed, row_in_range}
+use Rattle.ev_incidence.proofs.Occurrences.{place_in}
 
 -- the incidence says the same as the instances
 row_map : (f : Instance → List ℕ) (g : Option Instance → List ℕ)

@@ -1,8 +1,2 @@
-pub mod Ascending
-pub mod Pieces
-pub mod Occurrences
-pub mod Searching
-pub mod SortedTail
-pub mod Ranked
 pub mod Building
 pub mod CutLists

@@ -2,8 +2,8 @@
 use Rattle.std.specs.Prelude.{◌≡◌, ◌==◌, ◌&&◌, ◌||◌, ◌+◌, ◌*◌, ◌^◌, ◌<◌, not, ℕ, Bool, true, nat_lt}
 use Rattle.std.specs.Prelude.{List, Some, slice_get}
 use Rattle.std.specs.List.{list_any, filter}
-use Rattle.ev_graph.specs.Sets.{is_member, ascends_by}
-use Rattle.ev_graph.specs.Wiring.{Wiring}
+use Rattle.ev_incidence.specs.Sets.{is_member, ascends_by}
+use Rattle.ev_incidence.specs.Wiring.{Wiring}
 use Rattle.ev_graph.specs.declared.instances.Link.{Link}
 
 -- links are in order of instance, then effect

@@ -1,7 +1,7 @@
 -- What the kinds of nodes say.
 use Rattle.std.specs.Prelude.{◌^◌, ℕ, Bool, true, false, nat_lt, nat_le, Option, Some, None, List}
 use Rattle.std.specs.Prelude.{slice_get}
-use Rattle.ev_graph.specs.Sets.{NodeSet}
+use Rattle.ev_incidence.specs.Sets.{NodeSet}
 use Rattle.ev_graph.specs.declared.nodes.Node.{Node}
 use Rattle.ev_graph.specs.declared.nodes.NodeKind.{NodeKind}
 use Rattle.ev_graph.specs.declared.nodes.NodeKind.TheVariants.{Fault, Defect, Upset, Inner, Report}

@@ -6,12 +6,13 @@ use Rattle.std.specs.List.{list_all, sum_by}
 use Rattle.std.specs.Ordering.{is_lt}
 use Rattle.fm_name.specs.Events.{event_cmp}
 use Rattle.fm_name.specs.declared.events.EventName.{EventName}
-use Rattle.ev_graph.specs.Sets.{ascends, ascends_by, is_member}
-use Rattle.ev_graph.specs.Table.{IncidenceValue, IsIncidence}
-use Rattle.ev_graph.specs.Ranking.{AreRanks}
+use Rattle.ev_incidence.specs.Sets.{ascends, ascends_by, is_member}
+use Rattle.ev_incidence.specs.Table.{IncidenceValue, IsIncidence}
+use Rattle.ev_incidence.specs.Ranking.{AreRanks}
 use Rattle.ev_graph.specs.Kinds.{is_root_node, is_report_node, is_upset_node, has_limits}
 use Rattle.ev_graph.specs.Kinds.{has_engine_below}
-use Rattle.ev_graph.specs.Wiring.{Wiring, wiring, IsCauseOf, HasChain, ReachesItself}
+use Rattle.ev_incidence.specs.Wiring.{Wiring, IsCauseOf, HasChain, ReachesItself}
+use Rattle.ev_graph.specs.Wired.{wiring}
 use Rattle.ev_graph.specs.declared.nodes.Node.{Node}
 use Rattle.ev_graph.specs.declared.nodes.EngineSpec.{EngineSpec}
 use Rattle.ev_graph.specs.declared.instances.Instance.{Instance}

@@ -1,9 +1,5 @@
-pub mod Sets
 pub mod Kinds
-pub mod Wiring
-pub mod Table
-pub mod Reached
-pub mod Ranking
+pub mod Wired
 pub mod Lawful
 pub mod Cutting
 pub mod Rules

@@ -1,8 +1,8 @@
 -- What instances ask of the members of a set of nodes.
 use Rattle.std.specs.Prelude.{◌≡◌, ◌&&◌, ◌||◌, not, ℕ, Bool, true, nat_le}
 use Rattle.std.specs.List.{count_by}
-use Rattle.ev_graph.specs.Sets.{NodeSet, is_member}
-use Rattle.ev_graph.specs.Wiring.{Wiring}
+use Rattle.ev_incidence.specs.Sets.{NodeSet, is_member}
+use Rattle.ev_incidence.specs.Wiring.{Wiring}
 
 -- the instance j has e as an effect, and K of its causes are in X
 abbrev pub is_enough : Wiring → NodeSet → ℕ → ℕ → Bool

@@ -3,7 +3,7 @@
 ghost use Rattle.std.specs.Prelude.{◌≡◌, ◌&&◌, ◌<◌, ◌≤◌, ◌+◌, ◌^◌, not, nat_le, nat_lt, length};
 ghost use Rattle.std.specs.List.{list_all, sum_by};
 ghost use Rattle.ev_graph.specs.Kinds.{has_limits, has_engine_below, is_report_node, is_root_node};
-ghost use Rattle.ev_graph.specs.Sets.{ascends, ascends_by};
+ghost use Rattle.ev_incidence.specs.Sets.{ascends, ascends_by};
 ghost use Rattle.ev_graph.specs.Lawful.{links_of, is_before_node, is_before_engine, is_ascending};
 ghost use Rattle.ev_graph.specs.Lawful.{are_below, is_in_range, keeps_kinds, has_counts};
 ghost use Rattle.ev_graph.specs.Lawful.{has_engine_limits, are_ascending, are_in_range, keep_kinds};

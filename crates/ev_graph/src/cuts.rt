@@ -1,7 +1,7 @@
 //! Links that are cut.
 
 ghost use Rattle.std.specs.Prelude.{◌≡◌, ◌==◌, ◌&&◌, ℕ, Bool, true};
-ghost use Rattle.ev_graph.specs.Sets.{ascends_by, is_member, ascends};
+ghost use Rattle.ev_incidence.specs.Sets.{ascends_by, is_member, ascends};
 ghost use Rattle.ev_graph.specs.Cutting.{is_before_link, is_cut};
 
 use crate::instances::Link;

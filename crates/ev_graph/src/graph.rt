@@ -2,20 +2,19 @@
 
 ghost use Rattle.std.specs.Prelude.{◌≡◌, ◌<◌, ◌≤◌, ◌^◌, true, length, map, IfOk, IfErr, OnOk};
 ghost use Rattle.std.specs.List.{list_all};
-ghost use Rattle.ev_graph.specs.Wiring.{wiring, IsRank};
-ghost use Rattle.ev_graph.specs.Table.{wiring_of};
+ghost use Rattle.ev_incidence.specs.Wiring.{IsRank};
+ghost use Rattle.ev_graph.specs.Wired.{wiring};
+ghost use Rattle.ev_incidence.specs.Table.{wiring_of};
 ghost use Rattle.ev_graph.specs.Lawful.{GraphValue, IsGraph, IsNumbered, IsRefused, IsBuilt};
 ghost use Rattle.ev_graph.specs.Lawful.{IsIncidenceOf, IsNodeNamed, is_in_range, keep_kinds};
 
 use crate::checks::{are_ascending, are_counted, are_few, are_in_range, keep_kinds};
 use crate::copies::copies_of;
 use crate::fault::GraphFault;
-use crate::incidence::Incidence;
 use crate::instances::Instance;
 use crate::nodes::{EngineSpec, Node};
-use crate::ranks::ranks_of;
-use crate::rows::Rows;
 use crate::trips::upset_trips;
+use ev_incidence::{Incidence, Rows, ranks_of};
 use fm_bytes::NoMemory;
 use fm_name::EventName;
 use std::alloc::Global;

@@ -2,10 +2,10 @@
 //! from causes to effects.
 //!
 //! **Model.** Contracts see a [`Graph`] as its nodes, its engines and its instances
-//! (`specs/Lawful`). A node's number is its place, and so is an instance's. A set of nodes is a
-//! test of numbers (`specs/Sets`), and what instances say of numbers is a wiring (`specs/Wiring`):
-//! the same words serve lists, marks, the graph, a graph without some links (`specs/Cutting`) and
-//! parts of graphs.
+//! (`specs/Lawful`). A node's number is its place, and so is an instance's. What the instances say
+//! of these numbers is a wiring (`specs/Wired`), so the words for sets of nodes and for chains,
+//! which `ev_incidence` defines, serve the graph, a graph without some links (`specs/Cutting`) and
+//! parts of graphs alike.
 //!
 //! **Invariant.** A graph is sorted, in range, of fitting kinds and counts, inside the limits, and
 //! has numbers that rise from each cause to each effect. [`Graph::build`] makes it of just the
@@ -13,9 +13,8 @@
 //! Each accessor says so of its graph, so who is lent a graph need ask nothing.
 //!
 //! **Promises.** The rank of a node is the length of the longest chains that end in it, so it rises
-//! from cause to effect. The incidence tells for each node the instances that it is a cause of and
-//! those that it is an effect of, in one block each; it is made once, in the time of nodes and
-//! links. `search` finds what a few nodes reach along it, and nothing else.
+//! from cause to effect. A graph keeps the incidence of its instances, which is made once, in the
+//! time of nodes and links.
 #![tactic(auto)]
 
 mod checks;
@@ -23,12 +22,8 @@ mod copies;
 mod cuts;
 mod fault;
 mod graph;
-mod incidence;
 mod instances;
 mod nodes;
-mod ranks;
-mod rows;
-mod searches;
 mod trips;
 
 pub use checks::{are_below, ascends};
@@ -36,8 +31,5 @@ pub use cuts::{CutList, CutTest, contains};
 pub use fault::GraphFault;
 pub use fm_bytes::NoMemory;
 pub use graph::Graph;
-pub use incidence::{Incidence, rows_of};
 pub use instances::{Instance, Link};
 pub use nodes::{EngineSpec, Node, NodeKind, is_report_node, is_root_node};
-pub use rows::Rows;
-pub use searches::{Marked, search};

@@ -3,14 +3,13 @@
 ghost use Rattle.std.specs.Prelude.{◌≡◌, ◌<◌, ◌^◌, IfOk, true, length};
 ghost use Rattle.std.specs.Bool.{OnTrue, OnFalse};
 ghost use Rattle.std.specs.List.{list_any, list_all};
-ghost use Rattle.ev_graph.specs.Sets.{is_member};
+ghost use Rattle.ev_incidence.specs.Sets.{is_member};
 ghost use Rattle.ev_graph.specs.Kinds.{is_report_node};
-ghost use Rattle.ev_graph.specs.Table.{wiring_of};
+ghost use Rattle.ev_incidence.specs.Table.{wiring_of};
 ghost use Rattle.ev_graph.specs.Lawful.{TripsUpset, AreAllUpsets};
 
-use crate::incidence::Incidence;
 use crate::nodes::{EngineSpec, Node, is_upset_node};
-use crate::searches::{Marked, search};
+use ev_incidence::{Incidence, Marked, search};
 use fm_bytes::NoMemory;
 use std::alloc::Global;
 

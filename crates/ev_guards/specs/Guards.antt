@@ -7,8 +7,8 @@ use Rattle.ev_tree.specs.Condition.{view_cond}
 use Rattle.ev_expr.specs.Conditions.{holds}
 use Rattle.ev_expr.specs.declared.settings.Prop.{Prop}
 use Rattle.ev_graph.specs.Lawful.{GraphValue, links}
-use Rattle.ev_graph.specs.Sets.{is_member}
-use Rattle.ev_graph.specs.Wiring.{wiring}
+use Rattle.ev_incidence.specs.Sets.{is_member}
+use Rattle.ev_graph.specs.Wired.{wiring}
 use Rattle.ev_graph.specs.declared.instances.Link.{Link}
 use Rattle.ev_guards.specs.declared.guards.Question.{Question}
 use Rattle.ev_guards.specs.declared.guards.Guard.{Guard}

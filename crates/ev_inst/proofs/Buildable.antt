@@ -33,9 +33,10 @@ use Rattle.ev_graph.specs.Kinds.{has_engine_below, has_kind, has_limits, is_repo
 use Rattle.ev_graph.specs.Kinds.{is_report_node, is_root_kind, is_root_node, is_upset_kind}
 use Rattle.ev_graph.specs.Lawful.{GraphValue, TripsUpset, are_below, has_counts}
 use Rattle.ev_graph.specs.Lawful.{has_engine_limits, is_ascending, is_in_range, keeps_kinds, links}
-use Rattle.ev_graph.specs.Sets.{ascends, ascends_by, is_member}
-use Rattle.ev_graph.specs.Wiring.{Chain, IsCauseOf, ReachesItself, causes_if_any}
-use Rattle.ev_graph.specs.Wiring.{effects_if_any, wiring}
+use Rattle.ev_incidence.specs.Sets.{ascends, ascends_by, is_member}
+use Rattle.ev_incidence.specs.Wiring.{Chain, IsCauseOf, ReachesItself}
+use Rattle.ev_graph.specs.Wired.{causes_if_any}
+use Rattle.ev_graph.specs.Wired.{effects_if_any, wiring}
 use Rattle.ev_graph.specs.declared.instances.Instance.{Instance}
 use Rattle.ev_graph.specs.declared.nodes.EngineSpec.{EngineSpec}
 use Rattle.ev_graph.specs.declared.nodes.Node.{Node}

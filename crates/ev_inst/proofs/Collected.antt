@@ -13,7 +13,7 @@ use Rattle.ev_tree.specs.Pattern.{Pattern}
 use Rattle.ev_check.specs.CheckedFile.{Linking, view_prop}
 use Rattle.ev_check.specs.declared.checked.PropSpec.{PropSpec}
 use Rattle.ev_join.specs.Tables.{RisesFrom}
-use Rattle.ev_graph.specs.Sets.{is_member}
+use Rattle.ev_incidence.specs.Sets.{is_member}
 use Rattle.ev_graph.specs.declared.nodes.Node.{Node}
 use Rattle.ev_events.specs.Bindings.{AreAllBindings}
 use Rattle.ev_events.specs.Names.{iterators}

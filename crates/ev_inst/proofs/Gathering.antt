@@ -18,7 +18,7 @@ use Rattle.ev_check.specs.CheckedFile.{Linking, view_prop}
 use Rattle.ev_check.specs.declared.checked.PropSpec.{PropSpec}
 use Rattle.ev_join.specs.Tables.{RisesFrom, TableValue}
 use Rattle.ev_graph.specs.Lawful.{links, links_of}
-use Rattle.ev_graph.specs.Sets.{is_member}
+use Rattle.ev_incidence.specs.Sets.{is_member}
 use Rattle.ev_graph.specs.declared.instances.Instance.{Instance}
 use Rattle.ev_graph.specs.declared.nodes.Node.{Node}
 use Rattle.ev_events.specs.Bindings.{AreAllBindings, AreBindings, candidate_links, patterns_of}

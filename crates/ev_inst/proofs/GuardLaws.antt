@@ -14,8 +14,8 @@ use Rattle.ev_tree.specs.Pattern.{Pattern}
 use Rattle.ev_check.specs.CheckedFile.{CheckedFile, view_prop}
 use Rattle.ev_expr.specs.declared.settings.Prop.{Prop}
 use Rattle.ev_graph.specs.Lawful.{GraphValue, links, links_of}
-use Rattle.ev_graph.specs.Sets.{is_member}
-use Rattle.ev_graph.specs.Wiring.{effects_if_any, wiring}
+use Rattle.ev_incidence.specs.Sets.{is_member}
+use Rattle.ev_graph.specs.Wired.{effects_if_any, wiring}
 use Rattle.ev_graph.specs.declared.instances.Instance.{Instance}
 use Rattle.ev_graph.specs.declared.instances.Link.{Link}
 use Rattle.ev_graph.specs.declared.nodes.Node.{Node}

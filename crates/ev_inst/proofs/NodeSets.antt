@@ -15,7 +15,7 @@ use Rattle.std.proofs.lemmas.List.Sorted.{Contains-permutation, IsPermutation-sy
 use Rattle.std.proofs.lemmas.Map.Keys.{IsStrictlyIncreasing-dedup}
 use Rattle.std.proofs.lemmas.Option.{get_or_from_slice_get}
 use Rattle.ev_join.specs.Tables.{RisesFrom}
-use Rattle.ev_graph.specs.Sets.{is_member}
+use Rattle.ev_incidence.specs.Sets.{is_member}
 use Rattle.ev_events.proofs.Places.{any_found, same_tests, within_is}
 use Rattle.ev_inst.specs.Gathering.{is_given}
 use Rattle.ev_inst.specs.Outcomes.{numbers_with}

@@ -23,9 +23,9 @@ use Rattle.ev_tree.specs.Pattern.{Pattern}
 use Rattle.ev_check.specs.Declarations.{name_of}
 use Rattle.ev_words.specs.Iterators.{same_name}
 use Rattle.ev_graph.specs.Lawful.{name_in}
-use Rattle.ev_graph.specs.Sets.{ascends_by, is_member}
+use Rattle.ev_incidence.specs.Sets.{ascends_by, is_member}
 use Rattle.ev_graph.specs.declared.nodes.Node.{Node}
-use Rattle.ev_graph.proofs.Ascending.{rises_by}
+use Rattle.ev_incidence.proofs.Ascending.{rises_by}
 use Rattle.ev_events.specs.Fits.{fits, fitting, has_names, places_with}
 use Rattle.ev_events.proofs.Places.{any_found, none_is_not, same_tests, within_is}
 use Rattle.ev_events.proofs.Agreeing.{names_same, same_from}

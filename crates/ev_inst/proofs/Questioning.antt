@@ -14,7 +14,7 @@ use Rattle.ev_tree.specs.Pattern.{Pattern, view_option, view_pattern}
 use Rattle.ev_tree.specs.declared.tree.SidePattern.{SidePattern}
 use Rattle.ev_check.specs.Declarations.{name_of}
 use Rattle.ev_join.specs.Tables.{RisesFrom, TableValue}
-use Rattle.ev_graph.specs.Sets.{is_member}
+use Rattle.ev_incidence.specs.Sets.{is_member}
 use Rattle.ev_graph.specs.declared.nodes.Node.{Node}
 use Rattle.ev_events.proofs.Joining.{pattern_there}
 use Rattle.ev_events.proofs.Places.{none_is_not}

@@ -5,7 +5,7 @@ use Rattle.fm_topo.specs.Topology.{Topology}
 use Rattle.ev_tree.specs.Condition.{Condition}
 use Rattle.ev_tree.specs.Pattern.{Pattern, view_pattern}
 use Rattle.ev_check.specs.CheckedFile.{Linking}
-use Rattle.ev_graph.specs.Sets.{ascends, is_member}
+use Rattle.ev_incidence.specs.Sets.{ascends, is_member}
 use Rattle.ev_graph.specs.declared.nodes.Node.{Node}
 use Rattle.ev_events.specs.Names.{iterators}
 use Rattle.ev_events.specs.Asking.{condition_names}

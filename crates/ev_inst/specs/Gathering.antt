@@ -13,7 +13,7 @@ use Rattle.ev_check.specs.Declarations.{name_of}
 use Rattle.ev_words.specs.Iterators.{same_name}
 use Rattle.ev_join.specs.Tables.{TableValue}
 use Rattle.ev_graph.specs.Lawful.{is_before_node, links}
-use Rattle.ev_graph.specs.Sets.{ascends_by}
+use Rattle.ev_incidence.specs.Sets.{ascends_by}
 use Rattle.ev_graph.specs.declared.nodes.Node.{Node}
 use Rattle.ev_events.specs.Names.{iterators}
 use Rattle.ev_events.specs.Fits.{fitting}

@@ -4,7 +4,7 @@ use Rattle.fm_topo.specs.Topology.{Topology}
 use Rattle.ev_check.specs.CheckedFile.{CheckedFile, view_prop}
 use Rattle.ev_expr.specs.declared.settings.Prop.{Prop}
 use Rattle.ev_graph.specs.Lawful.{GraphValue, links}
-use Rattle.ev_graph.specs.Sets.{is_member}
+use Rattle.ev_incidence.specs.Sets.{is_member}
 use Rattle.ev_inst.specs.Guarding.{broken_at, derivations, guarded_at, links_guarded}
 use Rattle.ev_inst.specs.Instances.{AreCandidatesOf, IsGraphOf, instances_of_all}
 use Rattle.ev_guards.specs.Guards.{AreGuardsFor, GuardsValue, broken_by, guarded_links, is_guarded}

@@ -4,7 +4,8 @@ use Rattle.std.specs.Prelude.{count_by, sum_by}
 use Rattle.fm_topo.specs.Topology.{Topology}
 use Rattle.ev_check.specs.CheckedFile.{CheckedFile, Linking, view_prop}
 use Rattle.ev_graph.specs.Lawful.{GraphValue, IsCountedGraph}
-use Rattle.ev_graph.specs.Wiring.{ReachesItself, wiring}
+use Rattle.ev_incidence.specs.Wiring.{ReachesItself}
+use Rattle.ev_graph.specs.Wired.{wiring}
 use Rattle.ev_graph.specs.declared.nodes.Node.{Node}
 use Rattle.ev_graph.specs.declared.instances.Instance.{Instance}
 use Rattle.ev_events.specs.Bindings.{AreAllBindings, AreBindings, candidate_links}

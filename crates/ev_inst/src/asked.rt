@@ -5,7 +5,7 @@ ghost use Rattle.std.specs.Prelude.{filter_map, slice_get, IfOk, MatchOption, On
 ghost use Rattle.std.specs.List.{list_any};
 ghost use Rattle.ev_tree.specs.Pattern.{view_option, view_pattern};
 ghost use Rattle.ev_events.specs.Sheets.{IsTableOf};
-ghost use Rattle.ev_graph.specs.Sets.{is_member, ascends};
+ghost use Rattle.ev_incidence.specs.Sets.{is_member, ascends};
 ghost use Rattle.ev_inst.specs.Asked.{AreEventsOf, AreEventsOfAll, AreGivenAt, asked_by, asked_if};
 ghost use Rattle.ev_inst.specs.Asked.{asked_of};
 ghost use Rattle.ev_guards.specs.Watched.{view_question};

@@ -3,7 +3,7 @@
 ghost use Rattle.std.specs.Prelude.{◌≡◌, ◌+◌, ◌<◌, ◌∷◌, [], ℕ, List, Some, length, map, slice_get};
 ghost use Rattle.std.specs.Prelude.{true, IfOk, OnOk};
 ghost use Rattle.fm_topo.specs.Groups.{IsGrouped};
-ghost use Rattle.ev_graph.specs.Sets.{is_member};
+ghost use Rattle.ev_incidence.specs.Sets.{is_member};
 ghost use Rattle.ev_tree.specs.Pattern.{view_pattern};
 ghost use Rattle.ev_check.specs.CheckedFile.{view_prop};
 ghost use Rattle.ev_events.specs.Names.{iterators};

@@ -5,7 +5,7 @@ ghost use Rattle.std.specs.Prelude.{true, false, not, ◌&&◌, ◌==◌, IfOk, 
 ghost use Rattle.ev_join.specs.Tables.{RisesFrom};
 ghost use Rattle.ev_graph.specs.Lawful.{is_before_node};
 ghost use Rattle.std.specs.List.{list_any};
-ghost use Rattle.ev_graph.specs.Sets.{ascends_by, is_member};
+ghost use Rattle.ev_incidence.specs.Sets.{ascends_by, is_member};
 ghost use Rattle.ev_tree.specs.Pattern.{view_pattern};
 ghost use Rattle.ev_events.specs.Nodes.{node_name};
 ghost use Rattle.ev_events.specs.Placed.{IsAmongNames, IsPlaceOf};

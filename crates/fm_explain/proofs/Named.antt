@@ -5,10 +5,10 @@ use Rattle.std.specs.Prelude.{slice_get, IfSome}
 use Rattle.std.specs.declared.option.Option.{Option}
 use Rattle.std.proofs.lemmas.Bool.{cases_eq, false≢true}
 use Rattle.fm_name.specs.declared.events.EventName.{EventName}
-use Rattle.ev_graph.specs.Sets.{is_member}
+use Rattle.ev_incidence.specs.Sets.{is_member}
 use Rattle.ev_graph.specs.Lawful.{IsNodeNamed, name_in}
 use Rattle.ev_graph.specs.declared.nodes.Node.{Node}
-use Rattle.ev_graph.proofs.Occurrences.{in_push, in_more, in_last}
+use Rattle.ev_incidence.proofs.Occurrences.{in_push, in_more, in_last}
 use Rattle.fm_explain.specs.Explained.{AreFound}
 
 module _ (nodes : List Node) (names : List EventName) where

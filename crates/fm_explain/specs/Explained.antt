@@ -9,9 +9,9 @@ use Rattle.fm_entry.specs.declared.broken.Broken.{Broken}
 use Rattle.fm_entry.specs.declared.list_event.ListEvent.{ListEvent}
 use Rattle.fm_entry.specs.declared.suspect.Suspect.{Suspect}
 use Rattle.fm_status.specs.Lines.{event_text}
-use Rattle.ev_graph.specs.Sets.{NodeSet, is_member, ascends}
+use Rattle.ev_incidence.specs.Sets.{NodeSet, is_member, ascends}
 use Rattle.ev_graph.specs.Cutting.{AreLinks, is_cut}
-use Rattle.ev_graph.specs.Wiring.{wiring}
+use Rattle.ev_graph.specs.Wired.{wiring}
 use Rattle.ev_graph.specs.Lawful.{GraphValue, IsNodeNamed, name_in}
 use Rattle.ev_graph.specs.declared.instances.Link.{Link}
 use Rattle.ev_graph.specs.declared.nodes.Node.{Node}

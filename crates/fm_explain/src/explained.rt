@@ -3,8 +3,8 @@
 ghost use Rattle.std.specs.Prelude.{◌≡◌, ◌⊎◌, ◌++◌, ◌<◌, ◌^◌, ℕ, List, flat_map, IfOk, OnOk};
 ghost use Rattle.std.specs.Prelude.{OnErr, true};
 ghost use Rattle.std.specs.Option.{option_map};
-ghost use Rattle.ev_graph.specs.Sets.{ascends};
-ghost use Rattle.ev_graph.specs.Wiring.{wiring};
+ghost use Rattle.ev_incidence.specs.Sets.{ascends};
+ghost use Rattle.ev_graph.specs.Wired.{wiring};
 ghost use Rattle.ev_graph.specs.Cutting.{AreLinks, is_cut};
 ghost use Rattle.dx_explain.specs.Explaining.{AreMembers, FitsGraph, set_of};
 ghost use Rattle.fm_explain.specs.Explained.{event_line, node_line, node_lines, suspect_head};

@@ -3,7 +3,7 @@ use Rattle.std.proofs.Common.{List, ap, ◌∙◌, subst, slice_get}
 use Rattle.fm_topo.specs.Topology.{Topology}
 use Rattle.ev_check.specs.CheckedFile.{CheckedFile, IsCopyOf, Linking}
 use Rattle.ev_graph.specs.Lawful.{GraphValue}
-use Rattle.ev_graph.specs.Sets.{is_member}
+use Rattle.ev_incidence.specs.Sets.{is_member}
 use Rattle.ev_inst.specs.Guarding.{broken_at, derivations, guarded_at, links_guarded}
 use Rattle.ev_inst.specs.GuardsOf.{AreGuardsOf}
 use Rattle.ev_guards.specs.Guards.{GuardsValue}

@@ -11,14 +11,14 @@
 //! read as one book, of one list of modules, where the modules are those that the book's own
 //! configurations make ([`contents_read_as_one_book`]). So what such contents come to when they are
 //! drained is a function of their bytes. The book that a store of such modules stands for has exact
-//! suspects once it is drained, whatever entries it takes ([`stores_have_exact_suspects`]; what that
-//! is, is `HasExactSuspects`, `specs/ExactSuspects.antt`).
+//! suspects once it is drained, whatever entries it takes ([`stores_have_exact_suspects`]; what
+//! that is, is `HasExactSuspects`, `specs/ExactSuspects.antt`).
 //!
 //! **Proof.** A text is one topology, by its definition, and one rule file but for where conditions
 //! lie in memory (fm_sources_laws), which has one graph over a topology (ev_inst_laws). The modules
 //! are a function of the rows. Contents spell one list of configurations, whatever the modules are,
-//! and read as one book of given modules (fm_store). What diagnosis modules say along the entries of
-//! a book is a law of dx_along. Each law is the contract of a function without a body.
+//! and read as one book of given modules (fm_store). What diagnosis modules say along the entries
+//! of a book is a law of dx_along. Each law is the contract of a function without a body.
 #![tactic(auto)]
 
 mod laws;

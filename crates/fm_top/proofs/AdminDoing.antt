@@ -101,7 +101,8 @@ module _ (asked : AdminCommand) (before after : Outside) where
   tell_headline ran unread (inr untold) =
       elim untold.store.went [
         | inl before_it ↦
-            inl (unopened before after ran untold.stop untold.told unread untold.unsaid before_it.untouched)
+            inl (unopened before after ran untold.stop untold.told unread untold.unsaid
+            before_it.untouched)
         | inr opened ↦ inr opened.holds
       ]
 

@@ -126,7 +126,8 @@ module _ (uuid : List ℕ) (before after : Outside) where
   explain_headline ran unread (inr untold) =
       elim untold.store.went [
         | inl before_it ↦
-            inl (unopened before after ran untold.stop untold.told unread untold.unsaid before_it.untouched)
+            inl (unopened before after ran untold.stop untold.told unread untold.unsaid
+            before_it.untouched)
         | inr opened ↦ inr (λ told tells. elim opened [
           | inl without ↦ like_book told _ (without.holds told tells)
           | inr stopped ↦ stopped.holds told tells

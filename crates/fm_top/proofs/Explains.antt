@@ -122,7 +122,8 @@ module _ {D : Type 0} (g : Ghosts D) (disks disks_now : Disks D)
       → (told : Contents) → Tells (disks_at g disks) told
       → HoldsOfBook told (ExplainedOf uuid told (disks_at g disks_now) (bytes_of text))
   explained text did told tells =
-      each_opened g disks disks_now first new hands conf opened told tells (ExplainedOf uuid told (disks_at g disks_now) (bytes_of text))
+      each_opened g disks disks_now first new hands conf opened told tells
+      (ExplainedOf uuid told (disks_at g disks_now) (bytes_of text))
       (λ book at. let on = on_book (Ok text) told book at did in record {
         left = λ image leaves.
             on.after image (store_left g disks disks_now first new are image leaves);
@@ -133,7 +134,8 @@ module _ {D : Type 0} (g : Ghosts D) (disks disks_now : Disks D)
       → (told : Contents) → Tells (disks_at g disks) told
       → HoldsOfBook told (LikeBook told (disks_at g disks_now))
   like_book fault did told tells =
-      each_opened g disks disks_now first new hands conf opened told tells (LikeBook told (disks_at g disks_now))
+      each_opened g disks disks_now first new hands conf opened told tells
+      (LikeBook told (disks_at g disks_now))
       (λ book at. record {
         left = λ image leaves. (on_book (Err fault) told book at did).left image
             (store_left g disks disks_now first new are image leaves);

@@ -305,7 +305,8 @@ module _ (before after : Outside) where
       → StoreStops before.input after.input before.out after.out before.disks after.disks got stop
       → Headline Fmd before after (Err stop)
   stops_headline got stop (inl refused) =
-      inl (unopened before after (Err stop) stop refl refused.consumed refused.put refused.untouched)
+      inl (unopened before after (Err stop) stop refl refused.consumed refused.put
+      refused.untouched)
   stops_headline got stop (inr (inl other)) = inr (λ told tells.
       held_after_each before after told (Err stop)
       (held_after told stop (no_act_of got stop (inr (inl other)))

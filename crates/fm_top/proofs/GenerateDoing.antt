@@ -326,7 +326,8 @@ module _ (number : ℕ) (before after : Outside) where
   generate_headline ran unread (inl stopped) =
       elim (stops_held number before.disks after.disks stopped.stop stopped.store.went) [
         | inl before_it ↦
-            inl (unopened before after ran stopped.stop stopped.told unread stopped.unsaid before_it.untouched)
+            inl (unopened before after ran stopped.stop stopped.told unread stopped.unsaid
+            before_it.untouched)
         | inr held ↦ inr (λ told tells.
             subst (λ r. HoldsOfBook told (HeldGenerated number told after.disks r))
             (sym stopped.told)
@@ -408,7 +409,8 @@ module _ (number : ℕ) (before after : Outside) where
   lines_headline ran unread (inr untold) =
       elim untold.store.went [
         | inl before_it ↦
-            inl (unopened before after ran untold.stop untold.told unread untold.unsaid before_it.untouched)
+            inl (unopened before after ran untold.stop untold.told unread untold.unsaid
+            before_it.untouched)
         | inr unbegun ↦ inr unbegun.holds
       ]
 

@@ -92,7 +92,8 @@ module _ {D : Type 0} (g : Ghosts D) (disks disks_now : Disks D)
   generates : (entries : List Entry) → StoreGenerates number first conf entries
       → Generates number (disks_at g disks) entries
   generates entries so told tells =
-      each_opened g disks disks_now first new hands conf opened told tells (λ stood. AreGeneratedAt number stood entries) (λ book at.
+      each_opened g disks disks_now first new hands conf opened told tells
+      (λ stood. AreGeneratedAt number stood entries) (λ book at.
       let moment = moment_at_end g book.fresh first book.book at.stands in record {
         conf = conf;
         in_force = at.in_force;
@@ -104,7 +105,8 @@ module _ {D : Type 0} (g : Ghosts D) (disks disks_now : Disks D)
   like_book : new ≡ first → (told : Contents) → Tells (disks_at g disks) told
       → HoldsOfBook told (LikeBook told (disks_at g disks_now))
   like_book same told tells =
-      each_opened g disks disks_now first new hands conf opened told tells (LikeBook told (disks_at g disks_now)) (λ book at. record {
+      each_opened g disks disks_now first new hands conf opened told tells
+      (LikeBook told (disks_at g disks_now)) (λ book at. record {
         left = λ image leaves.
             store_reads g book.fresh new book.book
             (subst (λ (s : StoreOf D DiagnoserOf). StoreStandsFor g book.fresh s book.book)

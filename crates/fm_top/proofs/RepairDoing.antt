@@ -202,7 +202,8 @@ module _ (asked : RepairAsked) (before after : Outside) where
   repair_headline ran unread (inl stopped) =
       elim stopped.store.went [
         | inl before_it ↦
-            inl (unopened before after ran stopped.stop stopped.told unread stopped.unsaid before_it.untouched)
+            inl (unopened before after ran stopped.stop stopped.told unread stopped.unsaid
+            before_it.untouched)
         | inr opened ↦ inr (λ told tells.
             subst (HeldSo told) (sym stopped.told) (elim opened [
               | inl unmarked ↦ unmarked_held told stopped.stop unmarked tells

@@ -378,7 +378,8 @@ module _ {D : Type 0} (g : Ghosts D) (disks disks_now : Disks D)
       → RepairTried asked (disks_at g disks) (disks_at g disks_now) (Ok one)
   repair_tried one did = record {
     went = λ told tells.
-        each_opened g disks disks_now first new hands conf opened told tells (RepairedOf asked told (disks_at g disks_now) one)
+        each_opened g disks disks_now first new hands conf opened told tells
+        (RepairedOf asked told (disks_at g disks_now) one)
         (λ book at. repaired_of one told book at
         (did.book book.fresh book.book at.stands at.follow));
     counts = none_counts g disks disks_now
@@ -391,7 +392,8 @@ module _ {D : Type 0} (g : Ghosts D) (disks disks_now : Disks D)
     went = inr (inl (record {
       why = refl;
       holds = λ told tells.
-          each_opened g disks disks_now first new hands conf opened told tells (UnmarkedOf asked told (disks_at g disks_now))
+          each_opened g disks disks_now first new hands conf opened told tells
+          (UnmarkedOf asked told (disks_at g disks_now))
           (λ book at. unmarked_of told book at
           (did.book book.fresh book.book at.stands at.follow));
     }));
@@ -407,7 +409,8 @@ module _ {D : Type 0} (g : Ghosts D) (disks disks_now : Disks D)
     went = inr (inr (record {
       why = unrepaired_why seen_is_image read fault did;
       holds = λ told tells.
-          each_opened g disks disks_now first new hands conf opened told tells (MayHaveRepair asked told (disks_at g disks_now))
+          each_opened g disks disks_now first new hands conf opened told tells
+          (MayHaveRepair asked told (disks_at g disks_now))
           (λ book at. may_have fault told book at
           (did.book book.fresh book.book at.stands at.follow));
     }));

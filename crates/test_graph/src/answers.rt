@@ -1,6 +1,7 @@
 // What a graph answers, and marks.
 use crate::words::{first_part, numbers_text};
-use ev_graph::{Graph, Incidence, Marked};
+use ev_graph::Graph;
+use ev_incidence::{Incidence, Marked};
 use std::alloc::Global;
 use test_small_graph::name_at;
 use test_words::{ScriptFault, first_word, small_in};

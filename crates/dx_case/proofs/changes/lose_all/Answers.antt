@@ -2,7 +2,7 @@ use Rattle.std.proofs.Common.{◌≡◌, ℕ, [], List, get_or, subst, sym, ap, 
 use Rattle.std.proofs.lemmas.List.{take_all, get_or_default}
 use Rattle.ev_graph.specs.Kinds.{is_report_node}
 use Rattle.ev_graph.specs.declared.nodes.Node.{Node}
-use Rattle.ev_graph.proofs.Occurrences.{all_in, in_at}
+use Rattle.ev_incidence.proofs.Occurrences.{all_in, in_at}
 use Rattle.dx_case.specs.Changes.{IsChanged, gone_of, goes}
 use Rattle.dx_case.proofs.Changing.{changed_none, changed_report, unchanged_report}
 use Rattle.dx_case.proofs.changes.lose_all.Goals as goal

@@ -1,6 +1,6 @@
 use Rattle.std.proofs.Common.{rules}
 use Rattle.std.proofs.lemmas.List.Sorted.{answers_always}
-use Rattle.ev_graph.proofs.Ascending.{ascends_is}
+use Rattle.ev_incidence.proofs.Ascending.{ascends_is}
 use Rattle.fm_entry.specs.Words.{is_link_before}
 use Rattle.dx_case.proofs.facts.rise.Goals as goal
 

@@ -1,7 +1,7 @@
 use Rattle.std.proofs.Common.{ℕ, List, get_or, refl, subst}
 use Rattle.std.proofs.lemmas.List.{take_all}
 use Rattle.ev_graph.specs.Kinds.{is_root_node}
-use Rattle.ev_graph.proofs.Occurrences.{all_in, in_at}
+use Rattle.ev_incidence.proofs.Occurrences.{all_in, in_at}
 use Rattle.dx_case.specs.declared.candidate.Candidate.{Candidate}
 use Rattle.dx_case.specs.Finding.{AreFresh}
 use Rattle.dx_case.proofs.Fresh.{fresh_none, fresh_more}

@@ -1,5 +1,5 @@
 use Rattle.ev_graph.specs.Kinds.{is_root_node}
-use Rattle.ev_graph.proofs.Occurrences.{all_from}
+use Rattle.ev_incidence.proofs.Occurrences.{all_from}
 use Rattle.dx_case.proofs.Fresh.{begins}
 use Rattle.dx_case.proofs.finding.fresh_from.Goals as goal
 

@@ -1,5 +1,5 @@
 use Rattle.std.proofs.Common.{length, sym, ap, ◌∙◌, arith}
-use Rattle.ev_graph.specs.Sets.{ascends_by}
+use Rattle.ev_incidence.specs.Sets.{ascends_by}
 use Rattle.ev_graph.specs.Cutting.{is_before_link}
 use Rattle.dx_case.proofs.Inserting.{link_there, link_new, link_behind, ascends_inserted}
 use Rattle.dx_case.proofs.lists.put_link.Goals as goal

@@ -1,5 +1,5 @@
 use Rattle.std.proofs.Common.{◌≡◌, take, map, true}
-use Rattle.ev_graph.specs.Sets.{ascends_by}
+use Rattle.ev_incidence.specs.Sets.{ascends_by}
 use Rattle.ev_graph.specs.Cutting.{is_before_link}
 use Rattle.dx_explain.specs.Cases.{with_links, broken_of}
 use Rattle.dx_case.proofs.lists.put_links.Given as goal

@@ -1,6 +1,6 @@
 use Rattle.std.proofs.Common.{ltb, length, sym, ap, ◌∙◌, arith}
 use Rattle.std.proofs.lemmas.List.{get_or_default}
-use Rattle.ev_graph.specs.Sets.{ascends}
+use Rattle.ev_incidence.specs.Sets.{ascends}
 use Rattle.dx_case.proofs.Inserting.{number_there, number_new, ascends_inserted}
 use Rattle.dx_case.proofs.lists.put_number.Goals as goal
 use Rattle.dx_case.proofs.lists.put_number.Goals.{

@@ -1,5 +1,5 @@
 use Rattle.std.proofs.Common.{◌≡◌, ap, [], length, arith}
-use Rattle.ev_graph.specs.Sets.{is_member}
+use Rattle.ev_incidence.specs.Sets.{is_member}
 use Rattle.ev_graph.specs.Cutting.{is_cut}
 use Rattle.dx_sets.specs.Sets.{SetsValue}
 use Rattle.dx_explain.proofs.Listed.{listed}

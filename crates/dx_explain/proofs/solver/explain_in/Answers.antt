@@ -1,6 +1,6 @@
 use Rattle.std.proofs.Common.{sym, ◌∙◌}
 use Rattle.std.proofs.lemmas.Bool.{OnTrue_from, OnFalse_from}
-use Rattle.ev_graph.specs.Sets.{is_member}
+use Rattle.ev_incidence.specs.Sets.{is_member}
 use Rattle.ev_graph.specs.Cutting.{is_cut}
 use Rattle.dx_explain.specs.Explaining.{set_of}
 use Rattle.dx_explain.proofs.Greatest.{answers_yes, answers_no}

@@ -1,4 +1,4 @@
-use Rattle.ev_graph.specs.Sets.{is_member}
+use Rattle.ev_incidence.specs.Sets.{is_member}
 use Rattle.dx_explain.proofs.Greatest.{solved}
 use Rattle.dx_explain.proofs.solver.solve_by.Goals as goal
 

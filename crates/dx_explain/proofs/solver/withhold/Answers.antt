@@ -1,5 +1,5 @@
 use Rattle.std.proofs.Common.{not, ℕ, ap, sym, ◌∙◌}
-use Rattle.ev_graph.specs.Sets.{is_member}
+use Rattle.ev_incidence.specs.Sets.{is_member}
 use Rattle.dx_sets.proofs.Beginning.{left_here, left_past}
 use Rattle.dx_explain.specs.Explaining.{may_stay}
 use Rattle.dx_explain.proofs.solver.withhold.Goals as goal

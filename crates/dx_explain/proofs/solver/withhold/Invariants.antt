@@ -1,5 +1,5 @@
 use Rattle.std.proofs.Common.{not}
-use Rattle.ev_graph.specs.Sets.{is_member}
+use Rattle.ev_incidence.specs.Sets.{is_member}
 use Rattle.dx_sets.specs.Engine.{HaveLeftBelow}
 use Rattle.dx_explain.specs.Explaining.{may_stay}
 use Rattle.dx_explain.proofs.solver.withhold.Given as goal

@@ -1,7 +1,7 @@
 use Rattle.std.proofs.Common.{rules}
 use Rattle.std.proofs.lemmas.List.Sorted.{answers_always}
 use Rattle.std.proofs.Common.{nat_lt}
-use Rattle.ev_graph.proofs.Ascending.{ascends_is}
+use Rattle.ev_incidence.proofs.Ascending.{ascends_is}
 use Rattle.dx_lawful.proofs.numbers.ascends.Goals as goal
 
 pub returns : goal.returns

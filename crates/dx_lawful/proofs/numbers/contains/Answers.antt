@@ -1,5 +1,5 @@
 use Rattle.std.proofs.Common.{◌∙◌}
-use Rattle.ev_graph.proofs.Occurrences.{search_is}
+use Rattle.ev_incidence.proofs.Occurrences.{search_is}
 use Rattle.dx_lawful.proofs.numbers.contains.Goals as goal
 
 pub returns : goal.returns

@@ -2,7 +2,7 @@ use Rattle.std.proofs.Common.{rules}
 use Rattle.std.specs.Ordering.{is_lt}
 use Rattle.std.proofs.lemmas.List.Sorted.{answers_always}
 use Rattle.fm_name.specs.Events.{event_cmp}
-use Rattle.ev_graph.proofs.Ascending.{ascends_is}
+use Rattle.ev_incidence.proofs.Ascending.{ascends_is}
 use Rattle.dx_lawful.proofs.words.events_ascend.Goals as goal
 
 pub returns : goal.returns

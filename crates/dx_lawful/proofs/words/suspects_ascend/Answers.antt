@@ -1,6 +1,6 @@
 use Rattle.std.proofs.Common.{rules, ◌∙◌}
 use Rattle.std.proofs.lemmas.List.Sorted.{answers_always}
-use Rattle.ev_graph.proofs.Ascending.{ascends_is}
+use Rattle.ev_incidence.proofs.Ascending.{ascends_is}
 use Rattle.dx_lawful.proofs.Trying.{is_before_suspect, suspects_named}
 use Rattle.dx_lawful.proofs.words.suspects_ascend.Goals as goal
 

@@ -1,7 +1,7 @@
 use Rattle.std.proofs.Common.{sym, ◌∙◌}
 use Rattle.std.proofs.lemmas.Bool.{both_ways}
-use Rattle.ev_graph.specs.Sets.{is_member}
-use Rattle.ev_graph.specs.Table.{row_at}
+use Rattle.ev_incidence.specs.Sets.{is_member}
+use Rattle.ev_incidence.specs.Table.{row_at}
 use Rattle.dx_live.proofs.Marking.{nothing_cut}
 use Rattle.dx_live.proofs.live.cut_link.Goals as goal
 

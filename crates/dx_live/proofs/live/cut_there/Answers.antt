@@ -1,5 +1,5 @@
 use Rattle.std.proofs.Common.{ap, sym, ◌∙◌}
-use Rattle.ev_graph.specs.Sets.{has_mark}
+use Rattle.ev_incidence.specs.Sets.{has_mark}
 use Rattle.dx_live.proofs.Marking.{uncut_once, mark_inside, one_marked, made_cut}
 use Rattle.dx_live.proofs.live.cut_there.Goals as goal
 

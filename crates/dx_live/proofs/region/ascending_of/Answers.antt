@@ -1,5 +1,5 @@
 use Rattle.std.proofs.Common.{ℕ, List, ap, ◌∙◌}
-use Rattle.ev_graph.specs.Sets.{is_member}
+use Rattle.ev_incidence.specs.Sets.{is_member}
 use Rattle.dx_live.proofs.Ordered.{once_ascends, once_members}
 use Rattle.dx_live.proofs.region.ascending_of.Goals as goal
 

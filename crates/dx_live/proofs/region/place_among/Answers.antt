@@ -1,5 +1,5 @@
 use Rattle.std.proofs.Common.{sym}
-use Rattle.ev_graph.proofs.Occurrences.{search_is}
+use Rattle.ev_incidence.proofs.Occurrences.{search_is}
 use Rattle.dx_live.proofs.region.place_among.Goals as goal
 
 pub returns-in-Err-clause-none : goal.returns-in-Err-clause-none

@@ -1,5 +1,5 @@
 use Rattle.std.proofs.Common.{rules, ◌≡◌, ◌<◌, ◌∙◌, sym, subst, ap, get_or, length, IsTrue}
-use Rattle.ev_graph.specs.Sets.{ascends}
+use Rattle.ev_incidence.specs.Sets.{ascends}
 use Rattle.dx_state.specs.LawfulState.{solved_numbers}
 use Rattle.dx_said.specs.Making.{IsPlace}
 use Rattle.dx_said.proofs.Placed.{put_new, put_there, stay_ascending}

@@ -1,5 +1,5 @@
 use Rattle.std.proofs.Common.{◌≡◌, ◌<◌, length, get_or, arith, ap, sym, ◌∙◌}
-use Rattle.ev_graph.specs.Table.{row_at}
+use Rattle.ev_incidence.specs.Table.{row_at}
 use Rattle.dx_sets.specs.Engine.{uncut_gets}
 use Rattle.dx_sets.proofs.Looking.{cause_some, cause_last, cause_cost, last_cost}
 use Rattle.dx_sets.proofs.Looking.{looked_cause, looked_last}

@@ -1,5 +1,5 @@
 use Rattle.std.proofs.Common.{◌≡◌, ◌<◌, length, get_or, arith, ap, sym, ◌∙◌}
-use Rattle.ev_graph.specs.Table.{row_at}
+use Rattle.ev_incidence.specs.Table.{row_at}
 use Rattle.dx_sets.proofs.Looking.{effect_some, effect_cost, unmet_cost}
 use Rattle.dx_sets.proofs.Looking.{looked_cut, looked_effect, looked_unmet}
 use Rattle.dx_sets.proofs.engine.lose_effects.Goals as goal

@@ -1,5 +1,5 @@
 use Rattle.std.proofs.Common.{◌<◌, length, arith, ap, sym, ◌∙◌}
-use Rattle.ev_graph.specs.Table.{row_at}
+use Rattle.ev_incidence.specs.Table.{row_at}
 use Rattle.dx_sets.proofs.Losing.{paying_start}
 use Rattle.dx_sets.proofs.Paying.{support_owed, paid_here, paid_past}
 use Rattle.dx_sets.proofs.engine.lose_effects_of.Goals as goal

@@ -1,5 +1,5 @@
 use Rattle.std.proofs.Common.{◌≡◌, ◌<◌, ℕ, true, length}
-use Rattle.ev_graph.specs.Sets.{has_mark}
+use Rattle.ev_incidence.specs.Sets.{has_mark}
 use Rattle.dx_sets.proofs.sets.mark_each.Given as goal
 
 abbrev pub invariant-loop-node : goal.invariant-loop-node

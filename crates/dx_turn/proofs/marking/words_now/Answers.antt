@@ -1,5 +1,5 @@
 use Rattle.std.proofs.Common.{◌∙◌, subst, sym, IsTrue}
-use Rattle.ev_graph.specs.Sets.{ascends}
+use Rattle.ev_incidence.specs.Sets.{ascends}
 use Rattle.dx_state.specs.LawfulState.{solved_numbers}
 use Rattle.dx_turn.specs.Turning.{made_or}
 use Rattle.dx_turn.proofs.Marks.{ascend_before}

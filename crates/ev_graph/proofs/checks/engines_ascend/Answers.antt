@@ -1,7 +1,7 @@
 use Rattle.std.proofs.Common.{rules}
 use Rattle.std.proofs.lemmas.List.Sorted.{answers_always}
 use Rattle.ev_graph.specs.Lawful.{is_before_engine}
-use Rattle.ev_graph.proofs.Ascending.{ascends_is}
+use Rattle.ev_incidence.proofs.Ascending.{ascends_is}
 use Rattle.ev_graph.proofs.checks.engines_ascend.Goals as goal
 
 pub returns : goal.returns

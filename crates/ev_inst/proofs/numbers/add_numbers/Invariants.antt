@@ -1,6 +1,6 @@
 -- The numbers so far are those at the first paths.
 use Rattle.std.proofs.Common.{◌≡◌, ◌+◌, ◌||◌, ℕ, length, take}
-use Rattle.ev_graph.specs.Sets.{is_member}
+use Rattle.ev_incidence.specs.Sets.{is_member}
 use Rattle.ev_inst.specs.Gathering.{is_node_on}
 use Rattle.ev_inst.proofs.numbers.add_numbers.Given as goal
 

@@ -2,7 +2,7 @@
 use Rattle.std.proofs.Common.{List, ℕ, sym, ap, ◌∙◌, subst, eqb}
 use Rattle.std.proofs.lemmas.List.Filters.{dedup_is}
 use Rattle.ev_join.specs.Tables.{RisesFrom}
-use Rattle.ev_graph.specs.Sets.{is_member}
+use Rattle.ev_incidence.specs.Sets.{is_member}
 use Rattle.ev_inst.proofs.NodeSets.{set_members, set_rises}
 use Rattle.ev_inst.proofs.numbers.set_of.Goals as goal
 

@@ -1,5 +1,5 @@
 use Rattle.std.proofs.Common.{◌-◌, Some, refl, arith}
-use Rattle.ev_graph.specs.Sets.{is_member}
+use Rattle.ev_incidence.specs.Sets.{is_member}
 use Rattle.dx_explain.specs.Cases.{cuts_of}
 use Rattle.dx_case.specs.Changes.{gone_of}
 use Rattle.dx_case.specs.Cases.{case_parts, open_case, allowed_at}

@@ -1,8 +1,8 @@
 use Rattle.std.proofs.Common.{◌≡◌, ◌∷◌, [], ◌∙◌, ℕ, true, sym, ap, subst}
 use Rattle.std.specs.List.{filter}
-use Rattle.ev_graph.specs.Sets.{is_member}
+use Rattle.ev_incidence.specs.Sets.{is_member}
 use Rattle.ev_graph.specs.Kinds.{is_report_node}
-use Rattle.ev_graph.proofs.Occurrences.{all_in, in_at}
+use Rattle.ev_incidence.proofs.Occurrences.{all_in, in_at}
 use Rattle.dx_live.specs.Live.{no_cut, all_allowed}
 use Rattle.dx_case.specs.Candidates.{keeps}
 use Rattle.dx_case.proofs.Fresh.{report_below}
@@ -17,7 +17,8 @@ fresh-requires-clause-node c =
     let node = c.first-node.result in
     let first = c.first-node.ensures in
     let P : ℕ → Type 0 = λ e. is_member observed e ≡ true in
-    report_below nodes node (all_in (is_report_node nodes) observed node c.requires.opened.observed_are
+    report_below nodes node
+    (all_in (is_report_node nodes) observed node c.requires.opened.observed_are
     (subst P (sym first) (in_at observed 0 c.requires.opened.some)))
 
 pub change_each-requires-clause-lives : goal.change_each-requires-clause-lives
@@ -57,6 +58,8 @@ returns-clause-case c =
       c.requires.opened.until,
     ) (opened_case g c.nodes.ensures.graph new.number old.opened node new.entries.items observed
     old.broken.items fresh.reports.items fresh.candidates.items mid new.candidates.items
-    new.waiting (subst P (sym first) (in_at observed 0 c.requires.opened.some)) c.in_ok-fresh.ensures.fresh
-    c.requires.opened.observed_ascend c.requires.opened.observed_are c.requires.opened.broken_ascend changed kept
+    new.waiting (subst P (sym first) (in_at observed 0 c.requires.opened.some))
+    c.in_ok-fresh.ensures.fresh
+    c.requires.opened.observed_ascend c.requires.opened.observed_are
+    c.requires.opened.broken_ascend changed kept
     (rw c.new.ensures.items at c.settle.ensures.waiting))

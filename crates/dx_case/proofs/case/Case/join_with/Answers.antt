@@ -1,5 +1,5 @@
 use Rattle.std.proofs.Common.{List, ltb, map, refl, ap, ◌∙◌}
-use Rattle.ev_graph.specs.Sets.{is_member}
+use Rattle.ev_incidence.specs.Sets.{is_member}
 use Rattle.ev_graph.specs.declared.instances.Link.{Link}
 use Rattle.dx_explain.specs.Cases.{cuts_of, inserted, broken_of, with_links}
 use Rattle.dx_case.specs.Cases.{case_parts, open_case, allowed_at}

@@ -1,5 +1,5 @@
 use Rattle.std.proofs.Common.{refl, ap, ◌∙◌}
-use Rattle.ev_graph.specs.Sets.{ascends_by}
+use Rattle.ev_incidence.specs.Sets.{ascends_by}
 use Rattle.fm_entry.specs.Words.{is_link_before}
 use Rattle.dx_case.specs.Facts.{case_of}
 use Rattle.dx_case.proofs.Fitting.{facts_parts, links_rise}

@@ -29,7 +29,8 @@ turn-requires-clause-told c =
       told = c.new-3.result;
     } in
     let d = c.ground-ground.result in
-    begun_told d p e w (begins c.args.rules.now d p _ e w c.max-time.result c.requires.standing.parts
+    begun_told d p e w
+    (begins c.args.rules.now d p _ e w c.max-time.result c.requires.standing.parts
     c.requires.spelled c.ground-ground.ensures
     (c.max-time.ensures ∙ ap (max c.args.self.now.time) c.moment.ensures)
     (ap (λ v. v.items) c.replace-cases.ensures.value) refl c.new-3.ensures)
@@ -45,7 +46,8 @@ turn-requires-clause-ready c =
       told = c.new-3.result;
     } in
     let d = c.ground-ground.result in
-    begun_ready d p e w (begins c.args.rules.now d p _ e w c.max-time.result c.requires.standing.parts
+    begun_ready d p e w
+    (begins c.args.rules.now d p _ e w c.max-time.result c.requires.standing.parts
     c.requires.spelled c.ground-ground.ensures
     (c.max-time.ensures ∙ ap (max c.args.self.now.time) c.moment.ensures)
     (ap (λ v. v.items) c.replace-cases.ensures.value) refl c.new-3.ensures)
@@ -61,7 +63,8 @@ turn-requires-clause-ascend c =
       told = c.new-3.result;
     } in
     let d = c.ground-ground.result in
-    begun_ascend d p e w (begins c.args.rules.now d p _ e w c.max-time.result c.requires.standing.parts
+    begun_ascend d p e w
+    (begins c.args.rules.now d p _ e w c.max-time.result c.requires.standing.parts
     c.requires.spelled c.ground-ground.ensures
     (c.max-time.ensures ∙ ap (max c.args.self.now.time) c.moment.ensures)
     (ap (λ v. v.items) c.replace-cases.ensures.value) refl c.new-3.ensures)

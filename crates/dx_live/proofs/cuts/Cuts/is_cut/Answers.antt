@@ -1,5 +1,5 @@
 use Rattle.std.proofs.Common.{◌&&◌, Bool, ap, sym, ◌∙◌}
-use Rattle.ev_graph.specs.Sets.{has_mark}
+use Rattle.ev_incidence.specs.Sets.{has_mark}
 use Rattle.dx_live.specs.Cuts.{mark_place}
 use Rattle.dx_live.proofs.cuts.Cuts.is_cut.Goals as goal
 

@@ -1,5 +1,5 @@
 use Rattle.std.proofs.Common.{◌≡◌, sym, subst, ◌∙◌}
-use Rattle.ev_graph.specs.Sets.{has_mark}
+use Rattle.ev_incidence.specs.Sets.{has_mark}
 use Rattle.dx_live.specs.Live.{LiveValue, live_root, live_set}
 use Rattle.dx_live.proofs.Regions.{lifted_at}
 use Rattle.dx_live.proofs.live.Live.alive.Goals as goal

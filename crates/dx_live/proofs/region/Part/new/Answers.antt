@@ -1,6 +1,6 @@
 use Rattle.std.proofs.Common.{◌∷◌, [], ℕ, List, length, ap, sym, ◌∙◌, arith}
-use Rattle.ev_graph.specs.Sets.{is_member}
-use Rattle.ev_graph.specs.Reached.{MarkedValue}
+use Rattle.ev_incidence.specs.Sets.{is_member}
+use Rattle.ev_incidence.specs.Reached.{MarkedValue}
 use Rattle.ev_graph.proofs.Building.{can_search_forwards}
 use Rattle.dx_live.proofs.Reaching.{region_is, start_below}
 use Rattle.dx_live.proofs.Wholes.{whole_region, whole_part, whole_table}

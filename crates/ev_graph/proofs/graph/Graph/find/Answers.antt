@@ -4,7 +4,7 @@ use Rattle.std.proofs.lemmas.Bool.{and_parts}
 use Rattle.std.proofs.lemmas.Fn.{always_returns_same}
 use Rattle.fm_name.specs.Events.{event_cmp}
 use Rattle.ev_graph.specs.declared.nodes.Node.{Node}
-use Rattle.ev_graph.specs.Sets.{ascends_by}
+use Rattle.ev_incidence.specs.Sets.{ascends_by}
 use Rattle.ev_graph.specs.Lawful.{is_before_node}
 use Rattle.ev_graph.proofs.Building.{name_found, names_rise, name_missing}
 use Rattle.ev_graph.proofs.graph.Graph.find.Goals as goal

@@ -1,8 +1,8 @@
 use Rattle.std.proofs.Common.{◌≡◌, ◌-◌, ◌<◌, suc, ℕ, ap, subst, arith, length, get_or}
 use Rattle.std.proofs.lemmas.List.{get_or_read}
-use Rattle.ev_graph.specs.Wiring.{Wiring, IsRank}
+use Rattle.ev_incidence.specs.Wiring.{Wiring, IsRank}
 use Rattle.ev_graph.specs.Lawful.{GraphValue}
-use Rattle.ev_graph.proofs.Ranked.{rank_is}
+use Rattle.ev_incidence.proofs.Ranked.{rank_is}
 use Rattle.ev_graph.proofs.Building.{wiring_same}
 use Rattle.ev_graph.proofs.graph.Graph.rank.Goals as goal
 

@@ -1,5 +1,0 @@
-use Rattle.ev_graph.specs.Ranking.{IsRanking}
-use Rattle.ev_graph.proofs.ranks.rank_in_order.Given as goal
-
-abbrev pub invariant-loop-at : goal.invariant-loop-at
-invariant-loop-at l = IsRanking l.table l.ranks l.levels l.done

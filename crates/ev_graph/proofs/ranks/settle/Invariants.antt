@@ -1,5 +1,0 @@
-use Rattle.ev_graph.specs.Ranking.{IsRanking}
-use Rattle.ev_graph.proofs.ranks.settle.Given as goal
-
-abbrev pub invariant-loop-place : goal.invariant-loop-place
-invariant-loop-place l = IsRanking l.table l.ranks l.levels l.done

@@ -1,9 +1,0 @@
-use Rattle.std.proofs.Common.{◌≡◌, take}
-use Rattle.ev_graph.specs.Reached.{AddsNodes}
-use Rattle.ev_graph.proofs.searches.note_each.Given as goal
-
-abbrev pub invariant-loop-number : goal.invariant-loop-number
-invariant-loop-number l = record {
-  adds : AddsNodes (take l.number-index l.numbers) l.initial.marked.items l.marked.items;
-  size : l.marked.size ≡ l.initial.marked.size;
-}

@@ -1,0 +1,5 @@
+pub mod Sets
+pub mod Wiring
+pub mod Table
+pub mod Reached
+pub mod Ranking
