@@ -1,15 +1,14 @@
 -- Candidates as they are made.
 use Rattle.std.proofs.Common.{◌≡◌, ◌⊎◌, ◌+◌, ◌<◌, ◌++◌, ℕ, zero, suc, List, [], ◌∷◌, length, get_or}
 use Rattle.std.proofs.Common.{take, slice_get, refl, sym, ap, subst, ◌∙◌, inl, inr, eqb, true}
-use Rattle.std.proofs.Common.{false, Some, ◌≤◌, arith}
+use Rattle.std.proofs.Common.{false, Some}
 use Rattle.std.specs.List.{list_all}
-use Rattle.std.proofs.lemmas.Bool.{or_left, eq-eqb, cases_lt, false≢true}
+use Rattle.std.proofs.lemmas.Bool.{or_left, eq-eqb}
 use Rattle.std.proofs.lemmas.List.{take_more, map-append}
 use Rattle.std.proofs.lemmas.Option.{same_Some}
 use Rattle.ev_incidence.specs.Sets.{is_member, ascends}
 use Rattle.ev_graph.specs.Kinds.{is_report_node}
 use Rattle.ev_graph.specs.Lawful.{GraphValue}
-use Rattle.ev_graph.specs.declared.nodes.Node.{Node}
 use Rattle.dx_live.specs.Live.{no_cut, all_allowed}
 use Rattle.dx_case.specs.declared.candidate.Candidate.{Candidate}
 use Rattle.dx_case.specs.Candidates.{IsCandidate, AreCovered, AreCandidates}
@@ -42,17 +41,6 @@ fresh_more g roots i d cs a l is h f = record {
         subst P same h
   ];
 }
-
--- a report is a node
-pub report_below : (nodes : List Node) (e : ℕ) → is_report_node nodes e ≡ true → e < length nodes
-report_below nodes e h = elim (cases_lt e (length nodes)) [
-  | inl l ↦ l
-  | inr past ↦ absurd (false≢true (sym (past_none nodes e past) ∙ h))
-] where
-  past_none : (ns : List Node) (e : ℕ) → length ns ≤ e → is_report_node ns e ≡ false
-  past_none [] e l = refl
-  past_none (n ∷ ns) zero l = absurd (omega (arith, l))
-  past_none (n ∷ ns) (suc e) l = past_none ns e (omega (arith, l))
 
 -- candidates of all roots whose stories have a node
 pub begins : (g : GraphValue) (node : ℕ) (roots reports : List ℕ) (fresh : List Candidate)

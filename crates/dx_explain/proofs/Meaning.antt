@@ -3,12 +3,12 @@ use Rattle.std.proofs.Common.{◌≡◌, ◌&&◌, not, ℕ, Bool, true, false, 
 use Rattle.std.specs.List.{list_all}
 use Rattle.std.proofs.lemmas.Bool.{and_parts, and_from, not-true, not_from_false}
 use Rattle.ev_incidence.specs.Sets.{NodeSet, is_member}
-use Rattle.ev_graph.specs.Kinds.{is_report_node, is_report_kind}
+use Rattle.ev_graph.specs.Kinds.{is_root_kind, is_report_node, is_report_kind}
 use Rattle.ev_graph.specs.Lawful.{GraphValue, IsGraph}
+use Rattle.ev_graph.proofs.Kinds.{kind_below}
 use Rattle.ev_incidence.proofs.Occurrences.{all_in, all_from}
 use Rattle.dx_sets.specs.Engine.{CutsOf}
 use Rattle.dx_explain.specs.Laws.{Explains, IsPending}
-use Rattle.dx_story.proofs.Roots.{root_below}
 use Rattle.fm_core.specs.Meaning.{OpenCase}
 use Rattle.dx_explain.specs.Search.{some_below}
 use Rattle.dx_explain.specs.Stories.{is_story, has_just, reports_within, explains, comes_from}
@@ -16,7 +16,7 @@ use Rattle.dx_explain.specs.Cases.{cuts_of, is_allowed, is_pending, waits}
 use Rattle.dx_explain.specs.CaseLaws.{ExplainsIs, PendingIs, WaitsIs, HasPending}
 use Rattle.dx_explain.proofs.Searches.{some_found, some_from, set_found, set_passes}
 use Rattle.dx_explain.proofs.Telling.{story_is, story_back, story_below, within_is, within_back}
-use Rattle.dx_explain.proofs.Telling.{just_is, just_back, kind_below}
+use Rattle.dx_explain.proofs.Telling.{just_is, just_back}
 
 module _ (g : GraphValue) (cut : CutsOf) (seen : List ℕ) (root : ℕ) (graph : IsGraph g) where
   abbrev shown : NodeSet → Bool
@@ -81,7 +81,7 @@ module _ (g : GraphValue) (cut : CutsOf) (seen : List ℕ) (allowed : NodeSet) (
   from_pending x =
       let X = x.set in
       some_from (length g.nodes) (comes_from g cut seen allowed e) x.root
-      (root_below g.nodes x.root x.story.story.root_kind)
+      (kind_below is_root_kind g.nodes x.root x.story.story.root_kind)
       (set_passes (length g.nodes) (has_it x.root) X
       (story_below g cut x.root X graph x.story.story)
       (and_from (is_story g cut x.root X)

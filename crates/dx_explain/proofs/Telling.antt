@@ -8,14 +8,12 @@ use Rattle.std.proofs.lemmas.Bool.{cases_Bool, cases_eq, cases_lt, and_parts, an
 use Rattle.std.proofs.lemmas.Bool.{or_left, or_right, eq-eqb, eqb-true, ltb-true, false≢true}
 use Rattle.std.proofs.lemmas.Bool.{both_ways, not-true, not_from_false, false_from_ne_true}
 use Rattle.ev_incidence.specs.Sets.{NodeSet, is_member, IsSubset}
-use Rattle.ev_graph.specs.Kinds.{has_kind, is_root_node, is_report_node}
+use Rattle.ev_graph.specs.Kinds.{is_root_node, is_report_node}
 use Rattle.ev_incidence.specs.Wiring.{Wiring}
 use Rattle.ev_graph.specs.Wired.{causes_if_any, effects_if_any}
 use Rattle.ev_graph.specs.Rules.{is_enough, is_met, IsProduced, IsShown}
 use Rattle.ev_graph.specs.Kinds.{has_engine_below}
 use Rattle.ev_graph.specs.Lawful.{GraphValue, IsGraph, is_in_range, are_below}
-use Rattle.ev_graph.specs.declared.nodes.Node.{Node}
-use Rattle.ev_graph.specs.declared.nodes.NodeKind.{NodeKind}
 use Rattle.ev_graph.specs.declared.instances.Instance.{Instance}
 use Rattle.ev_incidence.proofs.Occurrences.{filter_in, all_in, all_from}
 use Rattle.dx_story.specs.Story.{IsStory}
@@ -47,12 +45,6 @@ effect_below n (x ∷ is) zero e h i =
     ltb-true e n (all_in (λ e. ltb e n) x.effects e q.1 i)
 effect_below n (x ∷ is) (suc j) e h i =
     effect_below n is j e (and_parts (is_in_range n x) (list_all (is_in_range n) is) h).1 i
-
-pub kind_below : (kind : NodeKind → Bool) (nodes : List Node) (e : ℕ)
-    → has_kind kind (slice_get nodes e) ≡ true → e < length nodes
-kind_below kind [] e h = absurd (false≢true h)
-kind_below kind (n ∷ ns) zero h = omega arith
-kind_below kind (n ∷ ns) (suc e) h = omega (arith, kind_below kind ns e h)
 
 -- where it is so of members, and X has e, it is so of e
 pub implied : (a b : Bool) → (not a || b) ≡ true → a ≡ true → b ≡ true

@@ -1,10 +1,10 @@
 -- A lawful state has a spelling, where its bytes are no more than memory has.
 use Rattle.std.proofs.Common.{◌≡◌, ℕ, suc, ◌+◌, ◌^◌, ◌<◌, ◌≤◌, ◌==◌, Bool, true, false, not, ◌&&◌}
 use Rattle.std.proofs.Common.{◌||◌}
-use Rattle.std.proofs.Common.{zero, nat_lt, nat_le, IsTrue, List, [], ◌∷◌, ◌++◌, length, flat_map}
+use Rattle.std.proofs.Common.{nat_lt, nat_le, IsTrue, List, [], ◌∷◌, ◌++◌, length, flat_map}
 use Rattle.std.proofs.Common.{refl}
 use Rattle.std.specs.Int.{bytes_high_first}
-use Rattle.std.proofs.Common.{◌-◌, sym, ap, ◌∙◌, arith, slice_get, length-append}
+use Rattle.std.proofs.Common.{◌-◌, sym, ap, ◌∙◌, arith, length-append}
 use Rattle.std.specs.List.{list_all, list_any}
 use Rattle.std.proofs.lemmas.Bool.{false≢true, and_from, and_parts, leb-true, le-leb, ltb-true}
 use Rattle.std.proofs.lemmas.Bool.{lt-ltb, eqb-true}
@@ -19,13 +19,13 @@ use Rattle.fm_entry.specs.declared.broken.Broken.{Broken}
 use Rattle.fm_entry.specs.declared.list_event.ListEvent.{ListEvent}
 use Rattle.fm_core.specs.Meaning.{OpenCase, Diagnosis}
 use Rattle.ev_incidence.specs.Sets.{is_member}
-use Rattle.ev_graph.specs.Kinds.{has_kind, is_report_kind, is_report_node}
+use Rattle.ev_graph.specs.Kinds.{is_report_kind, is_report_node}
 use Rattle.ev_graph.specs.Lawful.{GraphValue, has_engine_limits}
 use Rattle.ev_graph.specs.Cutting.{is_cut}
 use Rattle.ev_graph.specs.declared.nodes.EngineSpec.{EngineSpec}
 use Rattle.ev_graph.specs.declared.nodes.Node.{Node}
-use Rattle.ev_graph.specs.declared.nodes.NodeKind.{NodeKind}
 use Rattle.ev_graph.specs.declared.instances.Link.{Link}
+use Rattle.ev_graph.proofs.Kinds.{kind_below}
 use Rattle.dx_serd.specs.Rates.{are_kept, none_past, is_rising}
 use Rattle.dx_state.specs.Configured.{Configuration}
 use Rattle.dx_state.specs.StateBytes.{version_byte, case_links}
@@ -37,13 +37,6 @@ use Rattle.dx_state.specs.LawfulState.{is_formed_engine, is_own_link, is_open_ca
 use Rattle.dx_state.specs.LawfulState.{are_engines}
 use Rattle.dx_state.proofs.Lists.{all_other, all_pass, strict_of, strict_few, links_few}
 use Rattle.dx_state.proofs.Facts.{IsFormed, IsOpenCase, case_is, IsState}
-
--- a node of a kind is one of the nodes
-pub kind_below : (p : NodeKind → Bool) (nodes : List Node) (e : ℕ)
-    → IsTrue (has_kind p (slice_get nodes e)) → e < length nodes
-kind_below p [] e h = absurd (false≢true h)
-kind_below p (node ∷ nodes) zero h = omega arith
-kind_below p (node ∷ nodes) (suc e) h = let rest = kind_below p nodes e h in omega arith
 
 pub reports_below : (nodes : List Node) (es : List ℕ) → IsTrue (list_all (is_report_node nodes) es)
     → IsTrue (list_all (λ e. nat_lt e (length nodes)) es)

@@ -1,5 +1,4 @@
 pub mod Exact
 pub mod Linked
 pub mod Unions
-pub mod Roots
 pub mod Answers

@@ -176,8 +176,8 @@ lawful_statement events engines (statements.Prop place left n k right) c u =
     let vertical : List ℕ → Bool =
     λ v. is_vertical_in (map view_pattern left) v || is_vertical_in (map view_pattern right) v
     in
-    let odd = or_parts (list_any (is_odd_side true) left) (list_any (is_odd_side false) right) c.kind
-    in
+    let odd = or_parts (list_any (is_odd_side true) left) (list_any (is_odd_side false) right)
+    c.kind in
     let counts = or_parts (is_odd_count 0 n || is_odd_count 1 k)
     (list_any has_odd_part left || list_any has_odd_part right) c.count in
     let parts = or_parts (list_any has_odd_part left) (list_any has_odd_part right) counts.1 in

@@ -39,7 +39,6 @@ use Rattle.ev_check.specs.Defaults.{first_by, or_else, fit_of, within_of, n_of, 
 use Rattle.ev_check.specs.Drawn.{number_at, trip_among, causes_in, effects_in}
 use Rattle.ev_check.specs.Lawful.{file_events, linking_causes, linking_effects, spec_event}
 use Rattle.ev_check.specs.Sound.{IsSound}
-use Rattle.ev_check.specs.declared.checked.DeclKind.{DeclKind}
 use Rattle.ev_check.specs.declared.checked.DeclKind.TheVariants as kinds
 use Rattle.ev_check.specs.declared.checked.EventSpec.{EventSpec}
 use Rattle.ev_check.specs.declared.checked.SerdSpec.{SerdSpec}

@@ -1,11 +1,9 @@
 -- What the condition of a pattern is asked with.
-use Rattle.std.specs.Prelude.{ℕ, Bool, true, List, [], ◌∷◌, ◌++◌, zip, map, filter_map, Option}
+use Rattle.std.specs.Prelude.{ℕ, Bool, List, ◌++◌, zip, map, filter_map, Option}
 use Rattle.std.specs.Prelude.{Some, None}
 use Rattle.std.specs.List.{list_any}
 use Rattle.fm_name.specs.Path.{instances_of}
-use Rattle.fm_topo.specs.Topology.{Topology}
 use Rattle.ev_tree.specs.Condition.{Condition}
-use Rattle.ev_tree.specs.Pattern.{Pattern}
 use Rattle.ev_tree.specs.declared.tree.At.{At}
 use Rattle.ev_tree.specs.declared.tree.At.TheVariants as ats
 use Rattle.ev_tree.specs.declared.tree.Part.{Part}

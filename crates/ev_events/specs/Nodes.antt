@@ -1,6 +1,6 @@
 -- The nodes and engines of a graph: every declared event, and every declared engine, at every path
 -- of the topology with its names.
-use Rattle.std.specs.Prelude.{◌≡◌, ◌≤◌, ◌<◌, ◌^◌, ℕ, true, List, map, Option, Some, None, slice_get}
+use Rattle.std.specs.Prelude.{◌≡◌, ◌≤◌, ◌<◌, ◌^◌, ℕ, true, List, map, Some, None, slice_get}
 use Rattle.std.specs.Prelude.{length, take}
 use Rattle.fm_name.specs.declared.events.EventName.{EventName}
 use Rattle.fm_topo.specs.Topology.{Topology}

@@ -1,6 +1,6 @@
 -- What a checked file keeps of its events, its engines and the numbers at its arrows.
-use Rattle.std.specs.Prelude.{◌≡◌, ◌<◌, ◌≤◌, ◌^◌, ℕ, Bool, true, false, nat_lt, nat_le, List, map}
-use Rattle.std.specs.Prelude.{Option, Some, slice_get, ◌&&◌}
+use Rattle.std.specs.Prelude.{◌≡◌, ◌<◌, ◌≤◌, ◌^◌, ℕ, Bool, true, nat_lt, nat_le, map}
+use Rattle.std.specs.Prelude.{Some, slice_get}
 use Rattle.fm_name.specs.Category.{category_of}
 use Rattle.fm_name.specs.declared.classes.Category.{Category}
 use Rattle.fm_name.specs.declared.classes.Category.TheVariants.{Ereport, Error, Fault, Defect}

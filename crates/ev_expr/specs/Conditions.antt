@@ -1,6 +1,6 @@
 -- Whether a condition holds.
 use Rattle.std.specs.Prelude.{ℕ, Bool, true, false, not, ◌==◌, ◌&&◌, ◌||◌, nat_lt, nat_le, List}
-use Rattle.std.specs.Prelude.{Option, Some, None, is_some, bytes_eq}
+use Rattle.std.specs.Prelude.{Option, Some, is_some, bytes_eq}
 use Rattle.ev_tree.specs.Condition.{Condition, Conditions, Any, All, Negated, Defined, Compares}
 use Rattle.ev_tree.specs.Condition.{Nothing, Also}
 use Rattle.ev_tree.specs.declared.tree.Compare.{Compare}

@@ -1,15 +1,14 @@
 -- What a graph and its incidence are to each other.
-use Rattle.std.proofs.Common.{◌≡◌, ◌≢◌, ◌+◌, ◌<◌, ◌≤◌, ◌⊎◌, ◌&&◌, ℕ, zero, suc, Bool, true, false}
-use Rattle.std.proofs.Common.{eqb, ltb, leb, List, [], ◌∷◌, map, length, get_or, refl, sym, ap}
+use Rattle.std.proofs.Common.{◌≡◌, ◌≢◌, ◌+◌, ◌<◌, ℕ, zero, suc, true, false}
+use Rattle.std.proofs.Common.{ltb, leb, List, [], ◌∷◌, map, length, get_or, refl, sym, ap}
 use Rattle.std.proofs.Common.{subst, ◌∙◌, arith, inl, inr, Option, Some, None, slice_get}
-use Rattle.std.specs.List.{list_all, list_any, HoldsAt, AllWithin}
-use Rattle.std.specs.List.Sorted.{IsPartitionPoint, IsNonDecreasingBy, IsSortedBy}
+use Rattle.std.specs.List.{list_all, list_any, HoldsAt}
+use Rattle.std.specs.List.Sorted.{IsPartitionPoint, IsNonDecreasingBy}
 use Rattle.std.specs.declared.cmp.Ordering.{Ordering}
 use Rattle.std.specs.declared.cmp.Ordering.TheVariants.{Less, Equal, Greater}
 use Rattle.std.specs.Ordering.{is_lt, ordering_index}
 use Rattle.std.specs.Ordering.{ordering_reverse}
-use Rattle.std.specs.Cmp.{IsTotalOrder, tied_itself}
-use Rattle.std.proofs.lemmas.List.{get_or_past}
+use Rattle.std.specs.Cmp.{tied_itself}
 use Rattle.std.proofs.lemmas.List.Sorted.{searchable_from_sorted}
 use Rattle.std.proofs.lemmas.Option.{slice_get_past, slice_get_cases, same_Some}
 use Rattle.std.proofs.lemmas.Bool.{cases_lt, and_parts, or_cases, or_parts, ltb-true, leb-true}
@@ -18,24 +17,23 @@ use Rattle.fm_name.specs.Events.{event_cmp, event_cmp_total, event_tie}
 use Rattle.fm_name.specs.declared.events.EventName.{EventName}
 use Rattle.ev_graph.specs.declared.nodes.Node.{Node}
 use Rattle.ev_graph.specs.declared.nodes.EngineSpec.{EngineSpec}
-use Rattle.ev_graph.specs.declared.nodes.NodeKind.{NodeKind}
 use Rattle.ev_graph.specs.declared.nodes.NodeKind.TheVariants.{Fault, Defect, Upset, Inner, Report}
 use Rattle.ev_graph.specs.declared.instances.Instance.{Instance}
 use Rattle.ev_graph.specs.declared.fault.GraphFault.TheVariants.{Kinds, Cyclic}
-use Rattle.ev_incidence.specs.Sets.{is_member, ascends_by, IsSubset}
+use Rattle.ev_incidence.specs.Sets.{is_member, ascends_by}
 use Rattle.ev_graph.specs.Kinds.{is_report_node, is_upset_node, is_report_kind, is_upset_kind}
 use Rattle.ev_graph.specs.Kinds.{has_kind}
 use Rattle.ev_incidence.specs.Wiring.{Wiring}
 use Rattle.ev_graph.specs.Wired.{wiring, causes_if_any, effects_if_any, n_if_any, k_if_any}
 use Rattle.ev_incidence.specs.Wiring.{IsCauseOf}
 use Rattle.ev_incidence.specs.Wiring.{Chain, HasChain, ReachesItself}
-use Rattle.ev_incidence.specs.Table.{row_at, IncidenceValue, IsIncidence, AreRowsBelow, wiring_of}
-use Rattle.ev_incidence.specs.Reached.{IsLinked, Trail, IsReachedFrom, IsReach, CanSearch}
+use Rattle.ev_incidence.specs.Table.{row_at, IncidenceValue, IsIncidence, wiring_of}
+use Rattle.ev_incidence.specs.Reached.{Trail, IsReach, CanSearch}
 use Rattle.ev_incidence.specs.Reached.{MarkedValue}
 use Rattle.ev_incidence.specs.Ranking.{HaveCauses, AreRanks}
 use Rattle.ev_graph.specs.Lawful.{GraphValue, TripsUpset, AreAllUpsets, are_below, is_in_range}
 use Rattle.ev_graph.specs.Lawful.{has_counts, are_counted, keep_kinds, IsNumbered, IsKindred}
-use Rattle.ev_graph.specs.Lawful.{IsCountedGraph, IsGraph, IsRefused, IsIncidenceOf, IsBuilt}
+use Rattle.ev_graph.specs.Lawful.{IsCountedGraph, IsRefused, IsIncidenceOf, IsBuilt}
 use Rattle.ev_graph.specs.Lawful.{is_before_node, name_in, has_engine_limits}
 use Rattle.ev_graph.specs.Kinds.{has_limits}
 use Rattle.ev_incidence.proofs.Ascending.{rises_by}

@@ -1,5 +1,5 @@
 -- The graph without some links.
-use Rattle.std.specs.Prelude.{◌≡◌, ◌==◌, ◌&&◌, ◌||◌, ◌+◌, ◌*◌, ◌^◌, ◌<◌, not, ℕ, Bool, true, nat_lt}
+use Rattle.std.specs.Prelude.{◌≡◌, ◌==◌, ◌&&◌, ◌||◌, not, ℕ, Bool, true, nat_lt}
 use Rattle.std.specs.Prelude.{List, Some, slice_get}
 use Rattle.std.specs.List.{list_any, filter}
 use Rattle.ev_incidence.specs.Sets.{is_member, ascends_by}

@@ -1,11 +1,10 @@
 -- Lists whose items ascend.
-use Rattle.std.proofs.Common.{◌≡◌, ◌+◌, ◌<◌, ◌≤◌, ℕ, zero, suc, Bool, true, false, cond, ◌&&◌, List}
+use Rattle.std.proofs.Common.{◌≡◌, ◌+◌, ◌<◌, ℕ, zero, suc, Bool, true, false, List}
 use Rattle.std.proofs.Common.{[], ◌∷◌, length, get_or, refl, sym, ap, subst, ◌∙◌, arith, add-one}
 use Rattle.std.proofs.Common.{ltb}
-use Rattle.std.specs.Bool.{MatchBool}
-use Rattle.std.specs.List.{AllAdjacentBelow, IsAllAdjacentAnswer}
+use Rattle.std.specs.List.{IsAllAdjacentAnswer}
 use Rattle.std.proofs.lemmas.Bool.{and_from, and_parts, and_left, and_right, ltb-true, lt-ltb}
-use Rattle.ev_incidence.specs.Sets.{ascends_by, starts_above, ascends}
+use Rattle.ev_incidence.specs.Sets.{ascends_by, ascends}
 
 module _ {X : Type 0} (before : X → X → Bool) where
   pub ascends_passes : (xs : List X)

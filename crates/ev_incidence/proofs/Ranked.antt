@@ -1,19 +1,19 @@
 -- The steps of the search for ranks.
-use Rattle.std.proofs.Common.{◌≡◌, ◌≢◌, ◌+◌, ◌-◌, ◌<◌, ◌≤◌, ◌++◌, ◌⊎◌, ◌||◌, ℕ, zero, suc, Bool}
-use Rattle.std.proofs.Common.{true, false, cond, eqb, List, [], ◌∷◌, length, get_or, take, set}
+use Rattle.std.proofs.Common.{◌≡◌, ◌≢◌, ◌+◌, ◌-◌, ◌<◌, ◌≤◌, ◌⊎◌, ℕ, zero, suc, Bool}
+use Rattle.std.proofs.Common.{true, false, cond, eqb, List, length, get_or, take, set}
 use Rattle.std.proofs.Common.{replicate, refl, sym, ap, subst, ◌∙◌, arith, inl, inr}
-use Rattle.std.proofs.Common.{get_or-set_same, get_or-set_other, add-one}
-use Rattle.std.specs.List.{list_any, count_by}
+use Rattle.std.proofs.Common.{get_or-set_same, get_or-set_other}
+use Rattle.std.specs.List.{count_by}
 use Rattle.std.proofs.lemmas.List.{get_or_past, length-set, length-replicate, get_or-replicate}
-use Rattle.std.proofs.lemmas.List.Folds.{list_any_more, sum_by-replicate}
+use Rattle.std.proofs.lemmas.List.Folds.{list_any_more}
 use Rattle.std.proofs.lemmas.List.Sums.{sum_by-set, count_by-le-length}
 use Rattle.std.proofs.lemmas.Bool.{cases_lt, cases_eq, cases_Bool, or_cases, or_left, or_right}
-use Rattle.std.proofs.lemmas.Bool.{eqb-true, eq-eqb, ne_eqb, false≢true, cond-true, cond-false}
+use Rattle.std.proofs.lemmas.Bool.{eqb-true, eq-eqb, false≢true, cond-false}
 use Rattle.ev_incidence.specs.Sets.{is_member, has_mark}
 use Rattle.ev_incidence.specs.Table.{row_at, IncidenceValue, IsIncidence, wiring_of}
 use Rattle.ev_incidence.specs.Wiring.{Wiring, IsCauseOf, Chain, HasChain, IsRank, ReachesItself}
-use Rattle.ev_incidence.specs.Ranking.{IsMost, LacksOne, IsRanking, ArePlacesStuck, AreNodesStuck}
-use Rattle.ev_incidence.specs.Ranking.{HaveCauses, AreRanks}
+use Rattle.ev_incidence.specs.Ranking.{IsMost, IsRanking, ArePlacesStuck, AreNodesStuck}
+use Rattle.ev_incidence.specs.Ranking.{AreRanks}
 use Rattle.ev_incidence.proofs.Occurrences.{in_at, in_transposed, transposed_in, row_in_range}
 
 -- one number more, whose value is v; n is the greater of it and m

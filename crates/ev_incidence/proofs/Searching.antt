@@ -1,22 +1,17 @@
 -- The steps of a search.
-use Rattle.std.proofs.Common.{◌≡◌, ◌+◌, ◌<◌, ◌≤◌, ◌++◌, ◌⊎◌, ◌||◌, ℕ, zero, suc, Bool, true, false}
-use Rattle.std.proofs.Common.{cond, eqb, List, [], ◌∷◌, length, get_or, take, set, refl, sym, ap}
-use Rattle.std.proofs.Common.{subst, ◌∙◌, arith, inl, inr, get_or-set_same, get_or-set_other}
-use Rattle.std.proofs.Common.{append_assoc, length-append, append-nil}
-use Rattle.std.specs.List.{list_any, count_by}
-use Rattle.std.proofs.lemmas.List.{get_or_append_left, length_push, get_or_push, get_or_past}
-use Rattle.std.proofs.lemmas.List.{take_all}
+use Rattle.std.proofs.Common.{◌≡◌, ◌+◌, ◌<◌, ◌≤◌, ◌++◌, ℕ, suc, true}
+use Rattle.std.proofs.Common.{eqb, List, length, get_or, take, refl, sym, ap}
+use Rattle.std.proofs.Common.{subst, ◌∙◌, arith, inl, inr}
+use Rattle.std.proofs.Common.{append_assoc}
+use Rattle.std.proofs.lemmas.List.{get_or_append_left}
 use Rattle.std.proofs.lemmas.List.Folds.{list_any_more}
-use Rattle.std.proofs.lemmas.List.Sums.{sum_by-set}
-use Rattle.std.proofs.lemmas.Bool.{cases_lt, cases_eq, or_cases, or_left, or_right, eqb-true}
-use Rattle.std.proofs.lemmas.Bool.{eq-eqb, false≢true, cond-true, cond-false}
-use Rattle.ev_incidence.specs.Sets.{is_member, has_mark, IsSubset}
+use Rattle.std.proofs.lemmas.Bool.{cases_lt, or_cases, or_left, or_right, eqb-true}
+use Rattle.std.proofs.lemmas.Bool.{eq-eqb}
+use Rattle.ev_incidence.specs.Sets.{is_member, IsSubset}
 use Rattle.ev_incidence.specs.Table.{row_at}
-use Rattle.ev_incidence.specs.Reached.{IsLinked, Trail, IsReachedFrom, AreReachedFrom, AreInto}
-use Rattle.ev_incidence.specs.Reached.{AreOut}
-use Rattle.ev_incidence.specs.Reached.{IsReach, AreMarked, Extends, AddsNodes, TakesRow, TakesRows}
-use Rattle.ev_incidence.specs.Reached.{IsSearching, MarkedValue}
-use Rattle.ev_incidence.proofs.Occurrences.{in_at, in_push, in_more, in_last, place_in}
+use Rattle.ev_incidence.specs.Reached.{IsReach, Extends, TakesRow, TakesRows}
+use Rattle.ev_incidence.specs.Reached.{IsSearching}
+use Rattle.ev_incidence.proofs.Occurrences.{in_at, in_more, place_in}
 
 -- lists that grow
 pub extends_on : {xs ys zs : List ℕ} → Extends xs ys → Extends ys zs → Extends xs zs
@@ -68,6 +63,14 @@ rows_more rows own a b c d e f i l g h there =
           last,
         )
       ];
+      no_other = λ j p. elim (h.no_other j p) [
+        | inl mid ↦ elim (g.no_other j mid) [
+          | inl old ↦ inl old
+          | inr early ↦ inr (split j ∙ or_left (is_member (take i own) j) (eqb x j) early)
+        ]
+        | inr same ↦ inr (split j ∙ or_right (is_member (take i own) j) (eqb x j)
+            (eq-eqb x j same))
+      ];
     }
 
 -- the rows of one more node
@@ -106,6 +109,13 @@ search_more index rows starts at a b c d l h t = record {
           }
     ];
   };
+  no_other = record {
+    each = λ j p. elim (t.no_other j p) [
+      | inl was ↦ let of = h.no_other.each j was in
+          (of.0, extends_in t.extends of.0 of.1, of.2)
+      | inr fresh ↦ (get_or a at 0, extends_in t.extends (get_or a at 0) (in_at a at l), fresh)
+    ];
+  };
 }
 
 pub search_end : (index rows : List (List ℕ)) (starts : List ℕ) (at : ℕ) (nodes places : List ℕ)
@@ -119,4 +129,5 @@ search_end index rows starts at nodes places past h = record {
       ∙ q);
   into = h.into.each;
   reached = h.reached.each;
+  no_other = h.no_other;
 }

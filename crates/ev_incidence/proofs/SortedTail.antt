@@ -45,4 +45,7 @@ searching_sorted index rows starts at a b places s h = record {
   };
   into = record { each = λ j e place there. s.same e ∙ h.into.each j e place there };
   reached = record { each = λ y there. h.reached.each y (sym (s.same y) ∙ there) };
+  no_other = record {
+    each = λ j there. let of = h.no_other.each j there in (of.0, s.same of.0 ∙ of.1, of.2);
+  };
 }

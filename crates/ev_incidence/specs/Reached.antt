@@ -36,8 +36,12 @@ pub record AreOut (index : List (List ℕ)) (n : ℕ) (nodes places : List ℕ) 
   pub each : (i j : ℕ) → i < n → i < length nodes
       → is_member (row_at index (slice_index nodes i)) j ≡ true → is_member places j ≡ true
 
--- the nodes are just those that the starts come to, and the places those of their rows and maybe
--- more
+-- each of the places is one of a row of the nodes
+pub record AreOfNodes (index : List (List ℕ)) (nodes places : List ℕ) : Type 0 where
+  pub each : (j : ℕ) → is_member places j ≡ true
+      → (e : ℕ) × (is_member nodes e ≡ true) × (is_member (row_at index e) j ≡ true)
+
+-- the nodes are just those that the starts come to, and the places just those of their rows
 pub record IsReach (index rows : List (List ℕ)) (starts nodes places : List ℕ) : Type 0 where
   pub starts_in : IsSubset (is_member starts) (is_member nodes)
   pub out : (e j : ℕ) → is_member nodes e ≡ true → is_member (row_at index e) j ≡ true
@@ -45,6 +49,7 @@ pub record IsReach (index rows : List (List ℕ)) (starts nodes places : List �
   pub into : (j e : ℕ) → is_member places j ≡ true → is_member (row_at rows j) e ≡ true
       → is_member nodes e ≡ true
   pub reached : (e : ℕ) → is_member nodes e ≡ true → IsReachedFrom index rows starts e
+  pub no_other : AreOfNodes index nodes places
 
 -- numbers below a size, in the order in which they were noted
 pub record MarkedValue : Type 0 where
@@ -82,6 +87,8 @@ pub record TakesRow (rows : List (List ℕ)) (place : ℕ)
   pub into : AreInto rows old_places old_nodes → AreInto rows new_places new_nodes
   pub only : (e : ℕ) → is_member new_nodes e ≡ true → (is_member old_nodes e ≡ true)
       ⊎ (is_member (row_at rows place) e ≡ true)
+  pub no_other : (j : ℕ) → is_member new_places j ≡ true → (is_member old_places j ≡ true)
+      ⊎ (place ≡ j)
 
 -- the same of several
 pub record TakesRows (rows : List (List ℕ))
@@ -93,6 +100,8 @@ pub record TakesRows (rows : List (List ℕ))
   pub only : (e : ℕ) → is_member new_nodes e ≡ true
       → (is_member old_nodes e ≡ true)
       ⊎ ((j : ℕ) × (is_member own j ≡ true) × (is_member (row_at rows j) e ≡ true))
+  pub no_other : (j : ℕ) → is_member new_places j ≡ true → (is_member old_places j ≡ true)
+      ⊎ (is_member own j ≡ true)
 
 -- a search may begin
 pub record CanSearch (index rows : List (List ℕ)) (starts : List ℕ) (nodes places : MarkedValue) :
@@ -110,3 +119,4 @@ pub record IsSearching (index rows : List (List ℕ)) (starts : List ℕ) (at : 
   pub out : AreOut index at nodes places
   pub into : AreInto rows places nodes
   pub reached : AreReachedFrom index rows starts nodes
+  pub no_other : AreOfNodes index nodes places

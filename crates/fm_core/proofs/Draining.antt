@@ -1,6 +1,7 @@
 -- Work alone: what it keeps of a core, and how far the modules come.
 use Rattle.std.proofs.Common.{◌≡◌, ◌≢◌, ℕ, suc, ◌+◌, ◌-◌, ◌<◌, ◌≤◌, Bool, true, ◌&&◌, ◌==◌, IsTrue}
-use Rattle.std.proofs.Common.{append-nil, append_assoc, ◌++◌, List, [], ◌∷◌, length, map, get_or, Option, Some, None, Result, Ok}
+use Rattle.std.proofs.Common.{append-nil, append_assoc, ◌++◌, List, [], ◌∷◌, length, map}
+use Rattle.std.proofs.Common.{get_or, Option, Some, None, Result, Ok}
 use Rattle.std.proofs.Common.{Err, OnOk, OnErr, ◌⊎◌, inl, inr, refl, sym, ◌∙◌, ap, subst, arith}
 use Rattle.std.specs.List.{slice_get, list_all}
 use Rattle.std.proofs.lemmas.Bool.{cases_eq, cases_lt}

@@ -143,4 +143,5 @@ pub list_all_get : {X : Type 0} (p : X → Bool) (xs : List X) (i : ℕ) (x : X)
 list_all_get p [] i x a h = absurd (let no : ⊥ = cc in no)
 list_all_get p (y ∷ xs) zero x a h = let f : p y ≡ true = (and_parts (p y) (list_all p xs) a).0 in
     let e : y ≡ x = cc in rw (← e) f
-list_all_get p (y ∷ xs) (suc i) x a h = list_all_get p xs i x (and_parts (p y) (list_all p xs) a).1 h
+list_all_get p (y ∷ xs) (suc i) x a h =
+    list_all_get p xs i x (and_parts (p y) (list_all p xs) a).1 h

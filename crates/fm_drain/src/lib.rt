@@ -6,10 +6,10 @@
 //! after another until it is at the end. It commits each step before the next one. So the store
 //! stands for the book after these works (`store_after`), which drains to what the book of before
 //! does, since the order of works makes no difference to that. `drain_to_base` writes a checkpoint
-//! at the end too, and the store stands for the same book with its base moved (`store_based`); where
-//! no entry is past the base, nothing is written. What each case has come to is its last word: a
-//! status is that of a drained book (`IsStatusOf`), whatever the order in which the modules were
-//! worked, since a case is of one module, whose records ascend.
+//! at the end too, and the store stands for the same book with its base moved (`store_based`);
+//! where no entry is past the base, nothing is written. What each case has come to is its last
+//! word: a status is that of a drained book (`IsStatusOf`), whatever the order in which the modules
+//! were worked, since a case is of one module, whose records ascend.
 //!
 //! **Promises.** After `Ok` each module is at the end of the entries and so is its hand; of
 //! `drain_to_base`, the base is there too. After a refusal the hands still follow the book that the

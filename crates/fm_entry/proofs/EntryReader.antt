@@ -145,49 +145,51 @@ tagged_sound n bytes t all h =
       | inl is ↦ kind_entry 1 (λ f. Report f.0 f.1.0 f.1.1.0 f.1.1.1) report_fits report_bytes
           report_from report_reader report_spelled (λ f. refl) n bytes t (eqb-true n 1 is.0) all
           is.1
-      | inr other ↦ elim (choice_split (n == 2) (made Tick (moment_from bytes)) _ (Some t) other.1) [
-        | inl is ↦ kind_entry 2 Tick small u64_bytes moment_from moment_reader
-            (λ m k. record { moment_fits = ltb-true m (2 ^ 62) k; body = tt }) (λ m. refl) n bytes t
-            (eqb-true n 2 is.0) all is.1
-        | inr other ↦ elim (choice_split (n == 3)
-            (made (λ f. Repaired f.0 f.1) (both_from path_from moment_from bytes)) _ (Some t)
-            other.1) [
-              | inl is ↦ kind_entry 3 (λ f. Repaired f.0 f.1) place_fits place_bytes
-                  (both_from path_from moment_from) place_reader
-                  (λ f k. let parts = and_parts (is_path f.0) _ k in
-                  record { moment_fits = ltb-true f.1 (2 ^ 62) parts.1; body = parts.0 })
-                  (λ f. refl) n bytes t (eqb-true n 3 is.0) all is.1
-              | inr other ↦ elim (choice_split (n == 4)
-                  (made (λ f. Replaced f.0 f.1) (both_from path_from moment_from bytes)) _ (Some t)
-                  other.1) [
-                    | inl is ↦ kind_entry 4 (λ f. Replaced f.0 f.1) place_fits place_bytes
-                        (both_from path_from moment_from) place_reader
-                        (λ f k. let parts = and_parts (is_path f.0) _ k in
-                        record { moment_fits = ltb-true f.1 (2 ^ 62) parts.1; body = parts.0 })
-                        (λ f. refl) n bytes t (eqb-true n 4 is.0) all is.1
-                    | inr other ↦ elim (choice_split (n == 5)
-                        (made (λ f. Acquit (record { «module» = f.0; case = f.1.0 }) f.1.1)
-                        (acquit_from bytes)) _ (Some t) other.1) [
-                          | inl is ↦ kind_entry 5 (λ f. Acquit (record { «module» = f.0; case = f.1.0 }) f.1.1)
-                              acquit_fits acquit_bytes acquit_from acquit_reader
-                              acquit_spelled (λ f. refl) n bytes t (eqb-true n 5 is.0) all is.1
-                          | inr other ↦
-                              let last = choice_some (n == 6)
-                              (made (λ f. Reload f.0 f.1) (both_from (number_from 4) moment_from bytes)) t
-                              other.1 in
-                              kind_entry 6 (λ f. Reload f.0 f.1) reload_fits reload_bytes
-                              (both_from (number_from 4) moment_from) reload_reader
-                              (λ f k. let parts = and_parts (nat_lt f.0 (2 ^ 32)) _ k in
-                              record {
-                                moment_fits = ltb-true f.1 (2 ^ 62) parts.1;
-                                body =
-                                    ltb-true f.0 (2 ^ 32) parts.0;
-                              })
-                              (λ f. refl) n bytes t (eqb-true n 6 last.0) all last.1
-                        ]
-                  ]
-            ]
-      ]
+      | inr other ↦ elim (choice_split (n == 2) (made Tick (moment_from bytes)) _ (Some t)
+          other.1) [
+            | inl is ↦ kind_entry 2 Tick small u64_bytes moment_from moment_reader
+                (λ m k. record { moment_fits = ltb-true m (2 ^ 62) k; body = tt }) (λ m. refl) n bytes t
+                (eqb-true n 2 is.0) all is.1
+            | inr other ↦ elim (choice_split (n == 3)
+                (made (λ f. Repaired f.0 f.1) (both_from path_from moment_from bytes)) _ (Some t)
+                other.1) [
+                  | inl is ↦ kind_entry 3 (λ f. Repaired f.0 f.1) place_fits place_bytes
+                      (both_from path_from moment_from) place_reader
+                      (λ f k. let parts = and_parts (is_path f.0) _ k in
+                      record { moment_fits = ltb-true f.1 (2 ^ 62) parts.1; body = parts.0 })
+                      (λ f. refl) n bytes t (eqb-true n 3 is.0) all is.1
+                  | inr other ↦ elim (choice_split (n == 4)
+                      (made (λ f. Replaced f.0 f.1) (both_from path_from moment_from bytes)) _ (Some t)
+                      other.1) [
+                        | inl is ↦ kind_entry 4 (λ f. Replaced f.0 f.1) place_fits place_bytes
+                            (both_from path_from moment_from) place_reader
+                            (λ f k. let parts = and_parts (is_path f.0) _ k in
+                            record { moment_fits = ltb-true f.1 (2 ^ 62) parts.1; body = parts.0 })
+                            (λ f. refl) n bytes t (eqb-true n 4 is.0) all is.1
+                        | inr other ↦ elim (choice_split (n == 5)
+                            (made (λ f. Acquit (record { «module» = f.0; case = f.1.0 }) f.1.1)
+                            (acquit_from bytes)) _ (Some t) other.1) [
+                              | inl is ↦ kind_entry 5
+                                  (λ f. Acquit (record { «module» = f.0; case = f.1.0 }) f.1.1)
+                                  acquit_fits acquit_bytes acquit_from acquit_reader
+                                  acquit_spelled (λ f. refl) n bytes t (eqb-true n 5 is.0) all is.1
+                              | inr other ↦
+                                  let last = choice_some (n == 6)
+                                  (made (λ f. Reload f.0 f.1)
+                                  (both_from (number_from 4) moment_from bytes)) t other.1 in
+                                  kind_entry 6 (λ f. Reload f.0 f.1) reload_fits reload_bytes
+                                  (both_from (number_from 4) moment_from) reload_reader
+                                  (λ f k. let parts = and_parts (nat_lt f.0 (2 ^ 32)) _ k in
+                                  record {
+                                    moment_fits = ltb-true f.1 (2 ^ 62) parts.1;
+                                    body =
+                                        ltb-true f.0 (2 ^ 32) parts.0;
+                                  })
+                                  (λ f. refl) n bytes t (eqb-true n 6 last.0) all last.1
+                            ]
+                      ]
+                ]
+          ]
     ]
 
 -- what is read is spelled so

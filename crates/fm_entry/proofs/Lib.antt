@@ -1,4 +1,5 @@
 pub mod AsciiTexts
+pub mod Graphic
 pub mod Readers
 pub mod PartReaders
 pub mod EntryReader

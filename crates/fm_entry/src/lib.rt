@@ -1,8 +1,8 @@
 //! What the manager is told and what its modules say: entries, and the words spoken of cases.
 //!
-//! An `Entry` is one thing that happened: a report, a tick of the clock, a repair, a replacement, an
-//! acquittal, or a reload, from which on another configuration is in force. A `Spoken` is what one
-//! module said at one entry, a list of `ListEvent`.
+//! An `Entry` is one thing that happened: a report, a tick of the clock, a repair, a replacement,
+//! an acquittal, or a reload, from which on another configuration is in force. A `Spoken` is what
+//! one module said at one entry, a list of `ListEvent`.
 //! Contracts see each value as plain data: a class and a path as the bytes of their texts, a
 //! payload as its pairs, a list as a list. `moment_of` is an entry's moment.
 //!

@@ -18,7 +18,8 @@ first_place test bytes None nowhere =
 first_place test bytes (Some k) (none_before, passes) =
     let there : position_or_len test bytes ≡ k =
     position_or_len_is test bytes k 0 (omega (arith, none_before.high))
-    (λ i below. false_from_ne_true (test (get_or bytes i 0)) (none_before.before i (omega arith) below))
+    (λ i below. false_from_ne_true (test (get_or bytes i 0))
+    (none_before.before i (omega arith) below))
     (λ _. passes) in
     sym (ap (λ t. cond t (Some (position_or_len test bytes)) None)
     (lt-ltb (position_or_len test bytes) (length bytes)

@@ -24,8 +24,8 @@ use Rattle.fm_entry.specs.declared.case_name.CaseName.{CaseName}
 use Rattle.fm_entry.specs.declared.entry.Entry.{Entry}
 use Rattle.fm_entry.specs.declared.entry.Entry.TheVariants.{Report, Tick, Repaired, Replaced}
 use Rattle.fm_entry.specs.declared.entry.Entry.TheVariants.{Acquit, Reload}
-use Rattle.fm_line_laws.proofs.Graphic.{is_graphic, graphic, graphic_append, class_graphic}
-use Rattle.fm_line_laws.proofs.Graphic.{path_graphic}
+use Rattle.fm_entry.proofs.Graphic.{is_graphic, graphic, graphic_append, class_graphic}
+use Rattle.fm_entry.proofs.Graphic.{path_graphic}
 use Rattle.fm_line_laws.proofs.PlainBack.{text_of_graphic, decimal_graphic, EndsPlainly}
 use Rattle.fm_line_laws.proofs.PlainBack.{ends_behind, line_is, two_is, three_is, four_is}
 use Rattle.fm_entry.specs.CaseText.{case_text}

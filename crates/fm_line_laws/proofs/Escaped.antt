@@ -19,8 +19,8 @@ use Rattle.json.specs.Print.{escape_letter, escape_byte, escape}
 
 -- ---- the escapes
 
-pub chosen : {A : Type 0} (P : A → Type 0) (b : Bool) (x y : A) → (b ≡ true → P x) → (b ≡ false → P y)
-    → P (cond b x y)
+pub chosen : {A : Type 0} (P : A → Type 0) (b : Bool) (x y : A) → (b ≡ true → P x)
+    → (b ≡ false → P y) → P (cond b x y)
 chosen P true x y f g = f refl
 chosen P false x y f g = g refl
 

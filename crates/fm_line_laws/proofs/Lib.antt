@@ -2,7 +2,6 @@ pub mod Back
 pub mod Cases
 pub mod Compact
 pub mod Escaped
-pub mod Graphic
 pub mod Lengths
 pub mod Lexed
 pub mod Names

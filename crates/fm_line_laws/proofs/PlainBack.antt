@@ -15,7 +15,7 @@ use Rattle.std.proofs.lemmas.List.Sums.{AllPass-from_list_all}
 use Rattle.std.proofs.lemmas.Str.{is_utf8-from_IsUtf8, IsUtf8-from_ascii}
 use Rattle.std.proofs.lemmas.Str.Parse.{digit_from_value}
 use Rattle.fm_bytes.proofs.Booleans.{and_parts, and_true}
-use Rattle.fm_line_laws.proofs.Graphic.{is_graphic, graphic}
+use Rattle.fm_entry.proofs.Graphic.{is_graphic, graphic}
 use Rattle.fm_line.specs.declared.fault.LineFault.TheVariants.{TooLong}
 use Rattle.fm_line.specs.Forms.{text_of, words, is_space, without_return, is_json, json_entry}
 use Rattle.fm_line.specs.Forms.{content_entry, words_entry, line_entry}

@@ -205,8 +205,8 @@ pub properties_back : (ps : Properties) → list_all is_pair ps ≡ true
     → IsStrictlySortedBy (slice_cmp nat_cmp) (keys_of ps) → properties_of (map pair_text ps) ≡ ps
 unfolding properties_of
 properties_back ps h s =
-    fold_ascending nat_list_cmp_total bytes_tie (λ p. is_pair p ≡ true) with_word pair_text word_back
-    [] ps s (all_pairs ps h)
+    fold_ascending nat_list_cmp_total bytes_tie (λ p. is_pair p ≡ true) with_word pair_text
+    word_back [] ps s (all_pairs ps h)
 
 pub words_back : (ps : Properties) → list_all is_pair ps ≡ true
     → list_all is_property (map pair_text ps) ≡ true

@@ -1,8 +1,8 @@
 use Rattle.std.proofs.Common.{get_or, arith}
-use Rattle.ev_graph.specs.Kinds.{is_root_node, is_report_node}
+use Rattle.ev_graph.specs.Kinds.{is_root_kind, is_root_node, is_report_node}
 use Rattle.ev_graph.proofs.Building.{can_search_forwards}
+use Rattle.ev_graph.proofs.Kinds.{kind_below}
 use Rattle.ev_incidence.proofs.Occurrences.{all_in, in_at}
-use Rattle.dx_story.proofs.Roots.{root_below}
 use Rattle.dx_case.proofs.Searching.{reports_cover, sorted_all}
 use Rattle.dx_case.proofs.finding.reports_of.Goals as goal
 
@@ -17,7 +17,7 @@ search-requires c =
     (rw c.count.ensures.count at c.in_ok-taken.ensures)
     (λ i l. omega (
       arith,
-      root_below g.nodes (get_or roots i 0)
+      kind_below is_root_kind g.nodes (get_or roots i 0)
           (all_in (is_root_node g.nodes) roots (get_or roots i 0) c.requires (in_at roots i l)),
       c.incidence-table.ensures.incidence.nodes,
     )))

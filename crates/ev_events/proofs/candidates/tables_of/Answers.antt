@@ -1,5 +1,5 @@
 -- The tables of both sides.
-use Rattle.std.proofs.Common.{◌≡◌, ◌++◌, ℕ, List, [], sym, ap, ◌∙◌, map, subst, slice_get}
+use Rattle.std.proofs.Common.{◌≡◌, ◌++◌, List, [], sym, ap, ◌∙◌, map, subst, slice_get}
 use Rattle.ev_tree.specs.Pattern.{Pattern, view_pattern}
 use Rattle.ev_tree.specs.declared.tree.SidePattern.{SidePattern}
 use Rattle.ev_events.specs.Sheets.{AreTablesOf}

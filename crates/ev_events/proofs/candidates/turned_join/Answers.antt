@@ -1,5 +1,5 @@
 -- The candidates of the turned tables, turned back, are those of the propagation.
-use Rattle.std.proofs.Common.{◌≡◌, ◌<◌, ℕ, List, map, length, sym, ap, ◌∙◌, subst}
+use Rattle.std.proofs.Common.{◌<◌, ℕ, List, map, length, sym, ap, ◌∙◌, subst}
 use Rattle.ev_check.specs.CheckedFile.{view_prop}
 use Rattle.ev_events.specs.Bindings.{patterns_of}
 use Rattle.ev_events.specs.Names.{iterators}

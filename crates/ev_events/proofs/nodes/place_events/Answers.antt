@@ -1,12 +1,9 @@
 -- The nodes and engines of a checked file.
-use Rattle.std.proofs.Common.{◌≡◌, ◌≤◌, ◌<◌, ◌^◌, ℕ, List, Bor, map, length, sym, ap, ◌∙◌, subst}
-use Rattle.std.proofs.Common.{arith}
+use Rattle.std.proofs.Common.{List, Bor, map, length, sym, ap, ◌∙◌, subst}
 use Rattle.fm_name.specs.declared.events.EventName.{EventName}
 use Rattle.ev_tree.specs.declared.tree.Declared.{Declared}
-use Rattle.ev_check.specs.Lawful.{file_events}
 use Rattle.ev_events.specs.Nodes.{AreEnginesAt, AreEnginesThere, AreNodesAt, AreNodesThere}
-use Rattle.ev_events.specs.Nodes.{file_engines}
-use Rattle.ev_events.specs.Placed.{AreMore, ArePlaced}
+use Rattle.ev_events.specs.Placed.{ArePlaced}
 use Rattle.ev_events.proofs.Declaring.{engines_there, nodes_there, placed_events}
 use Rattle.ev_events.proofs.Wholeness.{whole_file}
 use Rattle.ev_events.proofs.nodes.place_events.Goals as goal

@@ -1,4 +1,4 @@
-use Rattle.std.proofs.Common.{◌≡◌, true, false, sym, ◌∙◌, rules, arith, inl, inr, get_or}
+use Rattle.std.proofs.Common.{sym, ◌∙◌, rules, arith, inl, inr}
 use Rattle.std.proofs.lemmas.Fn.{always_returns_same}
 use Rattle.std.proofs.lemmas.Bool.{cases_Bool}
 use Rattle.ev_graph.specs.Cutting.{is_before_link}

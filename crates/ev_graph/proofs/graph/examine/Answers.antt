@@ -1,5 +1,5 @@
-use Rattle.std.proofs.Common.{sym, ap, Ok, not, Bool, ◌∙◌}
-use Rattle.std.proofs.lemmas.Bool.{OnTrue_at, OnFalse_at, not-true}
+use Rattle.std.proofs.Common.{sym, ap, Ok, ◌∙◌}
+use Rattle.std.proofs.lemmas.Bool.{OnTrue_at, OnFalse_at}
 use Rattle.ev_graph.specs.Lawful.{GraphValue}
 use Rattle.ev_graph.proofs.Building.{kinds_refused, is_kindred, have_causes, is_built}
 use Rattle.ev_graph.proofs.Building.{cyclic_refused}

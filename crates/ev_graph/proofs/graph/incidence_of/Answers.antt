@@ -1,4 +1,3 @@
-use Rattle.std.proofs.Common.{List, ℕ}
 use Rattle.ev_graph.proofs.Building.{causes_below, effects_below}
 use Rattle.ev_graph.proofs.graph.incidence_of.Goals as goal
 

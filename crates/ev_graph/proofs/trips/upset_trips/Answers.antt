@@ -1,6 +1,5 @@
 use Rattle.std.proofs.Common.{◌∙◌, sym, ap, arith, ℕ, [], get_or}
 use Rattle.std.proofs.lemmas.Bool.{OnTrue_from, OnFalse_from}
-use Rattle.ev_incidence.specs.Reached.{MarkedValue}
 use Rattle.ev_graph.proofs.Building.{can_search_forwards, upset_trips, no_upset_trips}
 use Rattle.ev_graph.proofs.Building.{upset_in_range}
 use Rattle.ev_graph.proofs.trips.upset_trips.Goals as goal

@@ -1,5 +1,3 @@
-use Rattle.std.proofs.Common.{subst, sym, List, ℕ}
-use Rattle.ev_incidence.specs.Table.{IsTranspose}
 use Rattle.ev_incidence.proofs.Occurrences.{transpose_all}
 use Rattle.ev_incidence.proofs.incidence.gathered.Goals as goal
 

@@ -1,4 +1,4 @@
-use Rattle.std.proofs.Common.{◌≡◌, ◌∙◌, sym, ap, subst, arith, List, ℕ}
+use Rattle.std.proofs.Common.{sym, subst, arith, List, ℕ}
 use Rattle.ev_incidence.specs.Ranking.{ArePlacesStuck}
 use Rattle.ev_incidence.proofs.Ranked.{ranked_all, stuck_cycle}
 use Rattle.ev_incidence.proofs.ranks.are_ranked.Goals as goal

@@ -1,4 +1,4 @@
-use Rattle.std.proofs.Common.{◌≡◌, ◌<◌, arith, get_or, get_or-set_same}
+use Rattle.std.proofs.Common.{arith, get_or-set_same}
 use Rattle.ev_incidence.proofs.Ranked.{level_given, most_positive}
 use Rattle.ev_incidence.proofs.ranks.level_place.Goals as goal
 

@@ -1,4 +1,4 @@
-use Rattle.std.proofs.Common.{sym, arith, inl, inr, get_or}
+use Rattle.std.proofs.Common.{sym, arith, inl, inr}
 use Rattle.ev_incidence.proofs.Ranked.{most_more}
 use Rattle.ev_incidence.proofs.ranks.most_of.Goals as goal
 use Rattle.ev_incidence.proofs.ranks.most_of.Goals.{then-most-value, else-most-value}

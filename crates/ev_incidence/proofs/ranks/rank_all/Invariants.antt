@@ -1,4 +1,4 @@
-use Rattle.std.proofs.Common.{◌≡◌, ◌<◌, ◌≤◌, ℕ, length, slice_index}
+use Rattle.std.proofs.Common.{◌≡◌, ◌<◌, ◌≤◌, ℕ, slice_index}
 use Rattle.ev_incidence.specs.Table.{row_at}
 use Rattle.ev_incidence.specs.Ranking.{IsRanking, LacksOne}
 use Rattle.ev_incidence.proofs.ranks.rank_all.Given as goal

@@ -1,4 +1,4 @@
-use Rattle.std.proofs.Common.{◌∙◌, sym, ap, arith, subst, List, ℕ, get_or, length}
+use Rattle.std.proofs.Common.{◌∙◌, ap, arith, subst, List, ℕ, get_or, length}
 use Rattle.ev_incidence.specs.Table.{row_at}
 use Rattle.ev_incidence.specs.Reached.{TakesRows}
 use Rattle.ev_incidence.proofs.Searching.{search_more, search_end}

@@ -71,4 +71,5 @@ returns-in-None-pop c =
     c.as_slice.ensures.value c.in-None.ensures in
     let len : length c.turns.front.items ≡ 0 = search rules in
     turn_over tables c.args.count (c.args.front.now.items ++ c.args.value ∷ [])
-    c.turns.front.items [] c.turns.from c.turns.invariant (nil_from_length c.turns.front.items len) none
+    c.turns.front.items [] c.turns.from c.turns.invariant
+    (nil_from_length c.turns.front.items len) none

@@ -1,11 +1,11 @@
 use Rattle.std.proofs.Common.{◌≡◌, ◌∷◌, [], ◌∙◌, ℕ, true, sym, ap, subst}
 use Rattle.std.specs.List.{filter}
 use Rattle.ev_incidence.specs.Sets.{is_member}
-use Rattle.ev_graph.specs.Kinds.{is_report_node}
+use Rattle.ev_graph.specs.Kinds.{is_report_kind, is_report_node}
+use Rattle.ev_graph.proofs.Kinds.{kind_below}
 use Rattle.ev_incidence.proofs.Occurrences.{all_in, in_at}
 use Rattle.dx_live.specs.Live.{no_cut, all_allowed}
 use Rattle.dx_case.specs.Candidates.{keeps}
-use Rattle.dx_case.proofs.Fresh.{report_below}
 use Rattle.dx_case.proofs.Inserting.{write_back, same_count}
 use Rattle.dx_case.proofs.Steps.{lives_of, opened_case}
 use Rattle.dx_case.proofs.case.Case.find_candidates.Goals as goal
@@ -17,7 +17,7 @@ fresh-requires-clause-node c =
     let node = c.first-node.result in
     let first = c.first-node.ensures in
     let P : ℕ → Type 0 = λ e. is_member observed e ≡ true in
-    report_below nodes node
+    kind_below is_report_kind nodes node
     (all_in (is_report_node nodes) observed node c.requires.opened.observed_are
     (subst P (sym first) (in_at observed 0 c.requires.opened.some)))
 

@@ -1,5 +1,6 @@
 use Rattle.std.proofs.Common.{arith}
-use Rattle.dx_story.proofs.Roots.{root_below}
+use Rattle.ev_graph.specs.Kinds.{is_root_kind}
+use Rattle.ev_graph.proofs.Kinds.{kind_below}
 use Rattle.dx_live.specs.Live.{LiveValue, live_over, no_cut, all_allowed}
 use Rattle.dx_live.proofs.Opening.{live_first, best_live, cost_first}
 use Rattle.dx_live.proofs.Tables.{best_of, cost_at}
@@ -9,7 +10,7 @@ pub new-requires : goal.new-requires
 new-requires c =
     omega (
       arith,
-      root_below c.args.graph.now.nodes c.args.root c.requires,
+      kind_below is_root_kind c.args.graph.now.nodes c.args.root c.requires,
       c.incidence-table.ensures.incidence.nodes,
     )
 

@@ -1,5 +1,4 @@
-use Rattle.std.proofs.Common.{◌&&◌, rules, ap, arith, length, List}
-use Rattle.std.specs.List.{list_all}
+use Rattle.std.proofs.Common.{rules, ap, arith, length}
 use Rattle.std.proofs.lemmas.Bool.{and_parts}
 use Rattle.std.proofs.lemmas.Fn.{always_returns_same}
 use Rattle.fm_name.specs.Events.{event_cmp}

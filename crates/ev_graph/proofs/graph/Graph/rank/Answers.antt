@@ -1,4 +1,4 @@
-use Rattle.std.proofs.Common.{◌≡◌, ◌-◌, ◌<◌, suc, ℕ, ap, subst, arith, length, get_or}
+use Rattle.std.proofs.Common.{◌≡◌, ◌-◌, ◌<◌, suc, ap, subst, arith, length, get_or}
 use Rattle.std.proofs.lemmas.List.{get_or_read}
 use Rattle.ev_incidence.specs.Wiring.{Wiring, IsRank}
 use Rattle.ev_graph.specs.Lawful.{GraphValue}
