@@ -1,6 +1,6 @@
 // A core of two counters that takes reports.
 ghost use Rattle.std.specs.Prelude.{◌≡◌, ◌≤◌, ◌^◌, [], ◌∷◌, length, IfOk, OnOk};
-ghost use Rattle.bench_core.specs.Cores.{IsFilled, fresh_hand};
+ghost use Rattle.bench_core.specs.Cores.{HasCounters, fresh_hand};
 ghost use Rattle.fm_core.specs.Book.{IsAdmitted};
 
 use fm_core::{Core, Counter, Hand};
@@ -35,7 +35,7 @@ fn hands(alloc: Global) -> Result<Vec<Hand<Counter>>, AllocError>
 
 /// A core of two counters.
 fn core(alloc: Global) -> Result<Core<Counter>, AllocError>
-    ensures filled { IfOk result IsFilled }
+    ensures filled { IfOk result HasCounters }
     ensures none { IfOk result (λ core. core.entries ≡ []) }
 {
     let own = hands(alloc)?;
@@ -45,9 +45,9 @@ fn core(alloc: Global) -> Result<Core<Counter>, AllocError>
 
 /// Takes so many reports into a core.
 fn fill(alloc: Global, core: &mut Core<Counter>, count: u32) -> Result<(), AllocError>
-    requires filled { IsFilled core.old }
+    requires filled { HasCounters core.old }
     requires none { core.old.entries ≡ [] }
-    ensures { OnOk result (IsFilled core.new) }
+    ensures { OnOk result (HasCounters core.new) }
 {
     for number in 0..count {
         let entry = report(alloc, number)?;

@@ -25,7 +25,7 @@ use Rattle.fm_logs.specs.StoreBook.{StoreBook}
 use Rattle.fm_saved.specs.declared.checkpoint.Checkpoint.{Checkpoint}
 use Rattle.fm_slots.specs.Format.{SlotOf}
 use Rattle.dx_state.specs.Configured.{Rules}
-use Rattle.dx_along.specs.ExactAlong.{AreExact, IsDiagnoserOf, IsExactAlong, IsExactBook}
+use Rattle.dx_along.specs.ExactAlong.{AllExact, IsDiagnoserOf, IsExactAlong, IsExactBook}
 use Rattle.dx_along.specs.ExactAlong.{IsExactEnd}
 use Rattle.dx_along.proofs.Along.{exact_along}
 
@@ -69,7 +69,7 @@ words_from_base k p =
 exact_end : (r : Rules) (k : Book) (p : ModuleState)
     → IsExactAlong r p k.base k.entries → IsExactEnd r k.base (ended k p)
 exact_end r k p along = record {
-  words = subst (AreExact r) (sym (words_from_base k p)) along.words;
+  words = subst (AllExact r) (sym (words_from_base k p)) along.words;
   waits = along.waits;
 }
 

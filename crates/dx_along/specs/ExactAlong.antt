@@ -21,8 +21,8 @@ pub record IsDiagnoserOf (r : Rules) (p : ModuleState) : Type 0 where
   pub graphs : HaveGraphs r
 
 -- each word of the records names just the roots that explain what it observed
-abbrev pub AreExact : Rules → List Spoken → Type 0
-AreExact r records = All (λ x. All (IsExact ByStories r) x.events) records
+abbrev pub AllExact : Rules → List Spoken → Type 0
+AllExact r records = All (λ x. All (IsExact ByStories r) x.events) records
 
 -- the state of a diagnosis module, of which each open case has a pending report
 pub record WaitsForReports (r : Rules) (s : State) : Type 0 where
@@ -32,12 +32,12 @@ pub record WaitsForReports (r : Rules) (s : State) : Type 0 where
 
 -- along entries whose numbers count from n
 pub record IsExactAlong (r : Rules) (p : ModuleState) (n : ℕ) (es : List Entry) : Type 0 where
-  pub words : AreExact r (words_along p.meaning p.state n es)
+  pub words : AllExact r (words_along p.meaning p.state n es)
   pub waits : WaitsForReports r (state_along p.meaning p.state n es)
 
 -- of a module at the end, with the records that are numbered from the base on
 pub record IsExactEnd (r : Rules) (base : ℕ) (e : Ended) : Type 0 where
-  pub words : AreExact r (numbered_from base e.words)
+  pub words : AllExact r (numbered_from base e.words)
   pub waits : WaitsForReports r e.state
 
 -- of each module of a drained book

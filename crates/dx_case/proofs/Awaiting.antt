@@ -11,7 +11,7 @@ use Rattle.ev_graph.specs.declared.nodes.NodeKind.{NodeKind}
 use Rattle.ev_graph.specs.declared.nodes.NodeKind.TheVariants.{Fault, Defect, Upset, Inner, Report}
 use Rattle.ev_incidence.proofs.Occurrences.{in_push}
 use Rattle.dx_explain.specs.Cases.{is_awaited}
-use Rattle.dx_case.specs.Changes.{within_of, within_kind, within_if_any}
+use Rattle.dx_case.specs.Changes.{node_within, within_kind, within_if_any}
 use Rattle.dx_case.specs.Cases.{AreAwaited}
 
 pub awaited_none : (nodes : List Node) (age until : ℕ) → AreAwaited nodes [] age until
@@ -19,7 +19,7 @@ awaited_none nodes age until = record { each = λ e i. absurd (false≢true i) }
 
 pub awaited_more : (nodes : List Node) (reports : List ℕ) (i x age until next : ℕ)
     → i < length reports → get_or reports i x ≡ x → next ≤ until
-    → (age ≤ within_of nodes x → next ≤ within_of nodes x)
+    → (age ≤ node_within nodes x → next ≤ node_within nodes x)
     → AreAwaited nodes (take i reports) age until
     → AreAwaited nodes (take (i + 1) reports) age next
 awaited_more nodes reports i x age until next l is kept within h = record {
@@ -29,8 +29,8 @@ awaited_more nodes reports i x age until next l is kept within h = record {
       elim (in_push (take i reports) x e (ap (λ (xs : List ℕ). is_member xs e) (sym last) ∙ e_in)) [
         | inl old ↦ omega (arith, kept, h.each e old stays)
         | inr same ↦
-            let P : ℕ → Type 0 = λ y. next ≤ within_of nodes y in
-            let Q : ℕ → Type 0 = λ y. age ≤ within_of nodes y in
+            let P : ℕ → Type 0 = λ y. next ≤ node_within nodes y in
+            let Q : ℕ → Type 0 = λ y. age ≤ node_within nodes y in
             subst P same (within (subst Q (sym same) stays))
       ];
 }
@@ -51,5 +51,5 @@ node_awaited opened time (Some node) h = kind_awaited opened time node.kind h
 
 pub awaited_is : (opened time : ℕ) (nodes : List Node) (e : ℕ) → is_report_node nodes e ≡ true
     → has_kind (is_awaited opened time) (slice_get nodes e)
-    ≡ leb time (opened + within_of nodes e)
+    ≡ leb time (opened + node_within nodes e)
 awaited_is opened time nodes e h = node_awaited opened time (slice_get nodes e) h

@@ -12,7 +12,7 @@ use Rattle.ev_graph.specs.Lawful.{GraphValue}
 use Rattle.dx_live.specs.Live.{no_cut, all_allowed}
 use Rattle.dx_case.specs.declared.candidate.Candidate.{Candidate}
 use Rattle.dx_case.specs.Candidates.{IsCandidate, AreCovered, AreCandidates}
-use Rattle.dx_case.specs.Finding.{AreRootsOf, AreFresh}
+use Rattle.dx_case.specs.Finding.{AreRootsOf, AreAsMade}
 
 -- an item of a list with one more at its end
 pub get_push : {A : Type 0} (xs : List A) (y x : A) (i : ℕ) → slice_get (xs ++ y ∷ []) i ≡ Some x
@@ -22,7 +22,7 @@ get_push [] y x (suc i) h = absurd (let no_item : ⊥ = cc in no_item)
 get_push (z ∷ zs) y x zero h = inl h
 get_push (z ∷ zs) y x (suc i) h = get_push zs y x i h
 
-pub fresh_none : (g : GraphValue) → AreFresh g [] []
+pub fresh_none : (g : GraphValue) → AreAsMade g [] []
 fresh_none g = record {
   are = refl;
   each = λ i a s. absurd (let no_item : ⊥ = cc in no_item);
@@ -30,7 +30,7 @@ fresh_none g = record {
 
 pub fresh_more : (g : GraphValue) (roots : List ℕ) (i d : ℕ) (cs : List Candidate) (a : Candidate)
     → i < length roots → a.root ≡ get_or roots i d → IsCandidate g no_cut all_allowed a
-    → AreFresh g (take i roots) cs → AreFresh g (take (i + 1) roots) (cs ++ a ∷ [])
+    → AreAsMade g (take i roots) cs → AreAsMade g (take (i + 1) roots) (cs ++ a ∷ [])
 fresh_more g roots i d cs a l is h f = record {
   are = map-append (λ (c : Candidate). c.root) cs (a ∷ [])
       ∙ (ap (λ (rs : List ℕ). rs ++ a.root ∷ []) f.are
@@ -44,7 +44,7 @@ fresh_more g roots i d cs a l is h f = record {
 
 -- candidates of all roots whose stories have a node
 pub begins : (g : GraphValue) (node : ℕ) (roots reports : List ℕ) (fresh : List Candidate)
-    → AreRootsOf g node roots → AreFresh g roots fresh → ascends reports ≡ true
+    → AreRootsOf g node roots → AreAsMade g roots fresh → ascends reports ≡ true
     → list_all (is_report_node g.nodes) reports ≡ true → AreCovered g roots reports
     → AreCandidates g no_cut (is_member (node ∷ [])) all_allowed fresh reports
 begins g node roots reports fresh list made up are covered =

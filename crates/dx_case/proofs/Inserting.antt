@@ -11,7 +11,7 @@ use Rattle.std.proofs.lemmas.Bool.{both_ways}
 use Rattle.std.proofs.lemmas.Bool.{false_from_ne_true}
 use Rattle.std.proofs.lemmas.List.{get_or_default, drop_all, append-nil, take_all}
 use Rattle.ev_graph.proofs.CutLists.{link_trans}
-use Rattle.dx_case.specs.Places.{IsPlaceOf}
+use Rattle.dx_case.specs.Places.{IsInsertPlace}
 use Rattle.ev_incidence.specs.Sets.{ascends, ascends_by, starts_above}
 use Rattle.ev_graph.specs.Cutting.{is_before_link}
 use Rattle.ev_graph.specs.declared.instances.Link.{Link}
@@ -233,7 +233,7 @@ asym : (a b : ℕ) → ltb a b ≡ true → ltb b a ≡ false
 asym a b h = false_from_ne_true (ltb b a) (λ k.
     absurd (omega (arith, ltb-true a b h, ltb-true b a k)))
 
-module _ (x : ℕ) (xs : List ℕ) (at : ℕ) (place : IsPlaceOf ltb x xs at) where
+module _ (x : ℕ) (xs : List ℕ) (at : ℕ) (place : IsInsertPlace ltb x xs at) where
   pub number_there : (y : ℕ) → at < length xs → y ≡ get_or xs at y → y ≡ x
       → inserted ltb x xs ≡ xs
   number_there y l is same =
@@ -268,7 +268,7 @@ links_asym a b h = false_from_ne_true (is_before_link b a) (λ k.
                 (and_parts (eqb a.instance a.instance) (ltb a.effect a.effect) t).1
           ]
 
-module _ (x : Link) (xs : List Link) (at : ℕ) (place : IsPlaceOf is_before_link x xs at) where
+module _ (x : Link) (xs : List Link) (at : ℕ) (place : IsInsertPlace is_before_link x xs at) where
   pub link_there : (y : Link) → at < length xs → y ≡ get_or xs at y
       → is_before_link x y ≡ false → inserted is_before_link x xs ≡ xs
   link_there y l is stays =

@@ -19,7 +19,7 @@ use Rattle.dx_live.specs.Live.{IsLiveBest, live_root, live_set}
 use Rattle.dx_explain.proofs.Telling.{implied, implies}
 use Rattle.dx_case.specs.declared.candidate.Candidate.{Candidate}
 use Rattle.dx_case.specs.Changes.{cut_or, allowed_less, IsChanged, AreChanged}
-use Rattle.dx_case.specs.Candidates.{roots_in, IsCandidate, AreCandidates, keeps, Narrows}
+use Rattle.dx_case.specs.Candidates.{roots_in, IsCandidate, AreCandidates, covers, Narrows}
 use Rattle.dx_case.proofs.Changing.{changed_none}
 use Rattle.dx_case.proofs.Elements.{kept_from, kept_at, made_from, made_at, ascends_part}
 
@@ -58,7 +58,7 @@ module _ (g : GraphValue) (cut : CutsOf) (links : List Link) (gone allowed fewer
   after = cut_or cut links
 
   abbrev kept : List Candidate
-  kept = filter (keeps observed) mid
+  kept = filter (covers observed) mid
 
   from : (j : ℕ) (a : Candidate) → slice_get mid j ≡ Some a → IsFrom g links gone old j a
   from j a s =
@@ -120,7 +120,7 @@ module _ (g : GraphValue) (cut : CutsOf) (links : List Link) (gone allowed fewer
       }
 
   each_kept : (i : ℕ) (a : Candidate) → slice_get kept i ≡ Some a → IsCandidate g after fewer a
-  each_kept i a s = let k = kept_from (keeps observed) mid i a s in moved k.0 a k.1
+  each_kept i a s = let k = kept_from (covers observed) mid i a s in moved k.0 a k.1
 
   possible_before : (root : ℕ) → IsPossible g after root (is_member observed) fewer
       → IsPossible g cut root seen allowed
@@ -148,7 +148,7 @@ module _ (g : GraphValue) (cut : CutsOf) (links : List Link) (gone allowed fewer
       record { story = p.story.story; within = widen p.set p.story.within } in
       let inside = (base r.0 a f).best.every p.set (subst Q (sym here) story) in
       let R : ℕ → Type 0 = λ x. p.set x ≡ true in
-      let k = kept_at (keeps observed) mid r.0 a b.1
+      let k = kept_at (covers observed) mid r.0 a b.1
       (and_from (live_set a.live (live_root a.live)) (list_all (live_set a.live) observed)
       (inside (live_root a.live) (subst R (sym here) p.story.story.has_root))
       (all_from (live_set a.live) observed (λ e i. inside e (p.all e i)))) in
@@ -159,7 +159,7 @@ module _ (g : GraphValue) (cut : CutsOf) (links : List Link) (gone allowed fewer
       → is_member (roots_in old) root ≡ true
   kept_roots root i =
       let r = made_from (λ (c : Candidate). c.root) kept root i in
-      let k = kept_from (keeps observed) mid r.0 r.1 r.2 in
+      let k = kept_from (covers observed) mid r.0 r.1 r.2 in
       let P : ℕ → Type 0 = λ x. is_member (roots_in old) x ≡ true in
       subst P r.3 (ap (λ (xs : List ℕ). is_member xs r.1.root) (sym roots_same)
       ∙ made_at (λ (c : Candidate). c.root) mid k.0 r.1 k.1)
@@ -167,7 +167,7 @@ module _ (g : GraphValue) (cut : CutsOf) (links : List Link) (gone allowed fewer
   pub narrowed : AreCandidates g after (is_member observed) fewer kept reports
   narrowed = record {
     each = each_kept;
-    ascend = ascends_part (λ (c : Candidate). c.root) (keeps observed) mid
+    ascend = ascends_part (λ (c : Candidate). c.root) (covers observed) mid
         (ap ascends roots_same ∙ h.ascend);
     all = all_kept_roots;
     reports_ascend = h.reports_ascend;

@@ -24,7 +24,7 @@ use Rattle.dx_explain.proofs.Meaning.{pending, waiting}
 use Rattle.dx_explain.proofs.Blaming.{blamed_from, in_blamed, blamed_ascends}
 use Rattle.dx_case.specs.declared.candidate.Candidate.{Candidate}
 use Rattle.dx_case.specs.declared.case.Case.{Case}
-use Rattle.dx_case.specs.Candidates.{roots_in, keeps, is_held, is_left, is_of_kind}
+use Rattle.dx_case.specs.Candidates.{roots_in, covers, is_held, is_left, is_of_kind}
 use Rattle.dx_case.specs.Cases.{open_of, allowed_at, waits_at, takes_at, IsCaseOf}
 use Rattle.dx_case.proofs.Elements.{all_at, some_at, at_some, made_from, ascends_part}
 use Rattle.dx_case.proofs.Elements.{same_list}
@@ -63,7 +63,7 @@ module _ (g : GraphValue) (c : Case) (h : IsCaseOf g c) where
       let a = s.1 in
       let k = and_parts (live_set a.live (live_root a.live))
       (list_all (live_set a.live) c.observed.items)
-      (all_at (keeps c.observed.items) c.candidates.items s.0 a h.kept s.2) in
+      (all_at (covers c.observed.items) c.candidates.items s.0 a h.kept s.2) in
       record {
         report = all_in (is_report_node g.nodes) c.reports.items e h.candidates.reports_are e_in;
         unseen = not-true (observed e) p.0;
@@ -241,7 +241,7 @@ module _ (g : GraphValue) (c : Case) (h : IsCaseOf g c) where
         let k = h.candidates.each r.0 a r.2 in
         let b = and_parts (live_set a.live (live_root a.live))
         (list_all (live_set a.live) c.observed.items)
-        (all_at (keeps c.observed.items) c.candidates.items r.0 a h.kept r.2) in
+        (all_at (covers c.observed.items) c.candidates.items r.0 a h.kept r.2) in
         let P : ℕ → Type 0 = λ y. IsPossible g cut y observed allowed in
         (when_decided g cut root observed allowed observed_reports
         (observed_allowed g c.time open_case) none_pending).0

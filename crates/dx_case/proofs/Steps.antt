@@ -20,9 +20,9 @@ use Rattle.fm_entry.specs.declared.broken.Broken.{Broken}
 use Rattle.fm_entry.specs.Words.{is_link_before}
 use Rattle.dx_explain.specs.Cases.{cuts_of, is_allowed, is_awaited, inserted, broken_of, with_links}
 use Rattle.dx_case.specs.declared.candidate.Candidate.{Candidate}
-use Rattle.dx_case.specs.Changes.{cut_or, allowed_less, within_of, goes}
+use Rattle.dx_case.specs.Changes.{cut_or, allowed_less, node_within, goes}
 use Rattle.dx_case.specs.Changes.{gone_of, AreChanged, AreLivesOf}
-use Rattle.dx_case.specs.Candidates.{AreCandidates, keeps, is_left, Narrows}
+use Rattle.dx_case.specs.Candidates.{AreCandidates, covers, is_left, Narrows}
 use Rattle.dx_case.specs.Cases.{allowed_at, IsBefore, AreAwaited, AreAwaitedAt}
 use Rattle.dx_case.specs.Cases.{CaseParts, open_case}
 use Rattle.dx_case.specs.Cases.{IsCase}
@@ -83,7 +83,7 @@ module _ (g : GraphValue) (p : CaseParts) (h : IsCase g p) where
   -- reports went, or none
   pub lost : (number : ℕ) (entries : List ℕ) (time : Option ℕ) (until : ℕ) (cs : List Candidate)
       (w : Bool) (gone : NodeSet) (mid : List Candidate) → AreChanged g [] gone p.candidates mid
-      → cs ≡ filter (keeps p.observed) mid → w ≡ list_any (is_left cs p.observed) p.reports
+      → cs ≡ filter (covers p.observed) mid → w ≡ list_any (is_left cs p.observed) p.reports
       → Narrows g p.reports gone (allowed_at g p.time (open_case p))
       (allowed_at g time (open_case p))
       → AreAwaitedAt g.nodes p.reports p.opened until time
@@ -120,9 +120,9 @@ module _ (g : GraphValue) (p : CaseParts) (h : IsCase g p) where
         observed_are = h.observed_are;
         broken_ascend = h.broken_ascend;
         candidates = subst P (sym is) (equal_case g (cut_or cut []) (cuts_of new)
-            (is_member p.observed) fewer (allowed_at g time new) (filter (keeps p.observed) mid)
+            (is_member p.observed) fewer (allowed_at g time new) (filter (covers p.observed) mid)
             p.reports (λ j e. sym (or_none (cut j e))) (same_allowed time number entries) made);
-        kept = ap (list_all (keeps p.observed)) is ∙ all_kept (keeps p.observed) mid;
+        kept = ap (list_all (covers p.observed)) is ∙ all_kept (covers p.observed) mid;
         waiting = waits;
         awaited = awaited;
       }
@@ -142,19 +142,19 @@ module _ (g : GraphValue) (p : CaseParts) (h : IsCase g p) where
               (observed_allowed g (Some time) (open_case p) e observed)
               (not_from_false (gone e) (false_from_ne_true (gone e) (λ goes_now.
               both_ways seen (not-true seen (and_parts (not seen)
-              (ltb (within_of g.nodes e) (moment - p.opened))
+              (ltb (node_within g.nodes e) (moment - p.opened))
               (and_parts (is_member p.reports e)
               (goes g.nodes p.observed (Some (moment - p.opened)) e) goes_now).1).0) observed)))
           | inr awaited ↦
-              let reach = leb-true moment (p.opened + within_of g.nodes e)
+              let reach = leb-true moment (p.opened + node_within g.nodes e)
               (sym (awaited_is p.opened moment g.nodes e r) ∙ awaited) in
               and_from (allowed e) (not (gone e))
               (or_right seen (has_kind (is_awaited p.opened time) (slice_get g.nodes e))
               (awaited_is p.opened time g.nodes e r
-              ∙ le-leb time (p.opened + within_of g.nodes e) (omega (arith, reach, b))))
+              ∙ le-leb time (p.opened + node_within g.nodes e) (omega (arith, reach, b))))
               (not_from_false (gone e) (false_from_ne_true (gone e) (λ goes_now.
-              let over = ltb-true (within_of g.nodes e) (moment - p.opened) (and_parts (not seen)
-              (ltb (within_of g.nodes e) (moment - p.opened))
+              let over = ltb-true (node_within g.nodes e) (moment - p.opened) (and_parts (not seen)
+              (ltb (node_within g.nodes e) (moment - p.opened))
               (and_parts (is_member p.reports e)
               (goes g.nodes p.observed (Some (moment - p.opened)) e) goes_now).1).1 in
               absurd (omega (arith, over, reach)))))
@@ -168,14 +168,14 @@ module _ (g : GraphValue) (p : CaseParts) (h : IsCase g p) where
         elim (cases_Bool seen) [
           | inl observed ↦ or_left seen now observed
           | inr unseen ↦ or_right seen now (awaited_is p.opened moment g.nodes e r
-              ∙ le-leb moment (p.opened + within_of g.nodes e)
-              (elim (cases_lt (within_of g.nodes e) (moment - p.opened)) [
+              ∙ le-leb moment (p.opened + node_within g.nodes e)
+              (elim (cases_lt (node_within g.nodes e) (moment - p.opened)) [
                 | inl over ↦ absurd (both_ways (gone e) (not-true (gone e) q.1)
                     (and_from (is_member p.reports e)
                     (goes g.nodes p.observed (Some (moment - p.opened)) e) e_in
-                    (and_from (not seen) (ltb (within_of g.nodes e) (moment - p.opened))
+                    (and_from (not seen) (ltb (node_within g.nodes e) (moment - p.opened))
                     (not_from_false seen unseen)
-                    (lt-ltb (within_of g.nodes e) (moment - p.opened) over))))
+                    (lt-ltb (node_within g.nodes e) (moment - p.opened) over))))
                 | inr reach ↦ omega (arith, reach)
               ]))
         ];
@@ -200,11 +200,11 @@ module _ (g : GraphValue) (p : CaseParts) (h : IsCase g p) where
         (elim (or_cases seen (has_kind (is_awaited p.opened moment) (slice_get g.nodes e)) here) [
           | inl observed ↦ observed_allowed g (Some time) (open_case p) e observed
           | inr awaited ↦
-              let reach = leb-true moment (p.opened + within_of g.nodes e)
+              let reach = leb-true moment (p.opened + node_within g.nodes e)
               (sym (awaited_is p.opened moment g.nodes e r) ∙ awaited) in
               or_right seen (has_kind (is_awaited p.opened time) (slice_get g.nodes e))
               (awaited_is p.opened time g.nodes e r
-              ∙ le-leb time (p.opened + within_of g.nodes e) (omega (arith, reach, b)))
+              ∙ le-leb time (p.opened + node_within g.nodes e) (omega (arith, reach, b)))
         ]);
     only = λ e r e_in stays.
         let allowed = is_allowed g time (open_case p) in
@@ -214,11 +214,11 @@ module _ (g : GraphValue) (p : CaseParts) (h : IsCase g p) where
         (none_less allowed e stays)) [
           | inl observed ↦ or_left seen now observed
           | inr awaited ↦
-              let reach = leb-true time (p.opened + within_of g.nodes e)
+              let reach = leb-true time (p.opened + node_within g.nodes e)
               (sym (awaited_is p.opened time g.nodes e r) ∙ awaited) in
               let far = a.each e e_in (omega (arith, reach)) in
               or_right seen now (awaited_is p.opened moment g.nodes e r
-              ∙ le-leb moment (p.opened + within_of g.nodes e) (omega (arith, far, l)))
+              ∙ le-leb moment (p.opened + node_within g.nodes e) (omega (arith, far, l)))
         ];
   }
 
@@ -248,7 +248,7 @@ module _ (g : GraphValue) (p : CaseParts) (h : IsCase g p) where
       p.candidates
       (unchanged g (cuts_of (open_case p)) (is_member p.observed)
       (allowed_at g p.time (open_case p)) p.candidates p.reports h.candidates)
-      (sym (none_lost (keeps p.observed) p.candidates h.kept)) h.waiting
+      (sym (none_lost (covers p.observed) p.candidates h.kept)) h.waiting
       (quiet_by moment p.time b l h.awaited) (later_by moment p.time b h.awaited)
 
   -- the case is finished
@@ -347,7 +347,7 @@ module _ (g : GraphValue) (p : CaseParts) (h : IsCase g p) where
         (mid : List Candidate) → ascends observed ≡ true
         → ascends_by is_before_link broken ≡ true
         → AreChanged g links (λ e. false) p.candidates mid
-        → cs ≡ filter (keeps observed) mid → w ≡ list_any (is_left cs observed) p.reports
+        → cs ≡ filter (covers observed) mid → w ≡ list_any (is_left cs observed) p.reports
         → IsCase g (record {
           number = number;
           opened = p.opened;
@@ -380,8 +380,8 @@ module _ (g : GraphValue) (p : CaseParts) (h : IsCase g p) where
           broken_ascend = links_up;
           candidates = subst P (sym is) (equal_case g (cut_or cut links)
               (cuts_of (more number entries)) (is_member observed) fewer fewer
-              (filter (keeps observed) mid) p.reports cuts_more (λ e. refl) made);
-          kept = ap (list_all (keeps observed)) is ∙ all_kept (keeps observed) mid;
+              (filter (covers observed) mid) p.reports cuts_more (λ e. refl) made);
+          kept = ap (list_all (covers observed)) is ∙ all_kept (covers observed) mid;
           waiting = waits;
           awaited = h.awaited;
         }
@@ -414,7 +414,7 @@ module _ (g : GraphValue) (graph : IsGraph g) (number opened node : ℕ) (entrie
         or_right (is_member observed e)
         (has_kind (is_awaited opened opened) (slice_get g.nodes e))
         (awaited_is opened opened g.nodes e r
-        ∙ le-leb opened (opened + within_of g.nodes e) (omega arith));
+        ∙ le-leb opened (opened + node_within g.nodes e) (omega arith));
   }
 
   node_seen : IsSubset (is_member (node ∷ [])) (is_member observed)
@@ -426,7 +426,7 @@ module _ (g : GraphValue) (graph : IsGraph g) (number opened node : ℕ) (entrie
   pub opened_case : ascends observed ≡ true
       → list_all (is_report_node g.nodes) observed ≡ true
       → ascends_by is_before_link broken ≡ true
-      → AreChanged g broken (λ e. false) fresh mid → cs ≡ filter (keeps observed) mid
+      → AreChanged g broken (λ e. false) fresh mid → cs ≡ filter (covers observed) mid
       → w ≡ list_any (is_left cs observed) reports
       → IsCase g (record {
         number = number;
@@ -452,9 +452,9 @@ module _ (g : GraphValue) (graph : IsGraph g) (number opened node : ℕ) (entrie
         observed_are = are;
         broken_ascend = links_up;
         candidates = subst P (sym is) (equal_case g (cut_or no_cut broken) (cuts_of first)
-            (is_member observed) fewer fewer (filter (keeps observed) mid) reports
+            (is_member observed) fewer fewer (filter (covers observed) mid) reports
             (any_broken broken) (λ e. refl) n);
-        kept = ap (list_all (keeps observed)) is ∙ all_kept (keeps observed) mid;
+        kept = ap (list_all (covers observed)) is ∙ all_kept (covers observed) mid;
         waiting = waits;
         awaited = record { each = λ e i l. omega arith };
       }

@@ -43,8 +43,8 @@ pub record AreCandidates (g : GraphValue) (cut : CutsOf) (seen allowed : NodeSet
   pub covered : AreCovered g (roots_in candidates) reports
 
 -- the set has its root and all that was observed
-abbrev pub keeps : List ℕ → Candidate → Bool
-keeps observed a = live_set a.live (live_root a.live) && list_all (live_set a.live) observed
+abbrev pub covers : List ℕ → Candidate → Bool
+covers observed a = live_set a.live (live_root a.live) && list_all (live_set a.live) observed
 
 -- some set has the node
 abbrev pub is_held : List Candidate → ℕ → Bool

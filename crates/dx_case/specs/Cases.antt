@@ -12,8 +12,8 @@ use Rattle.dx_explain.specs.Cases.{Verdict, Solving, Upsetting, Unexplained}
 use Rattle.ev_graph.specs.declared.nodes.Node.{Node}
 use Rattle.ev_graph.specs.declared.instances.Link.{Link}
 use Rattle.dx_case.specs.declared.candidate.Candidate.{Candidate}
-use Rattle.dx_case.specs.Changes.{within_of, AreChanged}
-use Rattle.dx_case.specs.Candidates.{AreCandidates, keeps, is_left}
+use Rattle.dx_case.specs.Changes.{node_within, AreChanged}
+use Rattle.dx_case.specs.Candidates.{AreCandidates, covers, is_left}
 use Rattle.dx_case.specs.declared.case.Case.{Case}
 use Rattle.dx_case.specs.declared.outcome.Outcome.{Outcome}
 use Rattle.dx_case.specs.declared.outcome.Outcome.TheVariants.{Solved, Upset, Undiagnosable}
@@ -65,8 +65,8 @@ told Undiagnosable = Unexplained
 
 -- each of these reports whose window is not over at the age `now` is awaited until another age
 pub record AreAwaited (nodes : List Node) (reports : List ℕ) (now until : ℕ) : Type 0 where
-  pub each : (e : ℕ) → is_member reports e ≡ true → now ≤ within_of nodes e
-      → until ≤ within_of nodes e
+  pub each : (e : ℕ) → is_member reports e ≡ true → now ≤ node_within nodes e
+      → until ≤ node_within nodes e
 
 abbrev pub AreAwaitedAt : List Node → List ℕ → ℕ → ℕ → Option ℕ → Type 0
 AreAwaitedAt nodes reports opened until None = Unit {0}
@@ -116,7 +116,7 @@ pub record IsCase (g : GraphValue) (p : CaseParts) : Type 0 where
   pub broken_ascend : ascends_by is_before_link p.broken ≡ true
   pub candidates : AreCandidates g (cuts_of (open_case p)) (is_member p.observed)
       (allowed_at g p.time (open_case p)) p.candidates p.reports
-  pub kept : list_all (keeps p.observed) p.candidates ≡ true
+  pub kept : list_all (covers p.observed) p.candidates ≡ true
   pub waiting : p.waiting ≡ list_any (is_left p.candidates p.observed) p.reports
   pub awaited : AreAwaitedAt g.nodes p.reports p.opened p.until p.time
 
@@ -126,7 +126,7 @@ IsCaseOf g c = IsCase g (case_parts c)
 
 -- the case as it is opened: it has some reports of the graph, and broken links, both in order, and
 -- no moment has come since
-pub record IsOpened (g : GraphValue) (c : Case) : Type 0 where
+pub record IsCaseOpened (g : GraphValue) (c : Case) : Type 0 where
   pub some : 0 < length c.observed.items
   pub observed_ascend : ascends c.observed.items ≡ true
   pub observed_are : list_all (is_report_node g.nodes) c.observed.items ≡ true
@@ -136,11 +136,12 @@ pub record IsOpened (g : GraphValue) (c : Case) : Type 0 where
 
 -- links were cut of all sets and reports went; the lost candidates were dropped, and it was looked
 -- whether some report is pending
-pub record IsSettled (g : GraphValue) (links : List Link) (gone : NodeSet) (old new : Case) : Type 0
+pub record IsCaseSettled (g : GraphValue) (links : List Link) (gone : NodeSet) (old new : Case) :
+    Type 0
   where
     pub mid : List Candidate
     pub changed : AreChanged g links gone old.candidates.items mid
-    pub kept : new.candidates.items ≡ filter (keeps old.observed.items) mid
+    pub kept : new.candidates.items ≡ filter (covers old.observed.items) mid
     pub waiting : new.waiting
         ≡ list_any (is_left new.candidates.items old.observed.items) old.reports.items
 

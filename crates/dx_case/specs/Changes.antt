@@ -29,13 +29,13 @@ abbrev pub within_if_any : Option Node → ℕ
 within_if_any None = 0
 within_if_any (Some node) = within_kind node.kind
 
-abbrev pub within_of : List Node → ℕ → ℕ
-within_of nodes e = within_if_any (slice_get nodes e)
+abbrev pub node_within : List Node → ℕ → ℕ
+node_within nodes e = within_if_any (slice_get nodes e)
 
 -- the window of a report is over at this age of the case; without an age, at once
 abbrev pub is_over : List Node → Option ℕ → NodeSet
 is_over nodes None e = true
-is_over nodes (Some age) e = nat_lt (within_of nodes e) age
+is_over nodes (Some age) e = nat_lt (node_within nodes e) age
 
 -- a report goes that was not observed and whose window is over
 abbrev pub goes : List Node → List ℕ → Option ℕ → NodeSet

@@ -9,8 +9,8 @@ use Rattle.fm_entry.specs.Words.{is_link_before}
 use Rattle.dx_case.specs.declared.facts.CaseFacts.{CaseFacts}
 
 -- the case of these facts
-abbrev pub case_of : CaseFacts → OpenCase
-case_of f = record {
+abbrev pub case_of_facts : CaseFacts → OpenCase
+case_of_facts f = record {
   number = f.number;
   opened = f.opened;
   entries = f.entries.now;

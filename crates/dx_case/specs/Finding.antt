@@ -23,7 +23,7 @@ pub record AreRootsOf (g : GraphValue) (node : ℕ) (roots : List ℕ) : Type 0 
       → X node ≡ true → is_member roots root ≡ true
 
 -- candidates of these roots, as they are made
-pub record AreFresh (g : GraphValue) (roots : List ℕ) (candidates : List Candidate) : Type 0 where
+pub record AreAsMade (g : GraphValue) (roots : List ℕ) (candidates : List Candidate) : Type 0 where
   pub are : roots_in candidates ≡ roots
   pub each : (i : ℕ) (a : Candidate) → slice_get candidates i ≡ Some a
       → IsCandidate g no_cut all_allowed a

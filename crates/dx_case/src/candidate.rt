@@ -4,7 +4,7 @@ ghost use Rattle.std.specs.Prelude.{◌≡◌, true, IfOk};
 ghost use Rattle.std.specs.List.{list_all, list_any, filter};
 ghost use Rattle.ev_incidence.specs.Sets.{ascends};
 ghost use Rattle.dx_live.specs.Live.{live_set};
-ghost use Rattle.dx_case.specs.Candidates.{keeps, is_held, is_left};
+ghost use Rattle.dx_case.specs.Candidates.{covers, is_held, is_left};
 
 use dx_live::Live;
 use ev_graph::{NoMemory, contains};
@@ -49,7 +49,7 @@ fn has_all(live: &Live, observed: &[u32]) -> bool
 
 /// Whether the set has its root and all that was observed.
 fn keeps(candidate: &Candidate, observed: &[u32]) -> bool
-    ensures { result ≡ keeps observed.now candidate.now }
+    ensures { result ≡ covers observed.now candidate.now }
 {
     candidate.live.alive() && has_all(&candidate.live, observed)
 }
@@ -57,7 +57,7 @@ fn keeps(candidate: &Candidate, observed: &[u32]) -> bool
 /// Drops the candidates whose sets lack their root or what was observed. They never come back,
 /// since sets only shrink.
 pub(crate) fn drop_lost(candidates: &mut Vec<Candidate>, observed: &[u32])
-    ensures { candidates.new.items ≡ filter (keeps observed.now) candidates.old.items }
+    ensures { candidates.new.items ≡ filter (covers observed.now) candidates.old.items }
 {
     candidates.retain(|candidate| keeps(candidate, observed));
 }

@@ -8,11 +8,11 @@ ghost use Rattle.ev_graph.specs.Kinds.{is_report_node};
 ghost use Rattle.ev_graph.specs.Lawful.{GraphValue};
 ghost use Rattle.dx_explain.specs.Cases.{case_opened, case_joined, broken_of, verdict_of};
 ghost use Rattle.dx_case.specs.Changes.{gone_of, AreLivesOf};
-ghost use Rattle.dx_case.specs.Candidates.{keeps, is_held, is_left};
+ghost use Rattle.dx_case.specs.Candidates.{covers, is_held, is_left};
 ghost use Rattle.dx_case.specs.Cases.{open_of, time_of, IsCaseOf, IsBefore};
 ghost use Rattle.dx_case.specs.Cases.{waits_at, takes_at, told};
-ghost use Rattle.dx_case.specs.Cases.{IsOpened, IsSettled, IsSameBut, StaysSame};
-ghost use Rattle.dx_case.specs.Facts.{case_of, facts_fit};
+ghost use Rattle.dx_case.specs.Cases.{IsCaseOpened, IsCaseSettled, IsSameBut, StaysSame};
+ghost use Rattle.dx_case.specs.Facts.{case_of_facts, facts_fit};
 ghost use Rattle.dx_case.specs.Starts.{AreStartsOf};
 
 use crate::candidate::{Candidate, copies_of, drop_lost, is_any_left, is_held};
@@ -129,10 +129,10 @@ impl Case {
         facts: &CaseFacts<'_>,
         moment: u64,
     ) -> Result<Case, NoMemory>
-        requires fit { facts_fit graph.now moment (case_of facts.now) ≡ true }
+        requires fit { facts_fit graph.now moment (case_of_facts facts.now) ≡ true }
         requires starts { AreStartsOf graph.now starts.old }
         ensures case { IfOk result (λ c. IsCaseOf graph.now c) }
-        ensures open { IfOk result (λ c. open_of c ≡ case_of facts.now) }
+        ensures open { IfOk result (λ c. open_of c ≡ case_of_facts facts.now) }
         ensures time { IfOk result (λ c. time_of c ≡ Some moment) }
         ensures starts { AreStartsOf graph.now starts.new }
     {
@@ -359,7 +359,7 @@ impl Case {
         graph: &Graph,
         starts: &mut Starts,
     ) -> Result<(), NoMemory>
-        requires opened { IsOpened graph.now self.old }
+        requires opened { IsCaseOpened graph.now self.old }
         requires starts { AreStartsOf graph.now starts.old }
         ensures case { OnOk result (IsCaseOf graph.now self.new) }
         ensures open { open_of self.new ≡ open_of self.old }
@@ -389,7 +389,7 @@ impl Case {
         requires lives { AreLivesOf graph.now self.old.candidates.items }
         requires ascend { ascends self.old.observed.items ≡ true }
         requires reports { list_all (is_report_node graph.now.nodes) self.old.reports.items ≡ true }
-        ensures changed { IsSettled graph.now [] (gone_of graph.now.nodes self.old.reports.items
+        ensures changed { IsCaseSettled graph.now [] (gone_of graph.now.nodes self.old.reports.items
             self.old.observed.items age) self.old self.new }
         ensures same { IsSameBut self.old self.new }
     {
@@ -407,7 +407,7 @@ impl Case {
     fn cut(&mut self, graph: &Graph, links: &[Link])
         requires lives { AreLivesOf graph.now self.old.candidates.items }
         requires ascend { ascends self.old.observed.items ≡ true }
-        ensures changed { IsSettled graph.now links.now (λ e. false) self.old self.new }
+        ensures changed { IsCaseSettled graph.now links.now (λ e. false) self.old self.new }
         ensures same { IsSameBut self.old self.new }
     {
         let change = Change {
@@ -424,7 +424,7 @@ impl Case {
     fn settle(&mut self)
         requires { ascends self.old.observed.items ≡ true }
         ensures kept { self.new.candidates.items
-            ≡ filter (keeps self.old.observed.items) self.old.candidates.items }
+            ≡ filter (covers self.old.observed.items) self.old.candidates.items }
         ensures waiting { self.new.waiting
             ≡ list_any (is_left self.new.candidates.items self.old.observed.items)
             self.old.reports.items }

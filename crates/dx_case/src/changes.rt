@@ -5,7 +5,7 @@ ghost use Rattle.std.specs.List.{list_all};
 ghost use Rattle.ev_incidence.specs.Sets.{ascends};
 ghost use Rattle.ev_graph.specs.Kinds.{is_report_node};
 ghost use Rattle.dx_live.specs.Live.{IsLiveOf};
-ghost use Rattle.dx_case.specs.Changes.{within_of, is_over, goes, gone_of, IsChanged, AreChanged};
+ghost use Rattle.dx_case.specs.Changes.{node_within, is_over, goes, gone_of, IsChanged, AreChanged};
 ghost use Rattle.dx_case.specs.Changes.{AreLivesOf};
 ghost use Rattle.dx_case.specs.Cases.{AreAwaited};
 
@@ -27,7 +27,7 @@ pub(crate) struct Change<'a> {
 
 /// How long others are awaited after a report of the node, 0 for what is no report.
 fn within_of(nodes: &[Node], node: u32) -> u64
-    ensures { result ≡ within_of nodes.now node }
+    ensures { result ≡ node_within nodes.now node }
 {
     match nodes.get(node as usize) {
         Some(found) => match found.kind {

@@ -6,7 +6,7 @@ ghost use Rattle.ev_incidence.specs.Sets.{ascends_by};
 ghost use Rattle.ev_graph.specs.Kinds.{is_report_node};
 ghost use Rattle.fm_entry.specs.Words.{is_link_before};
 ghost use Rattle.dx_explain.specs.Cases.{broken_of};
-ghost use Rattle.dx_case.specs.Facts.{case_of, facts_fit};
+ghost use Rattle.dx_case.specs.Facts.{case_of_facts, facts_fit};
 
 use ev_graph::{Graph, Link, NoMemory, Node, ascends, is_report_node};
 use fm_entry::Broken;
@@ -27,7 +27,7 @@ impl CaseFacts<'_> {
     /// Whether a case of the graph can be so at a moment: it was opened before or then, and has
     /// some reports of the graph, and broken links, both in order.
     pub fn fit(&self, graph: &Graph, moment: u64) -> bool
-        ensures { result ≡ facts_fit graph.now moment (case_of self.now) }
+        ensures { result ≡ facts_fit graph.now moment (case_of_facts self.now) }
     {
         self.opened <= moment
             && !self.observed.is_empty()

@@ -6,7 +6,7 @@ ghost use Rattle.ev_graph.specs.Kinds.{is_root_node, is_report_node};
 ghost use Rattle.ev_incidence.specs.Sets.{ascends};
 ghost use Rattle.dx_case.specs.Candidates.{AreCovered, is_of_kind};
 ghost use Rattle.dx_case.specs.Kinds.{is_asked};
-ghost use Rattle.dx_case.specs.Finding.{AreSorted, AreRootsOf, AreFresh};
+ghost use Rattle.dx_case.specs.Finding.{AreSorted, AreRootsOf, AreAsMade};
 ghost use Rattle.dx_case.specs.Starts.{IsFreshOf};
 
 use crate::candidate::{Candidate, copies_of};
@@ -73,7 +73,7 @@ fn reports_of(alloc: Global, graph: &Graph, roots: &[u32]) -> Result<Vec<u32>, N
 /// Candidates of these roots, with all reports allowed and no link cut.
 fn candidates_of(alloc: Global, graph: &Graph, roots: &[u32]) -> Result<Vec<Candidate>, NoMemory>
     requires { list_all (is_root_node graph.now.nodes) roots.now ≡ true }
-    ensures { IfOk result (λ made. AreFresh graph.now roots.now made.items) }
+    ensures { IfOk result (λ made. AreAsMade graph.now roots.now made.items) }
 {
     let mut candidates = Vec::new(alloc);
     for root in roots {

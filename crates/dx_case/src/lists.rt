@@ -4,14 +4,14 @@ ghost use Rattle.std.specs.Prelude.{◌≡◌, true, map, nat_lt, OnOk};
 ghost use Rattle.ev_incidence.specs.Sets.{ascends, ascends_by, is_member};
 ghost use Rattle.ev_graph.specs.Cutting.{is_before_link};
 ghost use Rattle.dx_explain.specs.Cases.{inserted, with_links, broken_of};
-ghost use Rattle.dx_case.specs.Places.{IsPlaceOf};
+ghost use Rattle.dx_case.specs.Places.{IsInsertPlace};
 
 use ev_graph::{Link, NoMemory};
 
 /// The place of a number among numbers in order.
 fn place_of_number(list: &[u32], number: u32) -> usize
     requires { ascends list.now ≡ true }
-    ensures { IsPlaceOf nat_lt number list.now result }
+    ensures { IsInsertPlace nat_lt number list.now result }
 {
     list.partition_point(|item| *item < number)
 }
@@ -48,7 +48,7 @@ fn is_before(a: &Link, b: &Link) -> bool
 /// The place of a link among links in order.
 fn place_of_link(list: &[Link], link: &Link) -> usize
     requires { ascends_by is_before_link list.now ≡ true }
-    ensures { IsPlaceOf is_before_link link.now list.now result }
+    ensures { IsInsertPlace is_before_link link.now list.now result }
 {
     list.partition_point(|item| is_before(item, link))
 }

@@ -23,7 +23,7 @@ use Rattle.dx_step.proofs.Sound.{turn_with}
 use Rattle.dx_step.proofs.Settling.{settled_each}
 use Rattle.dx_step.proofs.Stepping.{lawful_is, begun}
 use Rattle.dx_turn.specs.Grounds.{AreRates}
-use Rattle.dx_turn.specs.Tracking.{opens_in, kept_of, IsCurrent}
+use Rattle.dx_turn.specs.Tracking.{opens_in, cases_before, IsCurrent}
 use Rattle.dx_turn.specs.Settling.{IsWaiting, IsBeforeTurn}
 use Rattle.dx_turn.specs.Standing.{still_of}
 
@@ -56,7 +56,7 @@ settled_ascend r s moment low h =
     ascends_of (solved_numbers (settle_all r t).state.solved) done.turn.sound.solved_strict
 
 -- cases that no turn has changed
-pub kept_still : (cs : List Case) → kept_of (map still_of cs) ≡ cs
+pub kept_still : (cs : List Case) → cases_before (map still_of cs) ≡ cs
 kept_still [] = refl
 kept_still (c ∷ cs) = ap (λ (ks : List Case). c ∷ ks) (kept_still cs)
 

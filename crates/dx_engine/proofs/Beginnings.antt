@@ -14,8 +14,8 @@ use Rattle.dx_turn.specs.declared.tracked.Tracked.{Tracked}
 use Rattle.dx_turn.specs.Grounds.{AreRates}
 use Rattle.dx_turn.specs.Reloading.{fresh_rates}
 use Rattle.dx_turn.specs.Standing.{still_of}
-use Rattle.dx_turn.specs.Tracking.{kept_of, IsCurrent}
-use Rattle.dx_engine.specs.Standing.{StandingParts, stands_for, AreStanding}
+use Rattle.dx_turn.specs.Tracking.{cases_before, IsCurrent}
+use Rattle.dx_engine.specs.Standing.{StandingParts, whole_state, AreStanding}
 use Rattle.dx_engine.proofs.Placing.{rates_fresh}
 use Rattle.dx_turn.proofs.Reloads.{kept_fresh}
 
@@ -42,14 +42,14 @@ state_made conf cs ws ks = record {
   conf = conf;
   time = 0;
   next = 0;
-  open_cases = map open_of (kept_of cs);
+  open_cases = map open_of (cases_before cs);
   solved = ws;
   engines = ks;
 }
 
 pub fresh_state : (r : Rules) (conf : ℕ) (cs : List Tracked) (ws : List ListEvent)
     (rs : List RateOf) → AreFirst r conf cs ws rs
-    → stands_for (first_parts conf cs ws rs) ≡ fresh_of r
+    → whole_state (first_parts conf cs ws rs) ≡ fresh_of r
 unfolding state_made
 fresh_state r conf cs ws rs h =
     let engines : map (λ (x : RateOf). x.kept) rs
@@ -67,9 +67,9 @@ pub fresh_stands : (r : Rules) (conf : ℕ) (cs : List Tracked) (ws : List ListE
 fresh_stands r conf cs ws rs rules there h = record {
   lawful = subst (λ (s : Diagnosis). IsTrue (is_lawful r s)) (sym (fresh_state r conf cs ws rs h))
       (fresh_lawful r rules there);
-  still = subst (λ (ts : List Tracked). ts ≡ map still_of (kept_of ts)) (sym h.none_open) refl;
+  still = subst (λ (ts : List Tracked). ts ≡ map still_of (cases_before ts)) (sym h.none_open) refl;
   current = subst (λ (ts : List Tracked).
-      AllByRecursion (IsCurrent (configuration_at r conf).graph 0) (kept_of ts))
+      AllByRecursion (IsCurrent (configuration_at r conf).graph 0) (cases_before ts))
       (sym h.none_open) tt;
   rates = subst (AreRates 0 (configuration_at r conf).graph.engines) (sym h.fresh)
       (rates_fresh 0 (configuration_at r conf).graph.engines);

@@ -8,7 +8,7 @@ use Rattle.dx_case.specs.declared.case.Case.{Case}
 use Rattle.dx_case.specs.Cases.{open_of}
 use Rattle.dx_restore.specs.Saving.{IsShortCase}
 use Rattle.dx_turn.specs.declared.tracked.Tracked.{Tracked}
-use Rattle.dx_turn.specs.Tracking.{kept_of}
+use Rattle.dx_turn.specs.Tracking.{cases_before}
 
 first_kept : (o : Option Case) (xs ys : List Case)
     → cons_option o (xs ++ ys) ≡ cons_option o xs ++ ys
@@ -16,19 +16,21 @@ first_kept None xs ys = refl
 first_kept (Some c) xs ys = refl
 
 -- what is kept of two lists is kept of each
-pub kept_append : (xs ys : List Tracked) → kept_of (xs ++ ys) ≡ kept_of xs ++ kept_of ys
+pub kept_append : (xs ys : List Tracked)
+    → cases_before (xs ++ ys) ≡ cases_before xs ++ cases_before ys
 kept_append [] ys = refl
 kept_append (x ∷ xs) ys =
-    ap (cons_option x.kept) (kept_append xs ys) ∙ first_kept x.kept (kept_of xs) (kept_of ys)
+    ap (cons_option x.kept) (kept_append xs ys) ∙ first_kept x.kept (cases_before xs)
+    (cases_before ys)
 
 -- one more case
 pub kept_more : (ts : List Tracked) (i : ℕ) (t : Tracked) → i < length ts
-    → map open_of (kept_of (take (i + 1) ts))
-    ≡ map open_of (kept_of (take i ts)) ++ map open_of (cons_option (get_or ts i t).kept [])
+    → map open_of (cases_before (take (i + 1) ts))
+    ≡ map open_of (cases_before (take i ts)) ++ map open_of (cons_option (get_or ts i t).kept [])
 kept_more ts i t low =
-    let xs = kept_of (take i ts) in
-    let ys = kept_of (get_or ts i t ∷ []) in
-    ap (λ (us : List Tracked). map open_of (kept_of us)) (take_more ts i t low)
+    let xs = cases_before (take i ts) in
+    let ys = cases_before (get_or ts i t ∷ []) in
+    ap (λ (us : List Tracked). map open_of (cases_before us)) (take_more ts i t low)
     ∙ ap (map open_of) (kept_append (take i ts) (get_or ts i t ∷ []))
     ∙ map-append open_of xs ys
 
@@ -45,8 +47,8 @@ all_rest (Some c) xs h = λ k d low. h (suc k) d (omega arith)
 
 -- the case at a place is short where all are
 pub short_at : (ts : List Tracked) (i : ℕ) (t : Tracked) → i < length ts
-    → All IsShortCase (kept_of ts) → All IsShortCase (cons_option (get_or ts i t).kept [])
+    → All IsShortCase (cases_before ts) → All IsShortCase (cons_option (get_or ts i t).kept [])
 short_at [] i t low h = absurd (omega arith)
-short_at (x ∷ xs) zero t low h = all_first x.kept (kept_of xs) h
+short_at (x ∷ xs) zero t low h = all_first x.kept (cases_before xs) h
 short_at (x ∷ xs) (suc i) t low h =
-    short_at xs i t (omega arith) (all_rest x.kept (kept_of xs) h)
+    short_at xs i t (omega arith) (all_rest x.kept (cases_before xs) h)

@@ -20,7 +20,7 @@ use Rattle.dx_turn.specs.Grounds.{AreRates}
 use Rattle.dx_turn.specs.Standing.{still_of}
 use Rattle.dx_turn.specs.Tracking.{IsCurrent}
 use Rattle.dx_turn.proofs.Moving.{current_at}
-use Rattle.dx_engine.specs.Standing.{stands_for, AreStanding}
+use Rattle.dx_engine.specs.Standing.{whole_state, AreStanding}
 use Rattle.dx_engine.proofs.Beginning.{kept_still}
 use Rattle.dx_engine.specs.Diagnosers.{standing_parts}
 
@@ -42,7 +42,7 @@ current_all g time (c ∷ cs) h =
       current_all g time cs (λ k d low. h (suc k) d (omega arith)),
     )
 
-pub loaded_same : (l : Loaded) → stands_for (standing_parts l) ≡ loaded_state l
+pub loaded_same : (l : Loaded) → whole_state (standing_parts l) ≡ loaded_state l
 loaded_same l =
     ap (λ (cs : List Case). record (loaded_state l) { open_cases = map open_of cs })
     (kept_still l.cases.items)

@@ -30,7 +30,8 @@ use Rattle.dx_turn.specs.declared.told.Told.{Told}
 use Rattle.dx_turn.specs.declared.work.Work.{Work}
 use Rattle.dx_turn.specs.Grounds.{IsGround, AreRates, rules_on}
 use Rattle.dx_turn.specs.Turning.{made_or, turn_at, solved_by, IsTold}
-use Rattle.dx_turn.specs.Tracking.{now_of, cases_of, kept_of, opens_in, IsCurrent, IsTrackedAt}
+use Rattle.dx_turn.specs.Tracking.{now_of, tracked_cases, cases_before, opens_in}
+use Rattle.dx_turn.specs.Tracking.{IsCurrent, IsTrackedAt}
 use Rattle.dx_turn.specs.Settling.{IsBeforeTurn}
 use Rattle.dx_turn.specs.Joining.{turn_of}
 use Rattle.dx_turn.specs.Reloading.{with_reload, fresh_rates, turned_by, IsLeft, HasEnded}
@@ -38,7 +39,7 @@ use Rattle.dx_turn.specs.Standing.{still_of}
 use Rattle.dx_turn.proofs.Tracking.{now_cases}
 use Rattle.dx_turn.proofs.Reloads.{opens_cases}
 use Rattle.dx_engine.specs.declared.standing.StandingState.{StandingState}
-use Rattle.dx_engine.specs.Standing.{StandingParts, stands_for, AreStanding, put_parts}
+use Rattle.dx_engine.specs.Standing.{StandingParts, whole_state, AreStanding, put_parts}
 use Rattle.dx_rules.specs.declared.rulebook.Rulebook.{Rulebook}
 use Rattle.dx_rules.specs.Rulebooks.{rules_in}
 use Rattle.dx_engine.specs.Standing.{IsGroundOf, conf_by, engines_by, undone_parts}
@@ -65,7 +66,7 @@ pub record Begins (d : Ground) (p : StandingParts) (e : Entry) (w : Work) : Type
 
 -- the turn that begins is that of the step
 pub begun_turn : (d : Ground) (p : StandingParts) (e : Entry) (w : Work) → Begins d p e w
-    → turn_of d w ≡ begin_at (moment_of e) (stands_for p)
+    → turn_of d w ≡ begin_at (moment_of e) (whole_state p)
 begun_turn d p e w h =
     let make : ℕ → ℕ → ℕ → List OpenCase → List ListEvent → List RateOf → Turn =
     λ conf time next cs ws rs. record {
@@ -80,8 +81,8 @@ begun_turn d p e w h =
       fired = [];
       words = [];
     } in
-    let opens : opens_in w.cases.items ≡ map open_of (kept_of p.cases) =
-    ap opens_in (h.cases ∙ h.standing.still) ∙ opens_still (kept_of p.cases) in
+    let opens : opens_in w.cases.items ≡ map open_of (cases_before p.cases) =
+    ap opens_in (h.cases ∙ h.standing.still) ∙ opens_still (cases_before p.cases) in
     ap (λ (t : Told). turn_at d w.next (opens_in w.cases.items) t) h.told
     ∙ (λ i. make (h.conf i) (h.time i) (h.next i) (opens i) (h.last_words i) (h.engines i))
 
@@ -106,10 +107,10 @@ begun_ready d p e w h =
     let low : p.time ≤ d.time = let time = h.time in omega arith in
     let g : (configuration_at (rules_on d) p.conf).graph ≡ d.graph.now =
     ap (λ (n : ℕ). (configuration_at (rules_on d) n).graph) (sym h.conf) ∙ h.ground.graph in
-    let lawful = lawful_is (rules_on d) (stands_for p) h.standing.lawful in
+    let lawful = lawful_is (rules_on d) (whole_state p) h.standing.lawful in
     subst (All (IsBeforeTurn d.graph.now d.time)) (sym (h.cases ∙ h.standing.still))
-    (subst (λ (x : GraphValue). All (IsBeforeTurn x d.time) (map still_of (kept_of p.cases))) g
-    (ready_all (configuration_at (rules_on d) p.conf).graph p.time d.time (kept_of p.cases) low
+    (subst (λ (x : GraphValue). All (IsBeforeTurn x d.time) (map still_of (cases_before p.cases))) g
+    (ready_all (configuration_at (rules_on d) p.conf).graph p.time d.time (cases_before p.cases) low
     h.standing.current lawful.waiting))
 
 pub begun_ascend : (d : Ground) (p : StandingParts) (e : Entry) (w : Work) → Begins d p e w
@@ -117,13 +118,13 @@ pub begun_ascend : (d : Ground) (p : StandingParts) (e : Entry) (w : Work) → B
 begun_ascend d p e w h =
     subst (λ (t : Turn). IsTrue (ascends (solved_numbers (settle_all (rules_on d) t).state.solved)))
     (sym (begun_turn d p e w h))
-    (settled_ascend (rules_on d) (stands_for p) (moment_of e) h.spelled.moment_fits
+    (settled_ascend (rules_on d) (whole_state p) (moment_of e) h.spelled.moment_fits
     h.standing.lawful)
 
 -- the turn that ended is that of the step
 ended_turn : (d : Ground) (p : StandingParts) (n : ℕ) (e : Entry) (x : Option Reloaded)
     (old new : Work) → Begins d p e old → HasEnded d (turned_by d n e) x old new
-    → with_reload x (turn_of d new) ≡ turn (rules_on d) (stands_for p) n e
+    → with_reload x (turn_of d new) ≡ turn (rules_on d) (whole_state p) n e
 unfolding turn
 ended_turn d p n e x old new h k = k.turn ∙ ap (turned_by d n e) (begun_turn d p e old h)
 
@@ -141,9 +142,9 @@ pub ended_ascend : (d : Ground) (p : StandingParts) (n : ℕ) (e : Entry) (x : O
     → IsTrue (ascends (solved_numbers (made_or new.told.marked p.solved)))
 ended_ascend d p n e x old new few h k =
     let r = rules_on d in
-    let after = stepped r (stands_for p) n e h.standing.lawful few h.spelled in
-    let lawful = lawful_is r (turn r (stands_for p) n e).state after.lawful in
-    let same : (turn r (stands_for p) n e).state.solved ≡ solved_by d new.told =
+    let after = stepped r (whole_state p) n e h.standing.lawful few h.spelled in
+    let lawful = lawful_is r (turn r (whole_state p) n e).state after.lawful in
+    let same : (turn r (whole_state p) n e).state.solved ≡ solved_by d new.told =
     sym (ap (λ (t : Turn). t.state.solved) (ended_turn d p n e x old new h k))
     ∙ reload_solved x (turn_of d new) in
     subst (λ (ws : List ListEvent). IsTrue (ascends (solved_numbers (made_or new.told.marked ws))))
@@ -164,13 +165,13 @@ state_with conf time next cs ws rs = record {
 }
 
 opens_put : (ts : List Tracked)
-    → map open_of (kept_of (map still_of (cases_of ts))) ≡ opens_in ts
-opens_put ts = ap (map open_of) (kept_still (cases_of ts)) ∙ sym (opens_cases ts)
+    → map open_of (cases_before (map still_of (tracked_cases ts))) ≡ opens_in ts
+opens_put ts = ap (map open_of) (kept_still (tracked_cases ts)) ∙ sym (opens_cases ts)
 
 -- what is put stands for what the turn left
 put_state : (d : Ground) (p : StandingParts) (x : Option Reloaded) (w : Work) → p.conf ≡ d.conf
     → p.engines ≡ d.engines.now → p.solved ≡ d.last_words.now
-    → stands_for (put_parts p d.time w x) ≡ (with_reload x (turn_of d w)).state
+    → whole_state (put_parts p d.time w x) ≡ (with_reload x (turn_of d w)).state
 unfolding state_with
 put_state d p None w conf engines last_words =
     let opens = opens_put w.cases.items in
@@ -196,10 +197,10 @@ current_one g time t cs each h =
     ]
 
 current_cases : (g : GraphValue) (time : ℕ) (ts : List Tracked) → All (IsTrackedAt g time) ts
-    → AllByRecursion (IsCurrent g time) (cases_of ts)
+    → AllByRecursion (IsCurrent g time) (tracked_cases ts)
 current_cases g time [] h = tt
 current_cases g time (t ∷ ts) h =
-    current_one g time t (cases_of ts) (h zero t (omega arith)).each
+    current_one g time t (tracked_cases ts) (h zero t (omega arith)).each
     (current_cases g time ts (λ k d low. h (suc k) d (omega arith)))
 
 -- engines that have noted nothing are those of these kinds
@@ -211,9 +212,9 @@ rates_fresh time (e ∷ es) = (refl, (refl, (refl, rates_fresh time es)))
 put_current : (d : Ground) (p : StandingParts) (x : Option Reloaded) (w : Work) → IsGround d
     → p.conf ≡ d.conf → IsLeft d x w
     → AllByRecursion (IsCurrent (configuration_at (rules_on d) (conf_by p.conf x)).graph d.time)
-    (cases_of w.cases.items)
+    (tracked_cases w.cases.items)
 put_current d p None w ground conf left =
-    subst (λ (g : GraphValue). AllByRecursion (IsCurrent g d.time) (cases_of w.cases.items))
+    subst (λ (g : GraphValue). AllByRecursion (IsCurrent g d.time) (tracked_cases w.cases.items))
     (sym (ap (λ (n : ℕ). (configuration_at (rules_on d) n).graph) conf ∙ ground.graph))
     (current_cases d.graph.now d.time w.cases.items left.current)
 put_current d p (Some x) w ground conf left =
@@ -236,21 +237,21 @@ put_rates d p (Some x) w ground conf engines left =
 -- a turn that was put in place
 pub record IsPut (r : Rules) (s : Diagnosis) (n : ℕ) (e : Entry) (q : StandingParts)
     (said : List ListEvent) : Type 0 where
-  pub state : stands_for q ≡ state_after r s n e
+  pub state : whole_state q ≡ state_after r s n e
   pub words : said ≡ words_at r s n e
   pub standing : AreStanding r q
 
 pub turn_put : (d : Ground) (p : StandingParts) (n : ℕ) (e : Entry) (x : Option Reloaded)
     (old new : Work) → n < 2 ^ 46 → Begins d p e old → HasEnded d (turned_by d n e) x old new
-    → IsPut (rules_on d) (stands_for p) n e (put_parts p d.time new x) new.told.words
+    → IsPut (rules_on d) (whole_state p) n e (put_parts p d.time new x) new.told.words
 turn_put d p n e x old new few h k =
     let r = rules_on d in
     let same = ended_turn d p n e x old new h k in
-    let state : stands_for (put_parts p d.time new x) ≡ state_after r (stands_for p) n e =
+    let state : whole_state (put_parts p d.time new x) ≡ state_after r (whole_state p) n e =
     put_state d p x new (sym h.conf) (sym h.engines) (sym h.last_words)
     ∙ ap (λ (t : Turn). t.state) same in
-    let cs = cases_of new.cases.items in
-    let after = stepped r (stands_for p) n e h.standing.lawful few h.spelled in
+    let cs = tracked_cases new.cases.items in
+    let after = stepped r (whole_state p) n e h.standing.lawful few h.spelled in
     record {
       state = state;
       words = sym (reload_words x (turn_of d new)) ∙ ap (λ (t : Turn). t.words) same;
@@ -266,7 +267,7 @@ turn_put d p n e x old new few h k =
 
 -- a turn that was undone
 pub undone_same : (r : Rules) (p : StandingParts) (ts : List Tracked) → AreStanding r p
-    → kept_of ts ≡ kept_of p.cases → undone_parts p ts ≡ p
+    → cases_before ts ≡ cases_before p.cases → undone_parts p ts ≡ p
 undone_same r p ts h kept =
     ap (λ (cs : List Tracked). record p { cases = cs })
     (ap (map still_of) kept ∙ sym h.still)
@@ -298,11 +299,11 @@ begins b d p cs e w at standing spelled g time cases next told = record {
 pub turned : (b : Rulebook) (d : Ground) (p : StandingParts) (cs : List Tracked) (n : ℕ)
     (e : Entry) (x : Option Reloaded) (old new : Work) (at : ℕ) → n < 2 ^ 46 → Begins d p e old
     → IsGroundOf b (record p { cases = cs }) at d → HasEnded d (turned_by d n e) x old new
-    → IsPut (rules_in b) (stands_for p) n e (put_parts p at new x) new.told.words
+    → IsPut (rules_in b) (whole_state p) n e (put_parts p at new x) new.told.words
 turned b d p cs n e x old new at few h g k =
-    subst (λ (t : ℕ). IsPut (rules_in b) (stands_for p) n e (put_parts p t new x) new.told.words)
+    subst (λ (t : ℕ). IsPut (rules_in b) (whole_state p) n e (put_parts p t new x) new.told.words)
     g.time
-    (subst (λ (y : Rulebook). IsPut (rules_in y) (stands_for p) n e (put_parts p d.time new x)
+    (subst (λ (y : Rulebook). IsPut (rules_in y) (whole_state p) n e (put_parts p d.time new x)
     new.told.words) g.rules (turn_put d p n e x old new few h k))
 
 -- what was found for nodes that open cases

@@ -6,11 +6,11 @@ use Rattle.dx_case.specs.Cases.{open_of}
 use Rattle.dx_engine.specs.declared.rows.OpenRow.{OpenRow}
 
 -- the row of an open case of the module of a number
-abbrev pub row_of : ℕ → OpenCase → OpenRow
-row_of own c = record {
+abbrev pub open_row : ℕ → OpenCase → OpenRow
+open_row own c = record {
   case = record { «module» = own; case = c.number };
   reports = length c.entries;
 }
 
 abbrev pub rows_of : ℕ → List Case → List OpenRow
-rows_of own cs = map (row_of own) (map open_of cs)
+rows_of own cs = map (open_row own) (map open_of cs)

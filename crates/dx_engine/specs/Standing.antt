@@ -16,7 +16,7 @@ use Rattle.dx_turn.specs.declared.work.Work.{Work}
 use Rattle.dx_turn.specs.declared.reloading.Reloaded.{Reloaded}
 use Rattle.dx_turn.specs.Grounds.{IsGround, AreRates}
 use Rattle.dx_turn.specs.Turning.{made_or}
-use Rattle.dx_turn.specs.Tracking.{cases_of, kept_of, IsCurrent}
+use Rattle.dx_turn.specs.Tracking.{tracked_cases, cases_before, IsCurrent}
 use Rattle.dx_turn.specs.Standing.{still_of}
 use Rattle.dx_engine.specs.declared.standing.StandingState.{StandingState}
 
@@ -41,27 +41,27 @@ kept_parts s = record {
 }
 
 -- the state that these parts stand for
-abbrev pub stands_for : StandingParts → Diagnosis
-stands_for p = record {
+abbrev pub whole_state : StandingParts → Diagnosis
+whole_state p = record {
   conf = p.conf;
   time = p.time;
   next = p.next;
-  open_cases = map open_of (kept_of p.cases);
+  open_cases = map open_of (cases_before p.cases);
   solved = p.solved;
   engines = map (λ r. r.kept) p.engines;
 }
 
 abbrev pub state_of : StandingState → Diagnosis
-state_of s = stands_for (kept_parts s)
+state_of s = whole_state (kept_parts s)
 
 -- the parts stand for a lawful state of a module with these rules; no turn is in the midst of them;
 -- each open case answers at the time as it does at the moment that it has come to; and the engines
 -- are those of the graph
 pub record AreStanding (r : Rules) (p : StandingParts) : Type 0 where
-  pub lawful : IsTrue (is_lawful r (stands_for p))
-  pub still : p.cases ≡ map still_of (kept_of p.cases)
+  pub lawful : IsTrue (is_lawful r (whole_state p))
+  pub still : p.cases ≡ map still_of (cases_before p.cases)
   pub current :
-      AllByRecursion (IsCurrent (configuration_at r p.conf).graph p.time) (kept_of p.cases)
+      AllByRecursion (IsCurrent (configuration_at r p.conf).graph p.time) (cases_before p.cases)
   pub rates : AreRates p.time (configuration_at r p.conf).graph.engines p.engines
 
 -- so do its parts, and what was found for nodes that open cases is right in the graph in force
@@ -84,14 +84,14 @@ put_parts p time w x = record {
   conf = conf_by p.conf x;
   time = time;
   next = w.next;
-  cases = map still_of (cases_of w.cases.items);
+  cases = map still_of (tracked_cases w.cases.items);
   solved = with_words w.told.solved (made_or w.told.marked p.solved);
   engines = engines_by (made_or w.told.engines p.engines) x;
 }
 
 -- the parts with these open cases, as they were before the turn
 abbrev pub undone_parts : StandingParts → List Tracked → StandingParts
-undone_parts p ts = record p { cases = map still_of (kept_of ts) }
+undone_parts p ts = record p { cases = map still_of (cases_before ts) }
 
 -- the parts after the engines of a turn, or those of another configuration, were put in place
 abbrev pub with_engines : StandingParts → Option (List RateOf) → Option Reloaded → StandingParts

@@ -3,7 +3,7 @@
 ghost use Rattle.std.specs.Prelude.{◌≡◌, map, IfOk, IsTrue};
 ghost use Rattle.dx_meaning.specs.Fresh.{first_of, fresh_of};
 ghost use Rattle.dx_rules.specs.Rulebooks.{rules_in};
-ghost use Rattle.dx_engine.specs.Rows.{row_of};
+ghost use Rattle.dx_engine.specs.Rows.{open_row};
 ghost use Rattle.dx_engine.specs.Standing.{state_of};
 ghost use Rattle.dx_state.specs.Configured.{configuration_at, found_at};
 ghost use Rattle.dx_step.specs.Lawful.{are_rules, is_there};
@@ -107,7 +107,8 @@ impl Diagnoser {
     /// The open cases, in order of number.
     pub fn open_rows(&self, alloc: Global) -> Result<Vec<OpenRow>, NoMemory>
         ensures { IfOk result (λ rows.
-            rows.items ≡ map (row_of self.now.rules.own) (state_of self.now.standing).open_cases) }
+            rows.items ≡ map (open_row self.now.rules.own)
+            (state_of self.now.standing).open_cases) }
     {
         self.standing.open_rows(alloc, self.rules.own)
     }

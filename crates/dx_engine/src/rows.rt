@@ -3,9 +3,9 @@
 ghost use Rattle.std.specs.Prelude.{◌≡◌, ◌++◌, [], map, IfOk, OnOk};
 ghost use Rattle.std.specs.List.{cons_option};
 ghost use Rattle.dx_case.specs.Cases.{open_of};
-ghost use Rattle.dx_turn.specs.Tracking.{kept_of};
+ghost use Rattle.dx_turn.specs.Tracking.{cases_before};
 ghost use Rattle.dx_engine.specs.Standing.{state_of};
-ghost use Rattle.dx_engine.specs.Rows.{row_of, rows_of};
+ghost use Rattle.dx_engine.specs.Rows.{open_row, rows_of};
 
 use crate::standing::StandingState;
 use dx_turn::Tracked;
@@ -43,7 +43,7 @@ fn push_row(own: u32, tracked: &Tracked, rows: &mut Vec<OpenRow>) -> Result<(), 
 
 /// The rows of cases.
 fn rows_of(alloc: Global, own: u32, cases: &[Tracked]) -> Result<Vec<OpenRow>, NoMemory>
-    ensures { IfOk result (λ rows. rows.items ≡ rows_of own (kept_of cases.now)) }
+    ensures { IfOk result (λ rows. rows.items ≡ rows_of own (cases_before cases.now)) }
 {
     let mut rows = Vec::with_capacity(alloc, cases.len())?;
     for tracked in cases {
@@ -56,7 +56,7 @@ impl StandingState {
     /// The open cases of the module of a number, in order of number.
     pub fn open_rows(&self, alloc: Global, own: u32) -> Result<Vec<OpenRow>, NoMemory>
         ensures { IfOk result
-            (λ rows. rows.items ≡ map (row_of own) (state_of self.now).open_cases) }
+            (λ rows. rows.items ≡ map (open_row own) (state_of self.now).open_cases) }
     {
         rows_of(alloc, own, self.cases.as_slice())
     }

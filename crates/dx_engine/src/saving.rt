@@ -6,7 +6,7 @@ ghost use Rattle.dx_case.specs.Cases.{open_of};
 ghost use Rattle.dx_restore.specs.Saving.{IsShortCase};
 ghost use Rattle.dx_rules.specs.Rulebooks.{rules_in};
 ghost use Rattle.dx_state.specs.StateBytes.{diagnosis_bytes};
-ghost use Rattle.dx_turn.specs.Tracking.{kept_of};
+ghost use Rattle.dx_turn.specs.Tracking.{cases_before};
 ghost use Rattle.dx_engine.specs.Standing.{state_of, IsStanding};
 
 use crate::standing::StandingState;
@@ -34,8 +34,8 @@ fn push_kept(alloc: Global, tracked: &Tracked, kept: &mut Vec<KeptCase>) -> Resu
 
 /// Open cases as they are kept.
 fn kept_cases(alloc: Global, cases: &[Tracked]) -> Result<Vec<KeptCase>, NoMemory>
-    requires { All IsShortCase (kept_of cases.now) }
-    ensures { IfOk result (λ kept. kept.items ≡ map open_of (kept_of cases.now)) }
+    requires { All IsShortCase (cases_before cases.now) }
+    ensures { IfOk result (λ kept. kept.items ≡ map open_of (cases_before cases.now)) }
 {
     let mut kept = Vec::with_capacity(alloc, cases.len())?;
     for tracked in cases {

@@ -25,7 +25,7 @@ use Rattle.dx_state.specs.LawfulState.{are_engines, open_numbers, solved_numbers
 use Rattle.dx_state.specs.LawfulState.{is_state}
 use Rattle.dx_state.proofs.Lists.{all_other}
 use Rattle.dx_state.proofs.Facts.{case_is, case_back, state_is, state_back}
-use Rattle.dx_lawful.specs.Trials.{Guarded, could_be_open, could_be_last, have_ranges}
+use Rattle.dx_lawful.specs.Trials.{GuardTest, could_be_open, could_be_last, have_ranges}
 use Rattle.dx_lawful.specs.Trials.{are_numbered}
 
 same_tests : (a b : Bool) → (IsTrue a → IsTrue b) → (IsTrue b → IsTrue a) → a ≡ b
@@ -63,7 +63,7 @@ links_spelled marked c h =
     links_by marked c.broken four.1
 
 -- which links the configuration guards
-abbrev guarded_in : Configuration → Guarded
+abbrev guarded_in : Configuration → GuardTest
 guarded_in x = is_cut x.guarding.guarded
 
 -- such a case
@@ -184,7 +184,7 @@ state_same own x s fits =
     (are_apart (open_numbers s.open_cases) (solved_numbers s.solved)) p.opens_ascend p.apart)))
 
 -- the test of it, in each configuration of this graph and these guarded links
-pub tried : (own : ℕ) (g : GraphValue) (guarded : Guarded) (s : Diagnosis) (lawful : Bool)
+pub tried : (own : ℕ) (g : GraphValue) (guarded : GuardTest) (s : Diagnosis) (lawful : Bool)
     → IsTrue (diagnosis_fits own s)
     → lawful ≡ (have_ranges g guarded s && are_numbered s.open_cases s.solved)
     → (x : Configuration) → x.graph ≡ g

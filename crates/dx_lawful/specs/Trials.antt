@@ -11,15 +11,15 @@ use Rattle.dx_state.specs.LawfulState.{events_ascend, suspect_name, has_marks, a
 use Rattle.dx_state.specs.LawfulState.{open_numbers, solved_numbers, are_apart}
 
 -- which links are guarded, as a test of instance and effect
-abbrev pub Guarded : Type 0
-Guarded = ℕ → ℕ → Bool
+abbrev pub GuardTest : Type 0
+GuardTest = ℕ → ℕ → Bool
 
 -- a guarded link to a report that was observed
-abbrev pub is_guarded_link : Guarded → List ℕ → Broken → Bool
+abbrev pub is_guarded_link : GuardTest → List ℕ → Broken → Bool
 is_guarded_link guarded observed l = guarded l.instance l.effect && is_member observed l.effect
 
 -- a case whose broken links are in order is a lawful one, where these links are guarded
-abbrev pub could_be_open : GraphValue → Guarded → ℕ → ℕ → OpenCase → Bool
+abbrev pub could_be_open : GraphValue → GuardTest → ℕ → ℕ → OpenCase → Bool
 could_be_open g guarded time next c =
     ascends c.observed
     && (nat_lt c.number next
@@ -39,7 +39,7 @@ could_be_last next w =
     && (events_ascend (map suspect_name w.suspects) && has_marks w.kind w.suspects)))
 
 -- the parts of a state, each in itself
-abbrev pub have_ranges : GraphValue → Guarded → Diagnosis → Bool
+abbrev pub have_ranges : GraphValue → GuardTest → Diagnosis → Bool
 have_ranges g guarded s =
     nat_lt s.time (2 ^ 62)
     && (nat_le s.next (2 ^ 63)

@@ -21,22 +21,22 @@ use Rattle.dx_sets.specs.Sets.{SetsValue}
 use Rattle.dx_sets.specs.Engine.{CutsOf, uncut, IsSteady, SettlesTo}
 use Rattle.dx_sets.specs.Links.{CutsOne, LinkIsLost}
 use Rattle.dx_sets.proofs.Losing.{keeps_self, keeps_on}
-use Rattle.dx_live.specs.Cuts.{CutsValue, first_place, mark_place, cut_at, AreStarts}
+use Rattle.dx_live.specs.Cuts.{CutsValue, first_index, mark_place, cut_at, AreStarts}
 use Rattle.dx_live.specs.Cuts.{AreCutsOf, IsOneCut, CutIsMade}
 
 -- the first place of a member
 pub first_is : (l : ℕ) (row : List ℕ) → is_member row l ≡ true
-    → (first_place l row < length row) × (get_or row (first_place l row) 0 ≡ l)
+    → (first_index l row < length row) × (get_or row (first_index l row) 0 ≡ l)
 first_is l [] h = absurd (false≢true h)
 first_is l (x ∷ xs) h = elim (cases_Bool (eqb x l)) [
   | inl here ↦
-      let e : first_place l (x ∷ xs) ≡ 0 =
-      cond-true {A = ℕ} (eqb x l) 0 (suc (first_place l xs)) here in
+      let e : first_index l (x ∷ xs) ≡ 0 =
+      cond-true {A = ℕ} (eqb x l) 0 (suc (first_index l xs)) here in
       let P : ℕ → Type 0 = λ n. (n < length (x ∷ xs)) × (get_or (x ∷ xs) n 0 ≡ l) in
       subst P (sym e) (omega arith, eqb-true x l here)
   | inr away ↦
-      let e : first_place l (x ∷ xs) ≡ suc (first_place l xs) =
-      cond-false {A = ℕ} (eqb x l) 0 (suc (first_place l xs)) away in
+      let e : first_index l (x ∷ xs) ≡ suc (first_index l xs) =
+      cond-false {A = ℕ} (eqb x l) 0 (suc (first_index l xs)) away in
       let there : is_member xs l ≡ true = elim (or_cases (eqb x l) (is_member xs l) h)
       [ inl same ↦ absurd (both_ways (eqb x l) away same) | inr more ↦ more ] in
       let p = first_is l xs there in
@@ -46,15 +46,15 @@ first_is l (x ∷ xs) h = elim (cases_Bool (eqb x l)) [
 
 -- where ascending numbers have it
 pub first_at : (l : ℕ) (row : List ℕ) (i : ℕ) → ascends row ≡ true → i < length row
-    → get_or row i 0 ≡ l → first_place l row ≡ i
+    → get_or row i 0 ≡ l → first_index l row ≡ i
 first_at l row i up low is =
     let here : is_member row l ≡ true =
     let P : ℕ → Type 0 = λ y. is_member row y ≡ true in subst P is (in_at row i low) in
     let f = first_is l row here in
-    elim (cases_lt (first_place l row) i) [
-      | inl lt ↦ absurd (omega (arith, rises row (first_place l row) i up lt low, f.1, is))
-      | inr ge ↦ elim (cases_lt i (first_place l row)) [
-        | inl gt ↦ absurd (omega (arith, rises row i (first_place l row) up gt f.0, f.1, is))
+    elim (cases_lt (first_index l row) i) [
+      | inl lt ↦ absurd (omega (arith, rises row (first_index l row) i up lt low, f.1, is))
+      | inr ge ↦ elim (cases_lt i (first_index l row)) [
+        | inl gt ↦ absurd (omega (arith, rises row i (first_index l row) up gt f.0, f.1, is))
         | inr le ↦ omega (arith, ge, le)
       ]
     ]
@@ -183,7 +183,7 @@ module _ (rows : List (List ℕ)) (c : CutsValue) (h : AreCutsOf rows c) (link :
   t_in = row_in_range rows link.instance link.effect there
 
   pub mark_inside : at < length c.marks
-  mark_inside = h.starts.inside link.instance (first_place link.effect row) t_in
+  mark_inside = h.starts.inside link.instance (first_index link.effect row) t_in
       (first_is link.effect row there).0
 
   abbrev marked : CutsValue
@@ -201,21 +201,21 @@ module _ (rows : List (List ℕ)) (c : CutsValue) (h : AreCutsOf rows c) (link :
         | inl lt ↦ omega (
           arith,
           same,
-          h.starts.apart t link.instance (first_place l (row_at rows t)) lt t_in f.0,
+          h.starts.apart t link.instance (first_index l (row_at rows t)) lt t_in f.0,
         )
         | inr ge ↦ elim (cases_lt link.instance t) [
           | inl gt ↦ omega (
             arith,
             same,
-            h.starts.apart link.instance t (first_place link.effect row) gt u_in k.0,
+            h.starts.apart link.instance t (first_index link.effect row) gt u_in k.0,
           )
           | inr le ↦
               let same_t : t ≡ link.instance = omega (arith, ge, le) in
               let same_row : row_at rows t ≡ row = ap (row_at rows) same_t in
-              let same_place : first_place l (row_at rows t) ≡ first_place link.effect row =
+              let same_place : first_index l (row_at rows t) ≡ first_index link.effect row =
               omega (arith, same, ap (λ (z : ℕ). get_or c.starts z 0) same_t) in
               ne same_t (sym f.1
-              ∙ (ap (λ (xs : List ℕ). get_or xs (first_place l (row_at rows t)) 0) same_row
+              ∙ (ap (λ (xs : List ℕ). get_or xs (first_index l (row_at rows t)) 0) same_row
               ∙ (ap (λ (z : ℕ). get_or row z 0) same_place ∙ k.1)))
         ]
       ]

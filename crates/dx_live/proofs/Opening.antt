@@ -26,7 +26,7 @@ use Rattle.dx_live.specs.Region.{RegionValue, nodes_at, IsRegionOf, IsPartOf, Is
 use Rattle.dx_live.specs.Region.{AreLocalCuts}
 use Rattle.dx_live.specs.Cuts.{mark_place, AreStarts, AreAscending}
 use Rattle.dx_live.specs.Live.{LiveOver, root_over, cuts_over, IsLiveOver}
-use Rattle.dx_live.specs.Live.{IsBestOver, no_cut, all_allowed, IsWhole}
+use Rattle.dx_live.specs.Live.{IsBestOver, no_cut, all_allowed, HasEveryFit}
 use Rattle.dx_live.proofs.Marking.{filter_ascends}
 use Rattle.dx_live.proofs.Best.{best_first}
 use Rattle.dx_live.proofs.Costs.{live_bound}
@@ -50,7 +50,7 @@ sized_new v n m s is nodes count = record {
 
 -- nothing outside the end is fit, where it began with all nodes
 pub whole_end : (v : IncidenceValue) (cut : CutsOf) (here : ℕ) (s t : SetsValue)
-    → AreFilled v s → SettlesTo v cut here s t → IsWhole v cut here t
+    → AreFilled v s → SettlesTo v cut here s t → HasEveryFit v cut here t
 whole_end v cut here s t full ends = record {
   every = λ Y f low. ends.keeps.keeps Y f
       (λ e y. full.each e (ltb-true e (length v.uses) (low e y)));
@@ -142,7 +142,7 @@ module _ (g : GraphValue) (graph : IsGraph g) (v : IncidenceValue)
         (none (mark_place l.cuts (row_at l.region.table.effects t) t n));
   }
 
-  pub best_live : IsWhole l.region.table (cuts_over l) l.here l.sets
+  pub best_live : HasEveryFit l.region.table (cuts_over l) l.here l.sets
       → IsBestOver g no_cut all_allowed l
   best_live whole = record {
     cuts = uncut_first;

@@ -18,7 +18,7 @@ use Rattle.dx_sets.proofs.Sums.{sum_below_same}
 use Rattle.dx_sets.proofs.Filling.{count_below}
 use Rattle.dx_live.specs.Region.{table_over}
 use Rattle.dx_live.specs.Cuts.{CutsValue, cut_at}
-use Rattle.dx_live.specs.Live.{LiveValue, LiveOver, live_over, places_with, index_of}
+use Rattle.dx_live.specs.Live.{LiveValue, LiveOver, live_over, rows_with, index_of}
 use Rattle.dx_live.specs.Live.{graph_table, IsLiveOver, IsLiveOf, IsBestOver, IsLiveBest}
 use Rattle.dx_live.proofs.Costs.{sum_rows}
 
@@ -34,12 +34,12 @@ all_counted X (x ∷ xs) h =
     )
 
 places_count : (e j : ℕ) (rows : List (List ℕ))
-    → length (places_with e j rows) ≡ sum_by (λ (row : List ℕ). occurs e row) rows
+    → length (rows_with e j rows) ≡ sum_by (λ (row : List ℕ). occurs e row) rows
 places_count e j [] = refl
 places_count e j (row ∷ rows) =
     omega (
       arith,
-      length-append (replicate (occurs e row) j) (places_with e (suc j) rows),
+      length-append (replicate (occurs e row) j) (rows_with e (suc j) rows),
       length-replicate (occurs e row) j,
       places_count e (suc j) rows,
       sum_by-cons (λ (r : List ℕ). occurs e r) row rows,
@@ -48,18 +48,18 @@ places_count e j (row ∷ rows) =
 index_count : (n : ℕ) (rows : List (List ℕ)) → length (index_of n rows) ≡ n
 index_count zero rows = refl
 index_count (suc n) rows =
-    omega (arith, index_count n rows, length_push (index_of n rows) (places_with n zero rows))
+    omega (arith, index_count n rows, length_push (index_of n rows) (rows_with n zero rows))
 
 index_row : (n e : ℕ) (rows : List (List ℕ)) → e < n
-    → row_at (index_of n rows) e ≡ places_with e zero rows
+    → row_at (index_of n rows) e ≡ rows_with e zero rows
 index_row zero e rows low = absurd (omega (arith, low))
 index_row (suc n) e rows low = elim (cases_eq e n) [
   | inl same ↦
-      get_or_push (index_of n rows) (places_with n zero rows) [] e (index_count n rows ∙ sym same)
-      ∙ ap (λ (z : ℕ). places_with z zero rows) (sym same)
+      get_or_push (index_of n rows) (rows_with n zero rows) [] e (index_count n rows ∙ sym same)
+      ∙ ap (λ (z : ℕ). rows_with z zero rows) (sym same)
   | inr ne ↦
       let less : e < n = omega (arith, low, ne) in
-      get_or_append_left (index_of n rows) (places_with n zero rows ∷ []) [] e
+      get_or_append_left (index_of n rows) (rows_with n zero rows ∷ []) [] e
       (omega (arith, less, index_count n rows))
       ∙ index_row n e rows less
 ]

@@ -14,13 +14,13 @@ pub record CutsValue : Type 0 where
   pub marks : List Bool
 
 -- the place at which a number first stands
-abbrev pub first_place : ℕ → List ℕ → ℕ
-first_place v [] = 0
-first_place v (x ∷ xs) = if x == v then 0 else suc (first_place v xs)
+abbrev pub first_index : ℕ → List ℕ → ℕ
+first_index v [] = 0
+first_index v (x ∷ xs) = if x == v then 0 else suc (first_index v xs)
 
 -- the mark of a member of the row at t
 abbrev pub mark_place : CutsValue → List ℕ → ℕ → ℕ → ℕ
-mark_place c row t l = slice_index c.starts t + first_place l row
+mark_place c row t l = slice_index c.starts t + first_index l row
 
 -- these members are marked
 abbrev pub cut_at : List (List ℕ) → CutsValue → CutsOf

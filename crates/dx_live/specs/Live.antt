@@ -53,14 +53,14 @@ abbrev pub cuts_over : LiveOver → CutsOf
 cuts_over l = cut_at l.region.table.effects l.cuts
 
 -- the places, counted from j on, of the rows in which e stands, as often as it stands there
-abbrev pub places_with : ℕ → ℕ → List (List ℕ) → List ℕ
-places_with e j [] = []
-places_with e j (row ∷ rows) = replicate (occurs e row) j ++ places_with e (suc j) rows
+abbrev pub rows_with : ℕ → ℕ → List (List ℕ) → List ℕ
+rows_with e j [] = []
+rows_with e j (row ∷ rows) = replicate (occurs e row) j ++ rows_with e (suc j) rows
 
 -- the same for each number below n
 abbrev pub index_of : ℕ → List (List ℕ) → List (List ℕ)
 index_of zero rows = []
-index_of (suc n) rows = index_of n rows ++ places_with n zero rows ∷ []
+index_of (suc n) rows = index_of n rows ++ rows_with n zero rows ∷ []
 
 -- the incidence of a graph, each node's instances in order
 abbrev pub graph_table : GraphValue → IncidenceValue
@@ -135,6 +135,6 @@ BestIsGreatest = (g : GraphValue) (cut : CutsOf) (root : ℕ) (allowed X : NodeS
 
 -- no set of the nodes of a part, in which each member but the root is produced and each shows
 -- enough, has a member outside the set
-pub record IsWhole (v : IncidenceValue) (cut : CutsOf) (here : ℕ) (s : SetsValue) : Type 0 where
+pub record HasEveryFit (v : IncidenceValue) (cut : CutsOf) (here : ℕ) (s : SetsValue) : Type 0 where
   pub every : (Y : NodeSet) → IsFit (wiring_cut v cut) here Y
       → IsSubset Y (λ n. nat_lt n (length v.uses)) → IsSubset Y (has_mark s.marks)

@@ -11,7 +11,7 @@ ghost use Rattle.dx_sets.specs.Engine.{CutsOf, IsSteady, SettlesTo, cost};
 ghost use Rattle.dx_live.specs.Cuts.{mark_place, cut_at, AreCutsOf, CutIsMade};
 ghost use Rattle.dx_live.specs.Region.{IsLinkOf, IsNoLinkOf};
 ghost use Rattle.dx_live.specs.Live.{live_root, live_set, live_cost, IsLiveOf, IsLiveBest, no_cut};
-ghost use Rattle.dx_live.specs.Live.{all_allowed, all_but, cut_with, IsWhole, BestIsGreatest};
+ghost use Rattle.dx_live.specs.Live.{all_allowed, all_but, cut_with, HasEveryFit, BestIsGreatest};
 
 use crate::cuts::{Cuts, LocalCuts, NoneCut};
 use crate::region::{Region, place_among};
@@ -74,7 +74,7 @@ fn first_sets(alloc: Global, table: &Incidence, cuts: &Cuts, here: u32) -> Resul
         (λ sets. IsSteady table.now (cut_at table.now.effects cuts.now) here sets) }
     ensures over { IfOk result (λ sets. sets.pending ≡ []) }
     ensures every { IfOk result
-        (λ sets. IsWhole table.now (cut_at table.now.effects cuts.now) here sets) }
+        (λ sets. HasEveryFit table.now (cut_at table.now.effects cuts.now) here sets) }
 {
     let mut sets = Sets::new(alloc, table.nodes(), table.count())?;
     let local = NoneCut { table, cuts };

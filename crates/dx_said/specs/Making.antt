@@ -11,7 +11,7 @@ abbrev pub node_at : List Node → ℕ → List Node
 node_at nodes e = cons_option (slice_get nodes e) []
 
 -- so many of the first words are of cases before a number, and no other is
-pub record IsPlace (n : ℕ) (ws : List ListEvent) (at : ℕ) : Type 0 where
+pub record IsWordPlace (n : ℕ) (ws : List ListEvent) (at : ℕ) : Type 0 where
   pub within : at ≤ length ws
   pub before : AllWithin (λ w. nat_lt w.case.case n ≡ true) ws 0 at
   pub after : AllWithin (λ w. nat_lt w.case.case n ≡ false) ws at (length ws)

@@ -5,7 +5,7 @@ ghost use Rattle.std.specs.Prelude.{vec_len, vec_capacity};
 ghost use Rattle.ev_incidence.specs.Sets.{ascends};
 ghost use Rattle.dx_state.specs.LawfulState.{solved_numbers};
 ghost use Rattle.dx_step.specs.Said.{with_last_word};
-ghost use Rattle.dx_said.specs.Making.{IsPlace, with_words};
+ghost use Rattle.dx_said.specs.Making.{IsWordPlace, with_words};
 
 use fm_bytes::NoMemory;
 use fm_entry::{ListEvent, ListEvents};
@@ -13,7 +13,7 @@ use fm_entry::{ListEvent, ListEvents};
 /// How many words are of cases before the number.
 fn place_of(words: &[ListEvent], number: u64) -> usize
     requires { IsTrue (ascends (solved_numbers words.now)) }
-    ensures { IsPlace number words.now result }
+    ensures { IsWordPlace number words.now result }
 {
     words.partition_point(|word| word.case.case < number)
 }

@@ -23,7 +23,7 @@ use Rattle.dx_state.specs.StateBytes.{parts_bytes, version_byte, diagnosis_bytes
 use Rattle.dx_state.specs.StateReading.{marked_of, marked_from, case_links_from, open_case_from}
 use Rattle.dx_state.specs.StateReading.{moments_from, parts_from, marked_parts_from}
 use Rattle.dx_state.specs.StateReading.{diagnosis_from}
-use Rattle.dx_state.specs.Fitting.{is_number_32, case_links_fit, open_case_fits, parts_fit}
+use Rattle.dx_state.specs.Fitting.{is_number_32, case_links_fit, open_case_fits, state_parts_fit}
 use Rattle.dx_state.specs.Fitting.{diagnosis_fits}
 
 -- the first byte
@@ -96,7 +96,7 @@ moments_reader = counted_reader 2 is_unsigned u64_bytes (number_from 8) long_rea
 
 -- what follows the first byte
 pub parts_reader : (own : ℕ) → own < 8 → (marked : Bool)
-    → IsReader (parts_fit own marked) (parts_bytes marked) (parts_from own marked)
+    → IsReader (state_parts_fit own marked) (parts_bytes marked) (parts_from own marked)
 unfolding parts_from
 parts_reader own known marked =
     made_reader (λ f. record {
@@ -119,10 +119,11 @@ parts_reader own known marked =
     (counted_reader 4 _ _ moments_from moments_reader))))))
 
 marked_parts_reader : (own : ℕ) → own < 8 → (marked : Bool)
-    → IsReader (λ s. parts_fit own marked s && (not marked || is_marked s)) (parts_bytes marked)
+    → IsReader (λ s. state_parts_fit own marked s && (not marked || is_marked s))
+    (parts_bytes marked)
     (marked_parts_from own marked)
 marked_parts_reader own known marked =
-    where_reader (parts_fit own marked) (λ s. not marked || is_marked s) (parts_bytes marked)
+    where_reader (state_parts_fit own marked) (λ s. not marked || is_marked s) (parts_bytes marked)
     (parts_from own marked) (parts_reader own known marked)
 
 -- no case of a state that is not marked has links
@@ -139,10 +140,10 @@ none_marked (c ∷ cs) h =
     ap (λ (b : Bool). b || list_any (λ c. has_links c.broken) cs) none ∙ none_marked cs parts.1
 
 marked_is : (own : ℕ) (b : Bool) (s : Diagnosis)
-    → IsTrue (parts_fit own b s && (not b || is_marked s)) → is_marked s ≡ b
-marked_is own true s h = (and_parts (parts_fit own true s) _ h).1
+    → IsTrue (state_parts_fit own b s && (not b || is_marked s)) → is_marked s ≡ b
+marked_is own true s h = (and_parts (state_parts_fit own true s) _ h).1
 marked_is own false s h =
-    let one = and_parts (is_number_32 s.conf) _ (and_parts (parts_fit own false s) _ h).0 in
+    let one = and_parts (is_number_32 s.conf) _ (and_parts (state_parts_fit own false s) _ h).0 in
     let two = and_parts (is_unsigned s.time) _ one.1 in
     let three = and_parts (is_unsigned s.next) _ two.1 in
     let four = and_parts (counted_fits 8 (open_case_fits false) s.open_cases) _ three.1 in
@@ -154,10 +155,11 @@ either true = refl
 either false = refl
 
 both_fit : (own : ℕ) (s : Diagnosis)
-    → (parts_fit own (is_marked s) s && (not (is_marked s) || is_marked s)) ≡ diagnosis_fits own s
+    → (state_parts_fit own (is_marked s) s && (not (is_marked s) || is_marked s)) ≡ diagnosis_fits
+    own s
 both_fit own s =
-    ap (λ (b : Bool). parts_fit own (is_marked s) s && b) (either (is_marked s))
-    ∙ and_end (parts_fit own (is_marked s) s) where
+    ap (λ (b : Bool). state_parts_fit own (is_marked s) s && b) (either (is_marked s))
+    ∙ and_end (state_parts_fit own (is_marked s) s) where
       and_end : (b : Bool) → (b && true) ≡ b
       and_end true = refl
       and_end false = refl
@@ -171,7 +173,7 @@ diagnosis_reader own known =
     (λ s h. sym (both_fit own s) ∙ h) (λ s h. both_fit own s ∙ h) (λ s h. refl)
     (made_where_reader (λ f. f.1) (λ s. (is_marked s, s)) _ _ _
     (λ f h. ap (λ (b : Bool). (b, f.1)) (marked_is own f.0 f.1 h)) (λ s. refl)
-    (then_reader (λ b. true) (λ b s. parts_fit own b s && (not b || is_marked s))
+    (then_reader (λ b. true) (λ b s. state_parts_fit own b s && (not b || is_marked s))
     (λ b. version_byte b ∷ []) parts_bytes marked_from (λ b. marked_parts_from own b)
     marked_reader (λ b h. marked_parts_reader own known b)))
 

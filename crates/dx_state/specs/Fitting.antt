@@ -24,8 +24,8 @@ open_case_fits marked c =
     && (counted_fits 8 is_unsigned c.entries
     && (counted_fits 4 is_number_32 c.observed && case_links_fit marked c.broken)))
 
-abbrev pub parts_fit : ℕ → Bool → Diagnosis → Bool
-parts_fit own marked s =
+abbrev pub state_parts_fit : ℕ → Bool → Diagnosis → Bool
+state_parts_fit own marked s =
     is_number_32 s.conf
     && (is_unsigned s.time
     && (is_unsigned s.next
@@ -35,4 +35,4 @@ parts_fit own marked s =
 
 -- the state has a spelling, as one of the module of this number
 abbrev pub diagnosis_fits : ℕ → Diagnosis → Bool
-diagnosis_fits own s = parts_fit own (is_marked s) s
+diagnosis_fits own s = state_parts_fit own (is_marked s) s

@@ -28,7 +28,8 @@ use Rattle.dx_step.specs.Turns.{Turn, configuration_of, graph_of, turn_cases, wi
 use Rattle.dx_step.specs.Turns.{note_all, decide_by, decide, settle, settle_each, decide_each}
 use Rattle.dx_step.specs.Turns.{begin_at, settle_all}
 use Rattle.dx_step.specs.Reports.{declares, report_named, links_broken, may_open, with_next}
-use Rattle.dx_step.specs.Reports.{open_case, settle_at, join_case, join_or_open, join, open_unknown}
+use Rattle.dx_step.specs.Reports.{opens_case, settle_at, join_case, join_or_open}
+use Rattle.dx_step.specs.Reports.{join, open_unknown}
 use Rattle.dx_step.specs.Reports.{join_if_known, report, join_each, trips}
 use Rattle.dx_step.specs.Step.{act, reload, turn}
 use Rattle.dx_step.specs.Longer.{rules_of, DoAlike}
@@ -104,7 +105,7 @@ decides_alike r q (c ∷ cs) t h =
 
 open_alike : (r q : Rules) (notes : Bool) (entry node : ℕ) (links : List Link) (t : Turn)
     → IsAlike r q (conf_in t)
-    → open_case r notes entry node links t ≡ open_case q notes entry node links t
+    → opens_case r notes entry node links t ≡ opens_case q notes entry node links t
 open_alike r q notes entry node links t h =
     ap (λ (u : Turn). if may_open t.state then u else t)
     (settle_alike r q notes (case_opened t.state.next node t.state.time entry links) (with_next t)

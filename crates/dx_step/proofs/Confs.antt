@@ -22,7 +22,8 @@ use Rattle.dx_step.specs.Said.{nodes_of}
 use Rattle.dx_step.specs.Turns.{Turn, configuration_of, graph_of, turn_cases, with_cases, keep, say}
 use Rattle.dx_step.specs.Turns.{noted_at, note_upset, note_all, upset, decide_by, decide, settle}
 use Rattle.dx_step.specs.Turns.{settle_each, decide_each, settle_all, decide_all}
-use Rattle.dx_step.specs.Reports.{declares, links_broken, may_open, with_next, open_case, settle_at}
+use Rattle.dx_step.specs.Reports.{declares, links_broken, may_open, with_next}
+use Rattle.dx_step.specs.Reports.{opens_case, settle_at}
 use Rattle.dx_step.specs.Reports.{join_case, join_or_open, place_of_report, join, open_unknown}
 use Rattle.dx_step.specs.Reports.{unknown_word, join_if_known, report_named, report, join_each}
 use Rattle.dx_step.specs.Repairs.{Chosen, mark}
@@ -98,7 +99,7 @@ pub decide_all_conf : (r : Rules) (t : Turn) → conf_in (decide_all r t) ≡ co
 decide_all_conf r t = decide_each_conf r (turn_cases t) (with_cases [] t)
 
 open_conf : (r : Rules) (notes : Bool) (entry node : ℕ) (links : List Link) (t : Turn)
-    → conf_in (open_case r notes entry node links t) ≡ conf_in t
+    → conf_in (opens_case r notes entry node links t) ≡ conf_in t
 open_conf r notes entry node links t =
     elim (may_open t.state) as (λ (b : Bool). conf_in (if b
     then settle r notes (case_opened t.state.next node t.state.time entry links) (with_next t)

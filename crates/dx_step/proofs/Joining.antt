@@ -29,7 +29,7 @@ use Rattle.dx_state.proofs.Lists.{all_other, is_strict, strict_of, ascends_of}
 use Rattle.dx_state.proofs.Facts.{IsOpenCase, case_is, case_back, word_is, word_back}
 use Rattle.dx_step.specs.Turns.{Turn, configuration_of, graph_of, turn_cases, with_cases, say}
 use Rattle.dx_step.specs.Turns.{decide, settle}
-use Rattle.dx_step.specs.Reports.{report_named, links_broken, may_open, with_next, open_case}
+use Rattle.dx_step.specs.Reports.{report_named, links_broken, may_open, with_next, opens_case}
 use Rattle.dx_step.specs.Reports.{settle_at, join_case, join_or_open, place_of_report, join}
 use Rattle.dx_step.specs.Reports.{unknown_word, open_unknown, join_if_known, report, join_each}
 use Rattle.dx_step.proofs.Blamed.{strict_push}
@@ -349,7 +349,7 @@ turn_more r t c h low same lawful =
 opened : (r : Rules) (notes : Bool) (entry node : ℕ) (payload : Pairs) (t : Turn)
     → IsTrue (is_report_node (graph_of r t.state).nodes node) → entry < 2 ^ 46
     → IsTurn r (turn_cases t) t → AllWait r t
-    → IsSettled r t (open_case r notes entry node
+    → IsSettled r t (opens_case r notes entry node
     (links_broken (configuration_of r t.state) node payload) t)
 opened r notes entry node payload t report few h all =
     let x = configuration_of r t.state in

@@ -41,8 +41,8 @@ abbrev pub with_next : Turn → Turn
 with_next t = record t { state = record t.state { next = t.state.next + 1 } }
 
 -- a report of the node opens a case
-abbrev pub open_case : Rules → Bool → ℕ → ℕ → List Link → Turn → Turn
-open_case r notes entry node links t =
+abbrev pub opens_case : Rules → Bool → ℕ → ℕ → List Link → Turn → Turn
+opens_case r notes entry node links t =
     if may_open t.state
     then settle r notes (case_opened t.state.next node t.state.time entry links) (with_next t)
     else t
@@ -63,7 +63,7 @@ join_case r notes entry node links at None t = t
 abbrev pub join_or_open : Rules → Bool → ℕ → ℕ → List Link → Option ℕ → Turn → Turn
 join_or_open r notes entry node links (Some at) t =
     join_case r notes entry node links at (slice_get (turn_cases t) at) t
-join_or_open r notes entry node links None t = open_case r notes entry node links t
+join_or_open r notes entry node links None t = opens_case r notes entry node links t
 
 -- the first open case that has the node or waits for it
 abbrev pub place_of_report : Rules → ℕ → Turn → Option ℕ

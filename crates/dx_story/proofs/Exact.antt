@@ -21,7 +21,8 @@ use Rattle.ev_incidence.proofs.Occurrences.{in_transposed, transposed_in, place_
 use Rattle.ev_graph.proofs.Building.{wiring_same, below_at}
 use Rattle.ev_graph.specs.Rules.{IsProduced, IsShown}
 use Rattle.dx_story.specs.Story.{wiring_less, IsExactStory}
-use Rattle.dx_story.specs.Tests.{gives_at, shows_at, fits_at, are_nodes, are_reports, has_one_root}
+use Rattle.dx_story.specs.Tests.{gives_at, shows_at, is_fit_at, are_nodes}
+use Rattle.dx_story.specs.Tests.{are_reports, has_one_root}
 
 -- one member
 module _ (v : IncidenceValue) (cut : ℕ → ℕ → Bool) (root : ℕ) (X : NodeSet) (inc : IsIncidence v)
@@ -29,7 +30,7 @@ module _ (v : IncidenceValue) (cut : ℕ → ℕ → Bool) (root : ℕ) (X : Nod
     abbrev w : Wiring
     w = without (wiring_of v) cut
 
-    fit_caused : (e : ℕ) → fits_at v cut root X e ≡ true → e ≢ root → IsProduced w X e
+    fit_caused : (e : ℕ) → is_fit_at v cut root X e ≡ true → e ≢ root → IsProduced w X e
     fit_caused e h ne =
         let p = and_parts (eqb e root || list_any (gives_at v cut X e) (row_at v.gets e))
         (list_all (shows_at v cut X) (row_at v.uses e)) h in
@@ -49,7 +50,7 @@ module _ (v : IncidenceValue) (cut : ℕ → ℕ → Bool) (root : ℕ) (X : Nod
               }
         ]
 
-    fit_shown : (e : ℕ) → fits_at v cut root X e ≡ true → IsShown w X e
+    fit_shown : (e : ℕ) → is_fit_at v cut root X e ≡ true → IsShown w X e
     fit_shown e h =
         let p = and_parts (eqb e root || list_any (gives_at v cut X e) (row_at v.gets e))
         (list_all (shows_at v cut X) (row_at v.uses e)) h in
@@ -64,7 +65,7 @@ module _ (v : IncidenceValue) (cut : ℕ → ℕ → Bool) (root : ℕ) (X : Nod
         }
 
     fit_from : (e : ℕ) → (e ≢ root → IsProduced w X e) → IsShown w X e
-        → fits_at v cut root X e ≡ true
+        → is_fit_at v cut root X e ≡ true
     fit_from e caused shown =
         and_from (eqb e root || list_any (gives_at v cut X e) (row_at v.gets e))
         (list_all (shows_at v cut X) (row_at v.uses e))
@@ -180,7 +181,7 @@ module _ (g : GraphValue) (v : IncidenceValue) (less : List Link) (root : ℕ) (
   pub exact_from : are_nodes (length g.nodes) seen ≡ true → are_nodes (length g.nodes) story ≡ true
       → 0 < length seen → are_reports g.nodes seen story ≡ true
       → has_one_root g.nodes root story ≡ true
-      → list_all (fits_at v (is_cut less) root (is_member story)) story ≡ true
+      → list_all (is_fit_at v (is_cut less) root (is_member story)) story ≡ true
       → IsExactStory g less root seen story
   exact_from a b some reports one fit =
       let p = and_parts (ascends seen) (are_below (length g.nodes) seen) a in
@@ -202,17 +203,17 @@ module _ (g : GraphValue) (v : IncidenceValue) (less : List Link) (root : ℕ) (
           only_root = only_root g.nodes root story one;
           caused = λ e i ne. (let P : Wiring → Type 0 = λ w. IsProduced w (is_member story) e in
               subst P same (fit_caused v (is_cut less) root (is_member story) h.incidence e
-              (all_in (fits_at v (is_cut less) root (is_member story)) story e fit i) ne));
+              (all_in (is_fit_at v (is_cut less) root (is_member story)) story e fit i) ne));
           shown = λ e i. (let P : Wiring → Type 0 = λ w. IsShown w (is_member story) e in
               subst P same (fit_shown v (is_cut less) root (is_member story) h.incidence e
-              (all_in (fits_at v (is_cut less) root (is_member story)) story e fit i)));
+              (all_in (is_fit_at v (is_cut less) root (is_member story)) story e fit i)));
         };
         reports = reports_are g.nodes seen story reports;
       }
 
   pub fits_from : IsExactStory g less root seen story
-      → list_all (fits_at v (is_cut less) root (is_member story)) story ≡ true
-  fits_from t = all_from (fits_at v (is_cut less) root (is_member story)) story (λ e i.
+      → list_all (is_fit_at v (is_cut less) root (is_member story)) story ≡ true
+  fits_from t = all_from (is_fit_at v (is_cut less) root (is_member story)) story (λ e i.
       fit_from v (is_cut less) root (is_member story) h.incidence e
       (λ ne. let P : Wiring → Type 0 = λ w. IsProduced w (is_member story) e in
       subst P (sym same) (t.is_story.caused e i ne))

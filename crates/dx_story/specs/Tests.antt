@@ -20,8 +20,8 @@ abbrev pub shows_at : IncidenceValue → (ℕ → ℕ → Bool) → NodeSet → 
 shows_at v cut X j = nat_le (slice_index v.n j)
     (count_by X (filter (λ e. not (cut j e)) (row_at v.effects j)))
 
-abbrev pub fits_at : IncidenceValue → (ℕ → ℕ → Bool) → ℕ → NodeSet → ℕ → Bool
-fits_at v cut root X e =
+abbrev pub is_fit_at : IncidenceValue → (ℕ → ℕ → Bool) → ℕ → NodeSet → ℕ → Bool
+is_fit_at v cut root X e =
     (e == root || list_any (gives_at v cut X e) (row_at v.gets e)) && list_all (shows_at v cut X)
     (row_at v.uses e)
 

@@ -8,7 +8,7 @@ ghost use Rattle.ev_incidence.specs.Table.{row_at};
 ghost use Rattle.ev_graph.specs.Wired.{wiring};
 ghost use Rattle.ev_graph.specs.Cutting.{AreLinks};
 ghost use Rattle.dx_story.specs.Story.{IsExactStory};
-ghost use Rattle.dx_story.specs.Tests.{gives_at, shows_at, fits_at, are_nodes, are_reports};
+ghost use Rattle.dx_story.specs.Tests.{gives_at, shows_at, is_fit_at, are_nodes, are_reports};
 ghost use Rattle.dx_story.specs.Tests.{has_one_root};
 
 use ev_graph::{
@@ -179,14 +179,14 @@ fn is_shown<C: CutTest>(table: &Incidence, cuts: &C, story: &[u32], node: u32) -
 
 fn fits<C: CutTest>(table: &Incidence, cuts: &C, root: u32, story: &[u32], node: u32) -> bool
     requires { ascends story.now ≡ true }
-    ensures { result ≡ fits_at table.now (C.is_cut cuts.now) root (is_member story.now) node }
+    ensures { result ≡ is_fit_at table.now (C.is_cut cuts.now) root (is_member story.now) node }
 {
     (node == root || is_given(table, cuts, story, node)) && is_shown(table, cuts, story, node)
 }
 
 fn all_fit<C: CutTest>(table: &Incidence, cuts: &C, root: u32, story: &[u32]) -> bool
     requires { ascends story.now ≡ true }
-    ensures { result ≡ list_all (fits_at table.now (C.is_cut cuts.now) root (is_member story.now))
+    ensures { result ≡ list_all (is_fit_at table.now (C.is_cut cuts.now) root (is_member story.now))
         story.now }
 {
     story

@@ -9,7 +9,7 @@ use Rattle.fm_core.specs.Meaning.{OpenCase}
 use Rattle.ev_graph.specs.Lawful.{GraphValue}
 use Rattle.dx_explain.specs.Cases.{waits, takes_report, case_joined, case_opened}
 use Rattle.dx_step.specs.Turns.{Turn, decide, settle}
-use Rattle.dx_step.specs.Reports.{open_case, join_case, join_or_open}
+use Rattle.dx_step.specs.Reports.{opens_case, join_case, join_or_open}
 use Rattle.dx_turn.specs.declared.ground.Ground.{Ground}
 use Rattle.dx_turn.specs.declared.joining.Incoming.{Incoming}
 use Rattle.dx_turn.specs.declared.told.Told.{Told}
@@ -73,7 +73,7 @@ module _ (d : Ground) (i : Incoming) (ground : IsGround d) where
   -- it opens a case
   opens : (xs : List OpenCase) (next : ℕ) (told : Told) → takes_any d i.node xs ≡ false
       → joined_by d i (turn_at d next xs told)
-      ≡ open_case (rules_on d) i.notes i.entry i.node i.links.now (turn_at d next xs told)
+      ≡ opens_case (rules_on d) i.notes i.entry i.node i.links.now (turn_at d next xs told)
   opens xs next told none =
       placed xs next told
       ∙ ap (λ (q : Option ℕ). by_place q (turn_at d next xs told))

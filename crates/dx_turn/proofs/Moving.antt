@@ -13,7 +13,7 @@ use Rattle.dx_turn.specs.declared.tracked.Tracked.{Tracked}
 use Rattle.dx_turn.specs.declared.told.Told.{Told}
 use Rattle.dx_turn.specs.Grounds.{IsGround}
 use Rattle.dx_turn.specs.Turning.{IsTold, left_of}
-use Rattle.dx_turn.specs.Tracking.{first_of, now_of, opens_of, IsCurrent, IsTrackedAt}
+use Rattle.dx_turn.specs.Tracking.{first_case, now_of, opens_of, IsCurrent, IsTrackedAt}
 use Rattle.dx_turn.specs.Settling.{IsWaiting, IsBeforeTurn, IsMoved, HasSettled}
 use Rattle.dx_turn.proofs.Tracking.{opens_one, opens_none}
 use Rattle.dx_turn.proofs.Settles.{settled_none, settled_left}
@@ -75,16 +75,16 @@ decided_current g time old = record {
 pub ready_now : (g : GraphValue) (time : ℕ) (t : Tracked) (c : Case) → IsBeforeTurn g time t
     → t.kept ≡ Some c → now_of t ≡ c ∷ []
 ready_now g time t c h is =
-    ap (λ (b : Bool). if b then [] else first_of t.changed t.kept) h.undecided
-    ∙ ap (λ (o : Option Case). first_of o t.kept) h.unchanged
-    ∙ ap (λ (o : Option Case). first_of None o) is
+    ap (λ (b : Bool). if b then [] else first_case t.changed t.kept) h.undecided
+    ∙ ap (λ (o : Option Case). first_case o t.kept) h.unchanged
+    ∙ ap (λ (o : Option Case). first_case None o) is
 
 pub ready_none : (g : GraphValue) (time : ℕ) (t : Tracked) → IsBeforeTurn g time t
     → t.kept ≡ None → now_of t ≡ []
 ready_none g time t h is =
-    ap (λ (b : Bool). if b then [] else first_of t.changed t.kept) h.undecided
-    ∙ ap (λ (o : Option Case). first_of o t.kept) h.unchanged
-    ∙ ap (λ (o : Option Case). first_of None o) is
+    ap (λ (b : Bool). if b then [] else first_case t.changed t.kept) h.undecided
+    ∙ ap (λ (o : Option Case). first_case o t.kept) h.unchanged
+    ∙ ap (λ (o : Option Case). first_case None o) is
 
 -- a case of which no window has ended waits
 pub stays_current : (g : GraphValue) (time : ℕ) (c k : Case) (b : Bool) → c ≡ k → IsWaiting g time k

@@ -30,7 +30,7 @@ use Rattle.dx_turn.specs.declared.work.Work.{Work}
 use Rattle.dx_turn.specs.Grounds.{rules_on, state_on}
 use Rattle.dx_turn.specs.Turning.{turn_at, solved_by, HasTurned}
 use Rattle.dx_turn.specs.Settling.{HasSettled}
-use Rattle.dx_turn.specs.Tracking.{now_of, opens_of, opens_in, cases_of, IsTrackedAt}
+use Rattle.dx_turn.specs.Tracking.{now_of, opens_of, opens_in, tracked_cases, IsTrackedAt}
 use Rattle.dx_turn.specs.Joining.{turn_of, IsWork, HasGone}
 use Rattle.dx_turn.specs.Reloading.{fresh_rates, with_reload, reloaded_to, HasEnded}
 use Rattle.dx_turn.proofs.Turned.{turned_then, turned_as}
@@ -79,28 +79,29 @@ decided_step d all ts at e a b c low same h k =
     ∙ sym (opens_more all at e low))
     (decided_more d (opens_in (take at all)) (opens_of (get_or ts at e)) a b c h k)
 
-cases_append : (xs ys : List Tracked) → cases_of (xs ++ ys) ≡ cases_of xs ++ cases_of ys
+cases_append : (xs ys : List Tracked)
+    → tracked_cases (xs ++ ys) ≡ tracked_cases xs ++ tracked_cases ys
 cases_append [] ys = refl
 cases_append (x ∷ xs) ys =
     ap (λ (cs : List Case). now_of x ++ cs) (cases_append xs ys)
-    ∙ sym (append_assoc (now_of x) (cases_of xs) (cases_of ys))
+    ∙ sym (append_assoc (now_of x) (tracked_cases xs) (tracked_cases ys))
 
 -- and none is open up to there
 pub none_step : (ts : List Tracked) (at : ℕ) (t : Tracked) → at < length ts
-    → cases_of (take at ts) ≡ [] → now_of t ≡ []
-    → cases_of (take (at + 1) (set ts at t)) ≡ []
+    → tracked_cases (take at ts) ≡ [] → now_of t ≡ []
+    → tracked_cases (take (at + 1) (set ts at t)) ≡ []
 none_step ts at t low h n =
-    ap cases_of (take_more_set ts at t low)
+    ap tracked_cases (take_more_set ts at t low)
     ∙ cases_append (take at ts) (t ∷ [])
     ∙ ap (λ (cs : List Case). cs ++ (now_of t ++ [])) h
     ∙ ap (λ (cs : List Case). cs ++ []) n
 
 -- what is open, of the cases as they are now
-pub opens_cases : (ts : List Tracked) → opens_in ts ≡ map open_of (cases_of ts)
+pub opens_cases : (ts : List Tracked) → opens_in ts ≡ map open_of (tracked_cases ts)
 opens_cases [] = refl
 opens_cases (t ∷ ts) =
     ap (λ (ks : List OpenCase). opens_of t ++ ks) (opens_cases ts)
-    ∙ sym (map-append open_of (now_of t) (cases_of ts))
+    ∙ sym (map-append open_of (now_of t) (tracked_cases ts))
 
 -- an engine inside its limits
 pub limited : (e : EngineSpec) → IsTrue (has_engine_limits e) → IsLimited e.n e.t
@@ -156,7 +157,7 @@ pub reload_done : (d : Ground) (x : Reloaded) (old new : Work)
     → is_above (rules_on d) (state_on d) x.conf ≡ true → new.next ≡ old.next
     → x.engines.items ≡ fresh_rates (configuration_at (rules_on d) x.conf).graph.engines
     → HasTurned d (decide_each (rules_on d) (opens_in old.cases.items)) old.told new.told
-    → cases_of new.cases.items ≡ []
+    → tracked_cases new.cases.items ≡ []
     → AreStartsOf (configuration_at (rules_on d) x.conf).graph new.starts
     → HasEnded d (reloaded_to d x.conf) (Some x) old new
 reload_done d x old new on next engines h none starts =

@@ -7,12 +7,12 @@ use Rattle.std.specs.List.{All, cons_option}
 use Rattle.dx_case.specs.declared.case.Case.{Case}
 use Rattle.dx_case.specs.Cases.{open_of}
 use Rattle.dx_turn.specs.declared.tracked.Tracked.{Tracked}
-use Rattle.dx_turn.specs.Tracking.{first_of, now_of, kept_of, opens_of, opens_in}
+use Rattle.dx_turn.specs.Tracking.{first_case, now_of, cases_before, opens_of, opens_in}
 
 -- there is a case now, or none
 now_by : (b : Bool) (o p : Option Case)
-    → ((if b then [] else first_of o p) ≡ [])
-    ⊎ ((c : Case) × ((if b then [] else first_of o p) ≡ c ∷ []))
+    → ((if b then [] else first_case o p) ≡ [])
+    ⊎ ((c : Case) × ((if b then [] else first_case o p) ≡ c ∷ []))
 now_by true o p = inl refl
 now_by false (Some c) p = inr (c, refl)
 now_by false None (Some c) = inr (c, refl)
@@ -30,9 +30,9 @@ opens_append (x ∷ xs) ys =
 
 -- a change of one leaves what was there before
 pub kept_set : (ts : List Tracked) (at : ℕ) (d t : Tracked) → at < length ts
-    → t.kept ≡ (get_or ts at d).kept → kept_of (set ts at t) ≡ kept_of ts
+    → t.kept ≡ (get_or ts at d).kept → cases_before (set ts at t) ≡ cases_before ts
 kept_set [] at d t low h = absurd (omega arith)
-kept_set (x ∷ xs) zero d t low h = ap (λ (o : Option Case). cons_option o (kept_of xs)) h
+kept_set (x ∷ xs) zero d t low h = ap (λ (o : Option Case). cons_option o (cases_before xs)) h
 kept_set (x ∷ xs) (suc at) d t low h =
     ap (λ (cs : List Case). cons_option x.kept cs) (kept_set xs at d t (omega arith) h)
 
@@ -72,7 +72,7 @@ opens_none t h = ap (map open_of) h
 
 -- cases that are tracked, with one more, or another in the place of one
 pub kept_push : (ts : List Tracked) (t : Tracked) → t.kept ≡ None
-    → kept_of (ts ++ t ∷ []) ≡ kept_of ts
+    → cases_before (ts ++ t ∷ []) ≡ cases_before ts
 kept_push [] t h = ap (λ (o : Option Case). cons_option o []) h
 kept_push (x ∷ xs) t h = ap (λ (cs : List Case). cons_option x.kept cs) (kept_push xs t h)
 

@@ -16,7 +16,7 @@ use Rattle.dx_turn.specs.declared.reloading.Reloaded.{Reloaded}
 use Rattle.dx_turn.specs.declared.tracked.Tracked.{Tracked}
 use Rattle.dx_turn.specs.declared.work.Work.{Work}
 use Rattle.dx_turn.specs.Grounds.{rules_on}
-use Rattle.dx_turn.specs.Tracking.{now_of, opens_of, cases_of}
+use Rattle.dx_turn.specs.Tracking.{now_of, opens_of, tracked_cases}
 use Rattle.dx_turn.specs.Joining.{turn_of, IsWork}
 
 -- the case, finished; none where the turn has decided it
@@ -51,7 +51,7 @@ turned_by d number e t =
 -- no case is open, the engines of a configuration have noted nothing, and what was found for nodes
 -- is right in its graph
 pub record IsReloaded (d : Ground) (x : Reloaded) (w : Work) : Type 0 where
-  pub none : cases_of w.cases.items ≡ []
+  pub none : tracked_cases w.cases.items ≡ []
   pub engines : x.engines.items ≡ fresh_rates (configuration_at (rules_on d) x.conf).graph.engines
   pub starts : AreStartsOf (configuration_at (rules_on d) x.conf).graph w.starts
 

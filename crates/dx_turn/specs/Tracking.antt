@@ -9,23 +9,23 @@ use Rattle.dx_case.specs.declared.case.Case.{Case}
 use Rattle.dx_case.specs.Cases.{open_of, time_of, waits_at, takes_at, IsCaseOf, IsBefore}
 use Rattle.dx_turn.specs.declared.tracked.Tracked.{Tracked}
 
-abbrev pub first_of : Option Case → Option Case → List Case
-first_of (Some c) o = c ∷ []
-first_of None o = cons_option o []
+abbrev pub first_case : Option Case → Option Case → List Case
+first_case (Some c) o = c ∷ []
+first_case None o = cons_option o []
 
 -- the case as it is now: none where it was decided
 abbrev pub now_of : Tracked → List Case
-now_of t = if t.decided then [] else first_of t.changed t.kept
+now_of t = if t.decided then [] else first_case t.changed t.kept
 
 -- the cases as they are now
-abbrev pub cases_of : List Tracked → List Case
-cases_of [] = []
-cases_of (t ∷ ts) = now_of t ++ cases_of ts
+abbrev pub tracked_cases : List Tracked → List Case
+tracked_cases [] = []
+tracked_cases (t ∷ ts) = now_of t ++ tracked_cases ts
 
 -- the cases as they were before the turn
-abbrev pub kept_of : List Tracked → List Case
-kept_of [] = []
-kept_of (t ∷ ts) = cons_option t.kept (kept_of ts)
+abbrev pub cases_before : List Tracked → List Case
+cases_before [] = []
+cases_before (t ∷ ts) = cons_option t.kept (cases_before ts)
 
 -- the same as open cases
 abbrev pub opens_of : Tracked → List OpenCase

@@ -10,7 +10,7 @@ ghost use Rattle.dx_step.specs.Repairs.{mark};
 ghost use Rattle.dx_step.specs.Step.{act};
 ghost use Rattle.dx_turn.specs.Grounds.{IsGround, rules_on, own_of};
 ghost use Rattle.dx_turn.specs.Turning.{solved_by};
-ghost use Rattle.dx_turn.specs.Tracking.{kept_of};
+ghost use Rattle.dx_turn.specs.Tracking.{cases_before};
 ghost use Rattle.dx_turn.specs.Joining.{IsWork, HasGone};
 ghost use Rattle.dx_turn.specs.Finding.{reported_by, unknown_by};
 
@@ -37,7 +37,7 @@ fn join_known(
     requires ground { IsGround ground.now }
     requires work { IsWork ground.now work.old }
     requires report { is_report_node ground.now.graph.now.nodes node ≡ true }
-    ensures kept { kept_of work.new.cases.items ≡ kept_of work.old.cases.items }
+    ensures kept { cases_before work.new.cases.items ≡ cases_before work.old.cases.items }
     ensures ok { OnOk result (HasGone ground.now
         (join (rules_on ground.now) true entry node payload.now) work.old work.new) }
     ensures starts { AreStartsOf ground.now.graph.now work.new.starts }
@@ -57,7 +57,7 @@ fn join_known(
 /// A report of an event that the graph does not have opens a case that nothing explains.
 fn open_unknown(ground: &Ground<'_>, work: &mut Work, name: EventName) -> Result<(), NoMemory>
     requires work { IsWork ground.now work.old }
-    ensures kept { kept_of work.new.cases.items ≡ kept_of work.old.cases.items }
+    ensures kept { cases_before work.new.cases.items ≡ cases_before work.old.cases.items }
     ensures ok { OnOk result
         (HasGone ground.now (open_unknown (own_of ground.now) name) work.old work.new) }
     ensures starts { AreStartsOf ground.now.graph.now work.new.starts }
@@ -75,7 +75,7 @@ fn open_unknown(ground: &Ground<'_>, work: &mut Work, name: EventName) -> Result
 fn join_unknown(ground: &Ground<'_>, work: &mut Work, name: EventName) -> Result<(), NoMemory>
     requires ground { IsGround ground.now }
     requires work { IsWork ground.now work.old }
-    ensures kept { kept_of work.new.cases.items ≡ kept_of work.old.cases.items }
+    ensures kept { cases_before work.new.cases.items ≡ cases_before work.old.cases.items }
     ensures ok { OnOk result (HasGone ground.now (unknown_by ground.now name) work.old work.new) }
     ensures starts { AreStartsOf ground.now.graph.now work.new.starts }
 {
@@ -96,7 +96,7 @@ fn report(
 ) -> Result<(), NoMemory>
     requires ground { IsGround ground.now }
     requires work { IsWork ground.now work.old }
-    ensures kept { kept_of work.new.cases.items ≡ kept_of work.old.cases.items }
+    ensures kept { cases_before work.new.cases.items ≡ cases_before work.old.cases.items }
     ensures ok { OnOk result
         (HasGone ground.now (reported_by ground.now entry name payload.now) work.old work.new) }
     ensures starts { AreStartsOf ground.now.graph.now work.new.starts }
@@ -125,7 +125,7 @@ fn repair<C: Choice>(
 ) -> Result<(), NoMemory>
     requires work { IsWork ground.now work.old }
     requires ascend { IsTrue (ascends (solved_numbers (solved_by ground.now work.old.told))) }
-    ensures kept { kept_of work.new.cases.items ≡ kept_of work.old.cases.items }
+    ensures kept { cases_before work.new.cases.items ≡ cases_before work.old.cases.items }
     ensures ok { OnOk result
         (HasGone ground.now (mark (C.chosen choice.now) with) work.old work.new) }
     ensures starts { AreStartsOf ground.now.graph.now work.new.starts }
@@ -138,7 +138,7 @@ pub fn act(ground: &Ground<'_>, work: &mut Work, number: u64, entry: &Entry) -> 
     requires ground { IsGround ground.now }
     requires work { IsWork ground.now work.old }
     requires ascend { IsTrue (ascends (solved_numbers (solved_by ground.now work.old.told))) }
-    ensures kept { kept_of work.new.cases.items ≡ kept_of work.old.cases.items }
+    ensures kept { cases_before work.new.cases.items ≡ cases_before work.old.cases.items }
     ensures ok { OnOk result
         (HasGone ground.now (act (rules_on ground.now) number entry.now) work.old work.new) }
     ensures starts { AreStartsOf ground.now.graph.now work.new.starts }

@@ -2,7 +2,7 @@
 
 ghost use Rattle.std.specs.Prelude.{◌≡◌, map};
 ghost use Rattle.std.specs.List.{filter, list_all};
-ghost use Rattle.dx_turn.specs.Tracking.{cases_of, kept_of};
+ghost use Rattle.dx_turn.specs.Tracking.{tracked_cases, cases_before};
 ghost use Rattle.dx_turn.specs.Standing.{after_turn, before_turn, has_kept, is_still, still_of};
 
 use crate::tracked::Tracked;
@@ -41,7 +41,7 @@ fn are_still(cases: &[Tracked]) -> bool
 
 /// The turn is over: the open cases are from now on those that it has left. It takes no memory.
 pub fn end_turn(cases: &mut Vec<Tracked>)
-    ensures { cases.new.items ≡ map still_of (cases_of cases.old.items) }
+    ensures { cases.new.items ≡ map still_of (tracked_cases cases.old.items) }
 {
     if are_still(cases.as_slice()) {
         return;
@@ -52,7 +52,7 @@ pub fn end_turn(cases: &mut Vec<Tracked>)
 
 /// The turn is undone: the open cases are again those from before it. It takes no memory.
 pub fn undo_turn(cases: &mut Vec<Tracked>)
-    ensures { cases.new.items ≡ map still_of (kept_of cases.old.items) }
+    ensures { cases.new.items ≡ map still_of (cases_before cases.old.items) }
 {
     undo_each(cases);
     drop_blank(cases);

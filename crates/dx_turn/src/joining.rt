@@ -9,7 +9,7 @@ ghost use Rattle.dx_case.specs.Cases.{open_of, time_of, IsCaseOf};
 ghost use Rattle.dx_case.specs.Starts.{AreStartsOf};
 ghost use Rattle.dx_step.specs.Reports.{join_each, trips};
 ghost use Rattle.dx_turn.specs.Grounds.{IsGround, rules_on};
-ghost use Rattle.dx_turn.specs.Tracking.{opens_of, kept_of, IsTrackedAt};
+ghost use Rattle.dx_turn.specs.Tracking.{opens_of, cases_before, IsTrackedAt};
 ghost use Rattle.dx_turn.specs.Joining.{IsFoundPlace, IsFirstPlace, takes_any, IsWork};
 ghost use Rattle.dx_turn.specs.Joining.{joined_by, HasGone};
 
@@ -70,7 +70,7 @@ fn join_at(
     requires ground { IsGround ground.now }
     requires work { IsWork ground.now work.old }
     requires place { IsFirstPlace ground.now incoming.now.node work.old.cases.items at }
-    ensures kept { kept_of work.new.cases.items ≡ kept_of work.old.cases.items }
+    ensures kept { cases_before work.new.cases.items ≡ cases_before work.old.cases.items }
     ensures ok { OnOk result
         (HasGone ground.now (joined_by ground.now incoming.now) work.old work.new) }
     ensures starts { AreStartsOf ground.now.graph.now work.new.starts }
@@ -92,7 +92,7 @@ fn open_new(ground: &Ground<'_>, work: &mut Work, incoming: &Incoming<'_>) -> Re
     requires work { IsWork ground.now work.old }
     requires report { is_report_node ground.now.graph.now.nodes incoming.now.node ≡ true }
     requires place { IsFoundPlace ground.now incoming.now.node work.old.cases.items None }
-    ensures kept { kept_of work.new.cases.items ≡ kept_of work.old.cases.items }
+    ensures kept { cases_before work.new.cases.items ≡ cases_before work.old.cases.items }
     ensures ok { OnOk result
         (HasGone ground.now (joined_by ground.now incoming.now) work.old work.new) }
     ensures starts { AreStartsOf ground.now.graph.now work.new.starts }
@@ -120,7 +120,7 @@ pub fn join(ground: &Ground<'_>, work: &mut Work, incoming: &Incoming<'_>) -> Re
     requires ground { IsGround ground.now }
     requires work { IsWork ground.now work.old }
     requires report { is_report_node ground.now.graph.now.nodes incoming.now.node ≡ true }
-    ensures kept { kept_of work.new.cases.items ≡ kept_of work.old.cases.items }
+    ensures kept { cases_before work.new.cases.items ≡ cases_before work.old.cases.items }
     ensures ok { OnOk result
         (HasGone ground.now (joined_by ground.now incoming.now) work.old work.new) }
     ensures starts { AreStartsOf ground.now.graph.now work.new.starts }
@@ -136,7 +136,7 @@ fn join_trip(ground: &Ground<'_>, work: &mut Work, entry: u64, node: u32) -> Res
     requires ground { IsGround ground.now }
     requires work { IsWork ground.now work.old }
     requires report { is_report_node ground.now.graph.now.nodes node ≡ true }
-    ensures kept { kept_of work.new.cases.items ≡ kept_of work.old.cases.items }
+    ensures kept { cases_before work.new.cases.items ≡ cases_before work.old.cases.items }
     ensures ok { OnOk result
         (HasGone ground.now (join_each (rules_on ground.now) entry (node ∷ [])) work.old work.new) }
     ensures starts { AreStartsOf ground.now.graph.now work.new.starts }
@@ -163,7 +163,7 @@ fn join_trips(
     requires ground { IsGround ground.now }
     requires work { IsWork ground.now work.old }
     requires reports { IsTrue (list_all (is_report_node ground.now.graph.now.nodes) nodes.now) }
-    ensures kept { kept_of work.new.cases.items ≡ kept_of work.old.cases.items }
+    ensures kept { cases_before work.new.cases.items ≡ cases_before work.old.cases.items }
     ensures ok { OnOk result
         (HasGone ground.now (join_each (rules_on ground.now) entry nodes.now) work.old work.new) }
     ensures starts { AreStartsOf ground.now.graph.now work.new.starts }
@@ -178,7 +178,7 @@ fn join_trips(
 pub fn trips(ground: &Ground<'_>, work: &mut Work, entry: u64) -> Result<(), NoMemory>
     requires ground { IsGround ground.now }
     requires work { IsWork ground.now work.old }
-    ensures kept { kept_of work.new.cases.items ≡ kept_of work.old.cases.items }
+    ensures kept { cases_before work.new.cases.items ≡ cases_before work.old.cases.items }
     ensures ok { OnOk result
         (HasGone ground.now (trips (rules_on ground.now) entry) work.old work.new) }
     ensures starts { AreStartsOf ground.now.graph.now work.new.starts }

@@ -9,7 +9,7 @@ ghost use Rattle.dx_step.specs.Turns.{decide_each};
 ghost use Rattle.dx_step.specs.Step.{is_above, reload};
 ghost use Rattle.dx_turn.specs.Grounds.{IsGround, rules_on, state_on};
 ghost use Rattle.dx_turn.specs.Turning.{IsTold, HasTurned};
-ghost use Rattle.dx_turn.specs.Tracking.{now_of, opens_of, opens_in, cases_of, kept_of};
+ghost use Rattle.dx_turn.specs.Tracking.{now_of, opens_of, opens_in, tracked_cases, cases_before};
 ghost use Rattle.dx_turn.specs.Tracking.{IsTrackedAt};
 ghost use Rattle.dx_turn.specs.Joining.{IsWork};
 ghost use Rattle.dx_turn.specs.Reloading.{IsFinished, fresh_rates, reloaded_to, HasEnded};
@@ -78,10 +78,10 @@ fn decide_all(
     requires ground { IsGround ground.now }
     requires told { IsTold ground.now told.old }
     requires current { All (IsTrackedAt ground.now.graph.now ground.now.time) cases.old.items }
-    ensures kept { kept_of cases.new.items ≡ kept_of cases.old.items }
+    ensures kept { cases_before cases.new.items ≡ cases_before cases.old.items }
     ensures ok { OnOk result (HasTurned ground.now
         (decide_each (rules_on ground.now) (opens_in cases.old.items)) told.old told.new) }
-    ensures none { OnOk result (cases_of cases.new.items ≡ []) }
+    ensures none { OnOk result (tracked_cases cases.new.items ≡ []) }
 {
     for at in 0..cases.len() {
         decide_tracked(ground, told, &mut cases[at])?;
@@ -127,7 +127,7 @@ fn is_above(ground: &Ground<'_>, conf: u32) -> bool
 fn reload_to(ground: &Ground<'_>, work: &mut Work, conf: u32) -> Result<Option<Reloaded>, NoMemory>
     requires ground { IsGround ground.now }
     requires work { IsWork ground.now work.old }
-    ensures kept { kept_of work.new.cases.items ≡ kept_of work.old.cases.items }
+    ensures kept { cases_before work.new.cases.items ≡ cases_before work.old.cases.items }
     ensures ok { IfOk result
         (λ x. HasEnded ground.now (reloaded_to ground.now conf) x work.old work.new) }
     ensures starts { AreStartsOf ground.now.graph.now work.new.starts }
@@ -151,7 +151,7 @@ pub fn reload(
 ) -> Result<Option<Reloaded>, NoMemory>
     requires ground { IsGround ground.now }
     requires work { IsWork ground.now work.old }
-    ensures kept { kept_of work.new.cases.items ≡ kept_of work.old.cases.items }
+    ensures kept { cases_before work.new.cases.items ≡ cases_before work.old.cases.items }
     ensures ok { IfOk result
         (λ x. HasEnded ground.now (reload (rules_on ground.now) entry.now) x work.old work.new) }
     ensures starts { AreStartsOf ground.now.graph.now work.new.starts }

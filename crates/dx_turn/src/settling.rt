@@ -5,7 +5,7 @@ ghost use Rattle.std.specs.List.{All};
 ghost use Rattle.dx_case.specs.Cases.{open_of, time_of, IsCaseOf};
 ghost use Rattle.dx_turn.specs.Grounds.{IsGround};
 ghost use Rattle.dx_turn.specs.Turning.{IsTold, HasTurned, decided_or_left, left_of};
-ghost use Rattle.dx_turn.specs.Tracking.{opens_of, opens_in, kept_of, IsTrackedAt};
+ghost use Rattle.dx_turn.specs.Tracking.{opens_of, opens_in, cases_before, IsTrackedAt};
 ghost use Rattle.dx_turn.specs.Settling.{IsBeforeTurn, IsMoved, HasSettled};
 
 use crate::deciding::decide;
@@ -90,7 +90,7 @@ pub fn settle_all(
     requires ground { IsGround ground.now }
     requires told { IsTold ground.now told.old }
     requires ready { All (IsBeforeTurn ground.now.graph.now ground.now.time) cases.old.items }
-    ensures kept { kept_of cases.new.items ≡ kept_of cases.old.items }
+    ensures kept { cases_before cases.new.items ≡ cases_before cases.old.items }
     ensures ok { OnOk result (HasSettled ground.now (opens_in cases.old.items)
         (opens_in cases.new.items) told.old told.new) }
     ensures current { OnOk result

@@ -8,7 +8,7 @@ ghost use Rattle.dx_state.specs.LawfulState.{solved_numbers};
 ghost use Rattle.dx_step.specs.Turns.{settle_all};
 ghost use Rattle.dx_turn.specs.Grounds.{IsGround, rules_on};
 ghost use Rattle.dx_turn.specs.Turning.{IsTold};
-ghost use Rattle.dx_turn.specs.Tracking.{kept_of};
+ghost use Rattle.dx_turn.specs.Tracking.{cases_before};
 ghost use Rattle.dx_turn.specs.Settling.{IsBeforeTurn};
 ghost use Rattle.dx_turn.specs.Joining.{turn_of, IsWork, HasGone};
 ghost use Rattle.dx_turn.specs.Reloading.{turned_by, HasEnded};
@@ -28,7 +28,7 @@ fn settle_work(ground: &Ground<'_>, work: &mut Work) -> Result<(), NoMemory>
     requires told { IsTold ground.now work.old.told }
     requires starts { AreStartsOf ground.now.graph.now work.old.starts }
     requires ready { All (IsBeforeTurn ground.now.graph.now ground.now.time) work.old.cases.items }
-    ensures kept { kept_of work.new.cases.items ≡ kept_of work.old.cases.items }
+    ensures kept { cases_before work.new.cases.items ≡ cases_before work.old.cases.items }
     ensures ok { OnOk result
         (HasGone ground.now (settle_all (rules_on ground.now)) work.old work.new) }
     ensures starts { AreStartsOf ground.now.graph.now work.new.starts }
@@ -51,7 +51,7 @@ pub fn turn(
     requires ready { All (IsBeforeTurn ground.now.graph.now ground.now.time) work.old.cases.items }
     requires ascend { IsTrue (ascends (solved_numbers
         (settle_all (rules_on ground.now) (turn_of ground.now work.old)).state.solved)) }
-    ensures kept { kept_of work.new.cases.items ≡ kept_of work.old.cases.items }
+    ensures kept { cases_before work.new.cases.items ≡ cases_before work.old.cases.items }
     ensures ok { IfOk result
         (λ x. HasEnded ground.now (turned_by ground.now number entry.now) x work.old work.new) }
     ensures starts { AreStartsOf ground.now.graph.now work.new.starts }

@@ -20,7 +20,7 @@ use Rattle.ev_graph.specs.declared.nodes.Node.{Node}
 use Rattle.ev_graph.specs.declared.nodes.EngineSpec.{EngineSpec}
 use Rattle.ev_events.proofs.Places.{none_is_not, there_is, within_is, get_map, map_there}
 use Rattle.ev_events.proofs.Joining.{map_push}
-use Rattle.ev_events.specs.Placed.{ArePlaced, IsAmongNames, IsAt, is_before_name}
+use Rattle.ev_events.specs.Placed.{ArePlaced, IsAmongNames, IsDeclaredAt, is_before_name}
 use Rattle.ev_events.specs.Nodes.{AreEngines, AreEnginesAt, AreEnginesThere, AreNodes, AreNodesAt}
 use Rattle.ev_events.specs.Nodes.{AreNodesThere, ArePlacedEvents, HasEngine}
 use Rattle.ev_events.specs.Nodes.{IsEngineFor, IsEngineOf, IsNodeAt, IsNodeOf}
@@ -51,7 +51,8 @@ module _ (f : CheckedFile) (topology : Topology) (whole : IsWholeFile f)
     (serds : List ℕ) (placed : ArePlaced topology (file_events f) names numbers)
     (others : ArePlaced topology (file_engines f) engines serds) where
   -- an engine with the names of an event is where the event is
-  engine_there : (d : Declared) (name : EventName) → IsAt topology d name → (n : ℕ) (s : SerdSpec)
+  engine_there : (d : Declared) (name : EventName) → IsDeclaredAt topology d name
+      → (n : ℕ) (s : SerdSpec)
       → slice_get f.engines n ≡ Some s → s.engine.names ≡ d.names
       → IsAmongNames engines (record { class = s.engine.class; path = name.path })
   engine_there d name at n s stands same =
@@ -66,7 +67,7 @@ module _ (f : CheckedFile) (topology : Topology) (whole : IsWholeFile f)
         };
       })
 
-  has_engine : (d : Declared) (name : EventName) → IsAt topology d name → (kind : DeclKind)
+  has_engine : (d : Declared) (name : EventName) → IsDeclaredAt topology d name → (kind : DeclKind)
       → ((n : ℕ) → kind ≡ kinds.Upset (Some n)
       → (s : SerdSpec) × (slice_get f.engines n ≡ Some s) × (s.engine.names ≡ d.names))
       → HasEngine f.engines engines name.path kind
@@ -84,7 +85,7 @@ module _ (f : CheckedFile) (topology : Topology) (whole : IsWholeFile f)
     each = λ i k name s t.
         let p = placed.each i k name s t in
         let e = get_map spec_event f.events k p.declared p.stands in
-        let at = subst (λ (d : Declared). IsAt topology d name) (sym e.2) p.at in
+        let at = subst (λ (d : Declared). IsDeclaredAt topology d name) (sym e.2) p.at in
         record {
           spec = e.0;
           declared = e.1;
@@ -93,7 +94,8 @@ module _ (f : CheckedFile) (topology : Topology) (whole : IsWholeFile f)
   }
 
   -- an event with the names of an engine is where the engine is
-  event_there : (d : Declared) (name : EventName) → IsAt topology d name → (n : ℕ) (e : EventSpec)
+  event_there : (d : Declared) (name : EventName) → IsDeclaredAt topology d name
+      → (n : ℕ) (e : EventSpec)
       → slice_get f.events n ≡ Some e → e.event.names ≡ d.names
       → IsAmongNames names (record { class = e.event.class; path = name.path })
   event_there d name at n e stands same =
@@ -114,7 +116,7 @@ module _ (f : CheckedFile) (topology : Topology) (whole : IsWholeFile f)
     each = λ i k name s t.
         let p = others.each i k name s t in
         let e = get_map spec_engine f.engines k p.declared p.stands in
-        let at = subst (λ (d : Declared). IsAt topology d name) (sym e.2) p.at in
+        let at = subst (λ (d : Declared). IsDeclaredAt topology d name) (sym e.2) p.at in
         let w = whole.engines k e.0 e.1 in
         record {
           spec = e.0;
@@ -154,7 +156,7 @@ module _ (f : CheckedFile) (topology : Topology) (whole : IsWholeFile f)
           number = number.0;
           spec = n.spec;
           declared = n.declared;
-          at = subst (λ (d : Declared). IsAt topology d node.name) (sym same) p.at;
+          at = subst (λ (d : Declared). IsDeclaredAt topology d node.name) (sym same) p.at;
           kind = n.kind;
         }
 
@@ -175,7 +177,7 @@ module _ (f : CheckedFile) (topology : Topology) (whole : IsWholeFile f)
         record {
           number = number.0;
           is = n;
-          at = subst (λ (d : Declared). IsAt topology d engine.name) (sym same) p.at;
+          at = subst (λ (d : Declared). IsDeclaredAt topology d engine.name) (sym same) p.at;
         }
 
     pub are_nodes : AreNodes f topology es ns

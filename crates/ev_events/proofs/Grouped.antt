@@ -15,7 +15,7 @@ use Rattle.std.proofs.lemmas.List.Sums.{length-filter, sum_by-cons}
 use Rattle.fm_bytes.proofs.Booleans.{and_parts}
 use Rattle.fm_name.specs.Path.{PathPart, parts_of, names_of, instances_of}
 use Rattle.fm_topo.specs.Topology.{Topology}
-use Rattle.fm_topo.specs.Groups.{names_text, places_of, group_of}
+use Rattle.fm_topo.specs.Groups.{names_text, text_places, group_of}
 use Rattle.ev_tree.specs.declared.tree.Part.{Part}
 use Rattle.ev_check.specs.Declarations.{name_of}
 use Rattle.ev_words.specs.Iterators.{same_name}
@@ -25,7 +25,7 @@ use Rattle.ev_join.specs.declared.table.Row.{Row}
 use Rattle.ev_events.specs.Names.{Knows}
 use Rattle.ev_events.specs.Fits.{has_names, fits, fit_instances, places_with, fitting}
 use Rattle.ev_events.specs.Slots.{slots_of, keep_all, columns_of, values_at}
-use Rattle.ev_events.specs.Sheets.{row_if, row_at, IsTableOf}
+use Rattle.ev_events.specs.Sheets.{row_if, path_row, IsTableOf}
 use Rattle.ev_events.proofs.Columns.{number_in}
 use Rattle.ev_events.proofs.Agreeing.{names_same, fits_as}
 
@@ -120,7 +120,7 @@ module _ (topology : Topology) (vs : List (List ℕ)) (parts : List Part) (known
   agrees r = is_begun (placing r.values (bound_values (map number_in (columns_of vs parts)) b))
 
   abbrev row : ℕ → Option Row
-  row at = row_at topology (slots_of parts) (columns_of vs parts) parts at
+  row at = path_row topology (slots_of parts) (columns_of vs parts) parts at
 
   abbrev numbers : List Row → List ℕ
   numbers rows = map (λ (r : Row). r.path) (filter agrees rows)
@@ -194,7 +194,7 @@ module _ (topology : Topology) (vs : List (List ℕ)) (parts : List Part) (known
 
   grouped : (more : Topology) (at : ℕ)
       → ((i : ℕ) → slice_get (keys_of topology) (at + i) ≡ slice_get (keys_of more) i)
-      → numbers (filter_map row (places_of text at (map (λ place. names_text place.0) more)))
+      → numbers (filter_map row (text_places text at (map (λ place. names_text place.0) more)))
       ≡ places_with (fits vs b parts) at more
   grouped [] at h = refl
   grouped (place ∷ more) at h =
@@ -214,7 +214,7 @@ module _ (topology : Topology) (vs : List (List ℕ)) (parts : List Part) (known
             else places_with (fits vs b parts) (suc at) more) (other_text place.0 not_so))
       ] where
         later : List ℕ
-        later = places_of text (suc at) (map (λ p. names_text p.0) more)
+        later = text_places text (suc at) (map (λ p. names_text p.0) more)
 
   pub all_grouped : numbers (filter_map row (group_of text topology))
       ≡ fitting topology vs b parts
@@ -248,7 +248,7 @@ pub table_is : (topology : Topology) (vs : List (List ℕ)) (parts : List Part) 
     (t : TableValue) (rows : List Row) → Knows vs parts
     → text ≡ join_by (λ name. name) (codes "/") (map name_of parts)
     → t.columns ≡ map number_in (columns_of vs parts)
-    → rows ≡ filter_map (row_at topology (slots_of parts) (columns_of vs parts) parts)
+    → rows ≡ filter_map (path_row topology (slots_of parts) (columns_of vs parts) parts)
     (group_of text topology)
     → IsPermutation rows t.rows → IsTableOf topology vs parts t
 table_is topology vs parts text t rows known joined columns made moved =

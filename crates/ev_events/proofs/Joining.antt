@@ -14,7 +14,7 @@ use Rattle.ev_tree.specs.declared.tree.SidePattern.{SidePattern}
 use Rattle.ev_check.specs.CheckedFile.{Linking}
 use Rattle.ev_join.specs.Order.{IsNotBefore, is_begun, placing}
 use Rattle.ev_join.specs.Tables.{TableValue, HasRow, bound_values, rows_at}
-use Rattle.ev_join.specs.Candidates.{IsCandidate, AreCandidates, AreAllCandidates}
+use Rattle.ev_join.specs.Candidates.{IsJoined, AreJoined, AreAllCandidates}
 use Rattle.ev_join.specs.Candidates.{links_at}
 use Rattle.ev_join.specs.declared.table.Row.{Row}
 use Rattle.ev_join.proofs.Placings.{begun}
@@ -143,7 +143,7 @@ sums_same f g (b ∷ bs) h =
 
 module _ (topology : Topology) (l : Linking) (ts : List TableValue)
     (tables : AreTablesOf topology (iterators l) (patterns_of l) ts) where
-  binding_from : (b : List ℕ) → IsCandidate ts (length (iterators l)) b → IsBinding topology l b
+  binding_from : (b : List ℕ) → IsJoined ts (length (iterators l)) b → IsBinding topology l b
   binding_from b h = record {
     full = h.full;
     small = h.small;
@@ -153,7 +153,7 @@ module _ (topology : Topology) (l : Linking) (ts : List TableValue)
         subst (λ (n : ℕ). 0 < n) (t.2.count b h.full) (rows_there t.0 b row);
   }
 
-  candidate_from : (b : List ℕ) → IsBinding topology l b → IsCandidate ts (length (iterators l)) b
+  candidate_from : (b : List ℕ) → IsBinding topology l b → IsJoined ts (length (iterators l)) b
   candidate_from b h = record {
     full = h.full;
     small = h.small;
@@ -165,7 +165,7 @@ module _ (topology : Topology) (l : Linking) (ts : List TableValue)
     };
   }
 
-  pub bindings_from : (bs : List (List ℕ)) → AreCandidates ts (length (iterators l)) bs
+  pub bindings_from : (bs : List (List ℕ)) → AreJoined ts (length (iterators l)) bs
       → AreBindings topology l bs
   bindings_from bs h = record {
     each = λ i b at. binding_from b (h.each i b at);
@@ -179,7 +179,7 @@ module _ (topology : Topology) (l : Linking) (ts : List TableValue)
     all = λ b k. h.all b (candidate_from b k);
   }
 
-  pub sum_from : (bs : List (List ℕ)) → AreCandidates ts (length (iterators l)) bs
+  pub sum_from : (bs : List (List ℕ)) → AreJoined ts (length (iterators l)) bs
       → sum_by (links_at ts) bs ≡ sum_by (candidate_links topology l) bs
   sum_from bs h =
       sums_same (links_at ts) (candidate_links topology l) bs
@@ -281,21 +281,21 @@ module _ (topology : Topology) (l : Linking) (ts : List TableValue) (count limit
         omega (arith, zero_links, is.1)
     | inr less ↦
         let same = sum_from topology l ts tables bs
-        (subst (λ (n : ℕ). AreCandidates ts n bs) counted (some less).candidates) in
+        (subst (λ (n : ℕ). AreJoined ts n bs) counted (some less).candidates) in
         let all = sum less in
         omega (arith, same, all)
   ]
 
   pub answer_many : (P : Type 0) → (ts ≡ [] → P → ⊥)
       → (0 < length ts → P → (bs : List (List ℕ))
-      × (AreCandidates ts count bs × (limit < sum_by (links_at ts) bs)))
+      × (AreJoined ts count bs × (limit < sum_by (links_at ts) bs)))
       → P → (bs : List (List ℕ))
       × (AreBindings topology l bs × (limit < sum_by (candidate_links topology l) bs))
   answer_many P none some p = elim some_or_none [
     | inl empty ↦ absurd (none empty p)
     | inr less ↦
         let found = some less p in
-        let candidates = subst (λ (n : ℕ). AreCandidates ts n found.0) counted found.1.0 in
+        let candidates = subst (λ (n : ℕ). AreJoined ts n found.0) counted found.1.0 in
         let same = sum_from topology l ts tables found.0 candidates in (
           found.0,
           (

@@ -24,14 +24,14 @@ use Rattle.fm_name.specs.Path.{names_of}
 use Rattle.fm_name.specs.Events.{event_cmp, event_cmp_total, event_tie}
 use Rattle.fm_name.specs.declared.events.EventName.{EventName}
 use Rattle.fm_topo.specs.Topology.{Topology}
-use Rattle.fm_topo.specs.Groups.{names_text, places_of, group_of}
+use Rattle.fm_topo.specs.Groups.{names_text, text_places, group_of}
 use Rattle.ev_tree.specs.declared.tree.Declared.{Declared}
 use Rattle.ev_incidence.specs.Sets.{ascends_by}
 use Rattle.ev_words.specs.Iterators.{same_name}
 use Rattle.ev_events.proofs.Places.{none_is_not, any_found, within_is, get_map, map_there}
 use Rattle.ev_events.proofs.Agreeing.{same_from}
 use Rattle.ev_events.proofs.Grouped.{names_all, text_of_names}
-use Rattle.ev_events.specs.Placed.{AreKept, AreMore, ArePlaced, IsAt, IsPlaced}
+use Rattle.ev_events.specs.Placed.{AreKept, AreMore, ArePlaced, IsDeclaredAt, IsDeclaredName}
 use Rattle.ev_events.specs.Placed.{event_at, is_before_name, is_name_at, is_that_name, names_joined}
 use Rattle.ev_events.specs.Placed.{number_of_name}
 
@@ -92,14 +92,14 @@ put_more topology d number ats i at first mid last name less is named before ste
 -- ---- a declared one is at just the paths of its group
 at_from : (topology : Topology) (d : Declared) (q : EventName) (at : ℕ) (o : Option (List ℕ))
     → slice_get (keys_of topology) at ≡ o → is_that_name (event_at d o) q ≡ true
-    → IsAt topology d q
+    → IsDeclaredAt topology d q
 at_from topology d q at None e h = absurd (false≢true h)
 at_from topology d q at (Some path) e h =
     elim (cases_Bool (pointwise same_name (names_of path) d.names)) [
       | inl so ↦
           let tied = eq_is (event_cmp (record { class = d.class; path = path }) q) (rw so at h) in
           let is = event_tie (record { class = d.class; path = path }) q tied in
-          subst (IsAt topology d) is (record {
+          subst (IsDeclaredAt topology d) is (record {
             class = refl;
             number = at;
             there = e;
@@ -109,7 +109,7 @@ at_from topology d q at (Some path) e h =
     ]
 
 pub name_is_at : (topology : Topology) (d : Declared) (ats : List ℕ) (q : EventName)
-    → is_name_at topology d ats q ≡ true → IsAt topology d q
+    → is_name_at topology d ats q ≡ true → IsDeclaredAt topology d q
 name_is_at topology d ats q h =
     let test = λ (n : ℕ). is_that_name (event_at d (slice_get (keys_of topology) n)) q in
     let found = any_found test ats h in
@@ -118,7 +118,7 @@ name_is_at topology d ats q h =
 -- a number at which a text stands is among its places
 in_places : (test : ℕ → Bool) (text : List ℕ) (more : Topology) (at i : ℕ) (path : List ℕ)
     → slice_get (keys_of more) i ≡ Some path → names_text path ≡ text → test (at + i) ≡ true
-    → list_any test (places_of text at (map (λ place. names_text place.0) more)) ≡ true
+    → list_any test (text_places text at (map (λ place. names_text place.0) more)) ≡ true
 in_places test text [] at i path s t h = none_is_not path s
 in_places test text (place ∷ more) at zero path s t h =
     let here : bytes_eq (names_text place.0) text ≡ true =
@@ -126,7 +126,7 @@ in_places test text (place ∷ more) at zero path s t h =
     (ap names_text (same_Some place.0 path s) ∙ t) in
     let same : at + 0 ≡ at = omega arith in
     rw here (ap (λ (b : Bool).
-    b || list_any test (places_of text (suc at) (map (λ p. names_text p.0) more)))
+    b || list_any test (text_places text (suc at) (map (λ p. names_text p.0) more)))
     (ap test (sym same) ∙ h))
 in_places test text (place ∷ more) at (suc i) path s t h =
     let same : at + suc i ≡ suc at + i = omega arith in
@@ -136,7 +136,7 @@ in_places test text (place ∷ more) at (suc i) path s t h =
       | inr not_so ↦ rw not_so later
     ]
 
-pub at_is_name : (topology : Topology) (d : Declared) (q : EventName) → IsAt topology d q
+pub at_is_name : (topology : Topology) (d : Declared) (q : EventName) → IsDeclaredAt topology d q
     → is_name_at topology d (group_of (names_joined d.names) topology) q ≡ true
 at_is_name topology d q h =
     let test = λ (n : ℕ). is_that_name (event_at d (slice_get (keys_of topology) n)) q in
@@ -195,12 +195,12 @@ module _ (topology : Topology) (ds : List Declared) where
         each = λ name k h. elim (cases_Bool (here name)) [
           | inl so ↦
               let is : i ≡ k = same_Some i k (sym (step name ∙ rw so refl) ∙ h) in
-              let placed : IsPlaced topology ds i name = record {
+              let placed : IsDeclaredName topology ds i name = record {
                 declared = d;
                 stands = stands;
                 at = name_is_at topology d (group_of (names_joined d.names) topology) name so;
               } in
-              subst (λ (n : ℕ). IsPlaced topology ds n name) is placed
+              subst (λ (n : ℕ). IsDeclaredName topology ds n name) is placed
           | inr not_so ↦ kept.each name k (sym (step name ∙ rw not_so refl) ∙ h)
         ];
         all = λ k name less h. elim (cases_Bool (here name)) [
@@ -214,7 +214,7 @@ module _ (topology : Topology) (ds : List Declared) where
                 let same : h.declared ≡ d =
                 same_Some h.declared d
                 (sym h.stands ∙ ap (slice_get ds) last ∙ stands) in
-                let at = subst (λ (x : Declared). IsAt topology x name) same h.at in
+                let at = subst (λ (x : Declared). IsDeclaredAt topology x name) same h.at in
                 absurd (false≢true (sym not_so ∙ at_is_name topology d name at))
           ]
         ];
@@ -223,7 +223,7 @@ module _ (topology : Topology) (ds : List Declared) where
   -- ---- what is kept, in order
   module _ (m : BTreeMap EventName ℕ) (order : IsOrdered event_cmp m) where
     kept_at : (count : ℕ) → AreKept topology ds count m.entries → (i k : ℕ) (name : EventName)
-        → slice_get m.entries i ≡ Some (name, k) → IsPlaced topology ds k name
+        → slice_get m.entries i ≡ Some (name, k) → IsDeclaredName topology ds k name
     kept_at count kept i k name h =
         kept.each name k (btree_map_get_place event_cmp_total m i name k order h)
 

@@ -21,7 +21,7 @@ use Rattle.ev_check.specs.CheckedFile.{Linking}
 use Rattle.ev_words.specs.Iterators.{same_name}
 use Rattle.ev_join.specs.Order.{AreSmall, IsNotBefore}
 use Rattle.ev_join.specs.Tables.{TableValue}
-use Rattle.ev_join.specs.Candidates.{IsCandidate, AreCandidates, AreAllCandidates}
+use Rattle.ev_join.specs.Candidates.{IsJoined, AreJoined, AreAllCandidates}
 use Rattle.ev_join.specs.Candidates.{AreInOrder, links_at}
 use Rattle.ev_join.proofs.Ordered.{among_before, among_ordered, ascend_apart, some_order}
 use Rattle.ev_join.proofs.Ordering.{not_before_itself}
@@ -342,7 +342,7 @@ module _ (topology : Topology) (l : Linking) (ws : List (List ℕ)) (ts : List T
       fitting_same (iterators l) ws (back c) c (instance_same (iterators l) ws same c full)
       topology parts
 
-  binding_back : (c : List ℕ) → IsCandidate ts (length ws) c → IsBinding topology l (back c)
+  binding_back : (c : List ℕ) → IsJoined ts (length ws) c → IsBinding topology l (back c)
   binding_back c h = record {
     full = as_long ws (iterators l) c;
     small = small_at (places_among ws (iterators l)) c h.small;
@@ -354,7 +354,7 @@ module _ (topology : Topology) (l : Linking) (ws : List (List ℕ)) (ts : List T
   }
 
   candidate_on : (b : List ℕ) → IsBinding topology l b
-      → IsCandidate ts (length ws) (rebound (iterators l) ws b)
+      → IsJoined ts (length ws) (rebound (iterators l) ws b)
   candidate_on b h =
       let c = rebound (iterators l) ws b in
       let full = as_long (iterators l) ws b in
@@ -372,7 +372,7 @@ module _ (topology : Topology) (l : Linking) (ws : List (List ℕ)) (ts : List T
         };
       }
 
-  links_back : (c : List ℕ) → IsCandidate ts (length ws) c
+  links_back : (c : List ℕ) → IsJoined ts (length ws) c
       → links_at ts c ≡ candidate_links topology l (back c)
   links_back c h =
       links_same topology ws (patterns_of l) ts c tables h.full
@@ -386,7 +386,7 @@ module _ (topology : Topology) (l : Linking) (ws : List (List ℕ)) (ts : List T
       sum_by-cons (λ d. f (back d)) c cs ∙ (λ i. f (back c) + sum_map f cs i)
       ∙ sym (sum_by-cons f (back c) (map back cs))
 
-  module _ (cs bs : List (List ℕ)) (h : AreCandidates ts (length ws) cs)
+  module _ (cs bs : List (List ℕ)) (h : AreJoined ts (length ws) cs)
       (moved : AreInOrder (map back cs) bs) where
     pub turned_links : sum_by (links_at ts) cs ≡ sum_by (candidate_links topology l) bs
     turned_links =
@@ -434,7 +434,7 @@ module _ (topology : Topology) (l : Linking) (ws : List (List ℕ)) (ts : List T
         });
   }
 
-  pub turned_many : (limit : ℕ) (cs : List (List ℕ)) → AreCandidates ts (length ws) cs
+  pub turned_many : (limit : ℕ) (cs : List (List ℕ)) → AreJoined ts (length ws) cs
       → limit < sum_by (links_at ts) cs
       → (bs : List (List ℕ))
       × (AreBindings topology l bs × (limit < sum_by (candidate_links topology l) bs))
@@ -479,9 +479,9 @@ module _ (topology : Topology) (l : Linking) (ws : List (List ℕ)) (ns : List �
           ∙ sum
 
     pub answer_many : (limit : ℕ) → ((cs : List (List ℕ))
-        × (AreCandidates ts count cs × (limit < sum_by (links_at ts) cs)))
+        × (AreJoined ts count cs × (limit < sum_by (links_at ts) cs)))
         → (bs : List (List ℕ))
         × (AreBindings topology l bs × (limit < sum_by (candidate_links topology l) bs))
     answer_many limit found =
         turned_many topology l ws ts names_alike names_apart tables limit found.0
-        (subst (λ (n : ℕ). AreCandidates ts n found.0) counted found.1.0) found.1.1
+        (subst (λ (n : ℕ). AreJoined ts n found.0) counted found.1.0) found.1.1

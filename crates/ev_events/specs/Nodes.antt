@@ -16,7 +16,7 @@ use Rattle.ev_graph.specs.declared.nodes.Node.{Node}
 use Rattle.ev_graph.specs.declared.nodes.NodeKind.{NodeKind}
 use Rattle.ev_graph.specs.declared.nodes.NodeKind.TheVariants as nodes
 use Rattle.ev_graph.specs.declared.nodes.EngineSpec.{EngineSpec}
-use Rattle.ev_events.specs.Placed.{IsAt, IsAmongNames}
+use Rattle.ev_events.specs.Placed.{IsDeclaredAt, IsAmongNames}
 
 abbrev pub node_name : Node → EventName
 node_name node = node.name
@@ -63,7 +63,7 @@ pub record IsNodeOf (f : CheckedFile) (topology : Topology) (engines : List Even
   pub number : ℕ
   pub spec : EventSpec
   pub declared : slice_get f.events number ≡ Some spec
-  pub at : IsAt topology spec.event node.name
+  pub at : IsDeclaredAt topology spec.event node.name
   pub kind : IsKindAt f.engines engines node.name.path spec.kind node.kind
 
 -- an engine is the one declared by a number; its trip is the event at the same path
@@ -82,7 +82,7 @@ pub record IsEngineOf (f : CheckedFile) (topology : Topology) (names : List Even
     (engine : EngineSpec) : Type 0 where
   pub number : ℕ
   pub is : IsEngineFor f names number engine
-  pub at : IsAt topology is.spec.engine engine.name
+  pub at : IsDeclaredAt topology is.spec.engine engine.name
 
 -- all nodes and all engines, each once, in event order
 pub record AreNodes (f : CheckedFile) (topology : Topology) (engines : List EngineSpec)
@@ -91,7 +91,7 @@ pub record AreNodes (f : CheckedFile) (topology : Topology) (engines : List Engi
   pub each : (i : ℕ) (node : Node) → slice_get ns i ≡ Some node
       → IsNodeOf f topology (map engine_name engines) node
   pub all : (k : ℕ) (spec : EventSpec) (name : EventName) → slice_get f.events k ≡ Some spec
-      → IsAt topology spec.event name → IsAmongNames (map node_name ns) name
+      → IsDeclaredAt topology spec.event name → IsAmongNames (map node_name ns) name
 
 pub record AreEngines (f : CheckedFile) (topology : Topology) (ns : List Node)
     (engines : List EngineSpec) : Type 0 where
@@ -99,7 +99,7 @@ pub record AreEngines (f : CheckedFile) (topology : Topology) (ns : List Node)
   pub each : (i : ℕ) (engine : EngineSpec) → slice_get engines i ≡ Some engine
       → IsEngineOf f topology (map node_name ns) engine
   pub all : (k : ℕ) (spec : SerdSpec) (name : EventName) → slice_get f.engines k ≡ Some spec
-      → IsAt topology spec.engine name → IsAmongNames (map engine_name engines) name
+      → IsDeclaredAt topology spec.engine name → IsAmongNames (map engine_name engines) name
 
 -- the engines of a file, in order: the place of one is its number
 abbrev pub spec_engine : SerdSpec → Declared

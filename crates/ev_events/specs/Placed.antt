@@ -19,18 +19,19 @@ abbrev pub is_before_name : EventName → EventName → Bool
 is_before_name a b = is_lt (event_cmp a b)
 
 -- an event or engine that is declared, at a path of the topology with its names
-pub record IsAt (topology : Topology) (d : Declared) (name : EventName) : Type 0 where
+pub record IsDeclaredAt (topology : Topology) (d : Declared) (name : EventName) : Type 0 where
   pub class : name.class ≡ d.class
   pub number : ℕ
   pub there : slice_get (keys_of topology) number ≡ Some name.path
   pub named : names_of name.path ≡ d.names
 
 -- one of those that are declared is at a path
-pub record IsPlaced (topology : Topology) (ds : List Declared) (number : ℕ) (name : EventName) :
+pub record IsDeclaredName (topology : Topology) (ds : List Declared) (number : ℕ)
+    (name : EventName) :
     Type 0 where
   pub declared : Declared
   pub stands : slice_get ds number ≡ Some declared
-  pub at : IsAt topology declared name
+  pub at : IsDeclaredAt topology declared name
 
 -- the name stands among others
 pub record IsAmongNames (names : List EventName) (name : EventName) : Type 0 where
@@ -44,15 +45,15 @@ pub record ArePlaced (topology : Topology) (ds : List Declared) (names : List Ev
   pub ascend : ascends_by is_before_name names ≡ true
   pub long : length numbers ≡ length names
   pub each : (i k : ℕ) (name : EventName) → slice_get names i ≡ Some name
-      → slice_get numbers i ≡ Some k → IsPlaced topology ds k name
-  pub all : (k : ℕ) (name : EventName) → IsPlaced topology ds k name → IsAmongNames names name
+      → slice_get numbers i ≡ Some k → IsDeclaredName topology ds k name
+  pub all : (k : ℕ) (name : EventName) → IsDeclaredName topology ds k name → IsAmongNames names name
 
 -- there are more of them than a limit
 pub record AreMore (topology : Topology) (ds : List Declared) (limit : ℕ) : Type 0 where
   pub names : List EventName
   pub ascend : ascends_by is_before_name names ≡ true
   pub each : (i : ℕ) (name : EventName) → slice_get names i ≡ Some name
-      → (k : ℕ) × IsPlaced topology ds k name
+      → (k : ℕ) × IsDeclaredName topology ds k name
   pub many : limit < length names
 
 -- the declared one at a path, where the path has its names
@@ -84,8 +85,8 @@ is_name_at topology d ats q =
 pub record AreKept (topology : Topology) (ds : List Declared) (count : ℕ)
     (entries : List (EventName × ℕ)) : Type 0 where
   pub each : (name : EventName) (k : ℕ) → number_of_name entries name ≡ Some k
-      → IsPlaced topology ds k name
-  pub all : (k : ℕ) (name : EventName) → k < count → IsPlaced topology ds k name
+      → IsDeclaredName topology ds k name
+  pub all : (k : ℕ) (name : EventName) → k < count → IsDeclaredName topology ds k name
       → (m : ℕ) × (number_of_name entries name ≡ Some m)
 
 -- where a name stands among others, if it does

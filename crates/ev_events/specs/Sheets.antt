@@ -27,8 +27,8 @@ row_if slots columns parts at None = None
 row_if slots columns parts at (Some path) = row_of slots columns parts at path
 
 -- that of the path with a number in a topology
-abbrev pub row_at : Topology → List Slot → List Column → List Part → ℕ → Option Row
-row_at topology slots columns parts at =
+abbrev pub path_row : Topology → List Slot → List Column → List Part → ℕ → Option Row
+path_row topology slots columns parts at =
     row_if slots columns parts at (slice_get (keys_of topology) at)
 
 -- a table whose rows at each binding are those of the paths that fit parts under it: as many, and

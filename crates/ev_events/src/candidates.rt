@@ -5,7 +5,7 @@ ghost use Rattle.std.specs.Prelude.{slice_get, Some, IfOk, IfErr, OnOk};
 ghost use Rattle.ev_tree.specs.Pattern.{Pattern, view_pattern};
 ghost use Rattle.ev_check.specs.CheckedFile.{view_prop};
 ghost use Rattle.fm_topo.specs.Groups.{IsGrouped};
-ghost use Rattle.ev_join.specs.Candidates.{AreAllCandidates, AreCandidates, links_at};
+ghost use Rattle.ev_join.specs.Candidates.{AreAllCandidates, AreJoined, links_at};
 ghost use Rattle.ev_join.specs.declared.join_fault.JoinFault.TheVariants.{Links};
 ghost use Rattle.ev_events.specs.Names.{iterators, Knows, KnowSides};
 ghost use Rattle.ev_events.specs.Bindings.{AreAllBindings, AreBindings, candidate_links};
@@ -99,7 +99,7 @@ fn joined_of(alloc: Global, tables: &[Table], count: usize, limit: u64) -> Resul
         joined.left + sum_by (links_at tables.now) joined.bindings ≡ limit) }
     ensures many { 0 < length tables.now → IfErr result (λ fault. fault ≡ Links
         → (bs : List (List ℕ))
-        × (AreCandidates tables.now count bs × (limit < sum_by (links_at tables.now) bs))) }
+        × (AreJoined tables.now count bs × (limit < sum_by (links_at tables.now) bs))) }
 {
     if tables.is_empty() {
         let mut bindings = Items::new(Vec::new(alloc));

@@ -8,7 +8,7 @@ ghost use Rattle.ev_words.specs.Iterators.{same_name};
 ghost use Rattle.fm_topo.specs.Groups.{IsGrouped};
 ghost use Rattle.ev_events.specs.Fits.{has_names};
 ghost use Rattle.ev_events.specs.Slots.{slots_of, columns_of};
-ghost use Rattle.ev_events.specs.Sheets.{row_of, row_at, IsTableOf};
+ghost use Rattle.ev_events.specs.Sheets.{row_of, path_row, IsTableOf};
 ghost use Rattle.ev_events.specs.Names.{Knows};
 
 use crate::names::Iterators;
@@ -81,7 +81,7 @@ fn row_at(
     at: u32,
 ) -> Result<Option<Row>, NoMemory>
     ensures { IfOk result (λ row. row
-        ≡ row_at topo.now layout.now.slots.items layout.now.columns.items parts.now at) }
+        ≡ path_row topo.now layout.now.slots.items layout.now.columns.items parts.now at) }
 {
     if (at as usize) < topo.len() {
         row_of(alloc, parts, layout, at, topo.path(at as usize))
@@ -99,7 +99,7 @@ fn rows_of(
     numbers: &[u32],
 ) -> Result<Vec<Row>, NoMemory>
     ensures { IfOk result (λ rows. rows.items
-        ≡ filter_map (row_at topo.now layout.now.slots.items layout.now.columns.items parts.now)
+        ≡ filter_map (path_row topo.now layout.now.slots.items layout.now.columns.items parts.now)
         numbers.now) }
 {
     let mut rows = Vec::new(alloc);

@@ -12,7 +12,7 @@ use Rattle.fm_bytes.proofs.Combined.{made_some, made_read, both_reader}
 use Rattle.ev_graph.specs.declared.nodes.NodeKind.{NodeKind}
 use Rattle.ev_graph.specs.declared.nodes.NodeKind.TheVariants.{Fault, Defect, Upset, Inner, Report}
 use Rattle.ev_file.specs.Files.{kind_code, kind_bytes, engine_code, flag_bytes}
-use Rattle.ev_file.specs.FileReading.{engine_of, root_from, kind_from}
+use Rattle.ev_file.specs.FileReading.{engine_numbered, root_from, kind_from}
 
 -- the number of an engine is not the one that stands for none
 abbrev pub engine_fits : Option ℕ → Bool
@@ -48,7 +48,7 @@ engine_small n false h less =
     let other : n ≡ 4294967295 → ⊥ = eqb-false n 4294967295 h in
     lt-ltb n 4294967295 (omega (arith, less, other))
 
-engine_there : (e : ℕ) → e < 4294967295 → engine_of e ≡ Some e
+engine_there : (e : ℕ) → e < 4294967295 → engine_numbered e ≡ Some e
 engine_there e less =
     ap (λ (b : Bool). if b then None else Some e)
     (ne_eqb e 4294967295 (λ same. omega (arith, less, same)))
@@ -97,8 +97,8 @@ kind_sound code bytes t all h =
                 (λ f. refl) (λ f k. (and_parts (nat_lt f.0 (2 ^ 32)) true k).0) (λ f. refl) code
                 bytes t (eqb-true code 2 is.0) all is.1
             | inr other ↦ elim (choice_split (code == 3)
-                (made (λ n. Upset (engine_of n)) (number_from 4 bytes)) _ (Some t) other.1) [
-                  | inl is ↦ one_kind 3 (λ n. Upset (engine_of n)) (λ n. nat_lt n (2 ^ 32))
+                (made (λ n. Upset (engine_numbered n)) (number_from 4 bytes)) _ (Some t) other.1) [
+                  | inl is ↦ one_kind 3 (λ n. Upset (engine_numbered n)) (λ n. nat_lt n (2 ^ 32))
                       u32_bytes (number_from 4) word_reader (λ n. refl)
                       (λ n k. engine_small n (n == 4294967295) refl (ltb-true n (2 ^ 32) k))
                       (λ n. ap u32_bytes (engine_choice n (n == 4294967295) refl)) code bytes t
@@ -127,11 +127,11 @@ kind_read (Defect fit retire) rest h =
     made_read (λ f. Defect f.0 f.1) _ (fit, retire) rest
     (root_reader.whole (fit, retire) rest (and_true (nat_lt fit (2 ^ 32)) true h refl))
 kind_read (Upset None) rest h =
-    made_read (λ n. Upset (engine_of n)) _ 4294967295 rest
+    made_read (λ n. Upset (engine_numbered n)) _ 4294967295 rest
     (word_reader.whole 4294967295 rest refl)
 kind_read (Upset (Some e)) rest h =
     let less = ltb-true e 4294967295 h in
-    made_read (λ n. Upset (engine_of n)) _ e rest
+    made_read (λ n. Upset (engine_numbered n)) _ e rest
     (word_reader.whole e rest (lt-ltb e (2 ^ 32) (omega (arith, less))))
     ∙ ap (λ (o : Option ℕ). Some (Upset o, rest)) (engine_there e less)
 kind_read Inner rest h = refl

@@ -14,8 +14,8 @@ use Rattle.ev_file.specs.Files.{has_category}
 use Rattle.ev_file.specs.declared.made.Made.{Made}
 
 -- the engine of a number, or none
-abbrev pub engine_of : ℕ → Option ℕ
-engine_of n = if n == 4294967295 then None else Some n
+abbrev pub engine_numbered : ℕ → Option ℕ
+engine_numbered n = if n == 4294967295 then None else Some n
 
 -- the fields of a root
 unfoldable pub root_from : List ℕ → Read (ℕ × Bool)
@@ -26,7 +26,7 @@ unfoldable pub kind_from : ℕ → List ℕ → Read NodeKind
 kind_from code bytes =
     if code == 1 then made (λ f. Fault f.0 f.1) (root_from bytes)
     else (if code == 2 then made (λ f. Defect f.0 f.1) (root_from bytes)
-    else (if code == 3 then made (λ n. Upset (engine_of n)) (number_from 4 bytes)
+    else (if code == 3 then made (λ n. Upset (engine_numbered n)) (number_from 4 bytes)
     else (if code == 4 then Some (Inner, bytes)
     else (if code == 5 then made Report (number_from 8 bytes)
     else None))))

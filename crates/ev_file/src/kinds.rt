@@ -3,7 +3,7 @@
 ghost use Rattle.std.specs.Prelude.{◌≡◌, ◌++◌, Some, None, IfOk, IfErr, OnOk};
 ghost use Rattle.fm_bytes.specs.Reading.{IsMisspelled, flag_from};
 ghost use Rattle.ev_file.specs.Files.{kind_code, kind_bytes, engine_code, flag_bytes};
-ghost use Rattle.ev_file.specs.FileReading.{root_from, kind_from, engine_of};
+ghost use Rattle.ev_file.specs.FileReading.{root_from, kind_from, engine_numbered};
 
 use ev_graph::NodeKind;
 use fm_bytes::{Input, NoMemory, ReadFault, put_u8, put_u32, put_u64};
@@ -100,7 +100,7 @@ fn take_flag(input: &mut Input) -> Result<bool, ReadFault>
 
 /// The engine of a number, or none.
 fn engine_of(number: u32) -> Option<u32>
-    ensures { result ≡ engine_of number }
+    ensures { result ≡ engine_numbered number }
 {
     if number == NO_ENGINE {
         None

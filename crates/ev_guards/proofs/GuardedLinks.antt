@@ -9,7 +9,7 @@ use Rattle.fm_bytes.proofs.Booleans.{and_true}
 use Rattle.ev_expr.specs.declared.settings.Prop.{Prop}
 use Rattle.ev_graph.specs.Cutting.{is_cut}
 use Rattle.ev_graph.specs.declared.instances.Link.{Link}
-use Rattle.ev_guards.specs.Guards.{GuardsValue, broken_by, broken_of, guard_instance, guarded_links}
+use Rattle.ev_guards.specs.Guards.{GuardsValue, broken_by, broken_on, guard_instance, guarded_links}
 use Rattle.ev_guards.specs.Guards.{guards_if_any, is_broken, is_guard_of, is_guarded, link_to}
 use Rattle.ev_guards.specs.Guards.{links_to}
 use Rattle.ev_guards.specs.declared.guards.Guard.{Guard}
@@ -107,7 +107,7 @@ pub only_guarded : (v : GuardsValue) (e : ℕ) (props : List Prop)
     → list_all (λ i. is_guarded v i e) (broken_by v e props) ≡ true
 only_guarded v e props = by (slice_get v.nodes e) where
   by : (o : Option GuardedNode) → list_all (λ i. list_any (is_guard_of i) (guards_if_any o))
-      (broken_of v.topology props o) ≡ true
+      (broken_on v.topology props o) ≡ true
   by None = refl
   by (Some n) = only_in (is_broken v.topology n.path props) [] n.guards.items
 

@@ -11,7 +11,8 @@ use Rattle.fm_topo.specs.Topology.{Topology}
 use Rattle.ev_expr.specs.declared.settings.Prop.{Prop}
 use Rattle.ev_graph.specs.declared.instances.Link.{Link}
 use Rattle.ev_guards.specs.Watched.{Watched, view_node}
-use Rattle.ev_guards.specs.Guards.{GuardAlike, GuardsValue, broken_of, guard_count, has_number}
+use Rattle.ev_guards.specs.Guards.{GuardAlike, GuardsValue, broken_on}
+use Rattle.ev_guards.specs.Guards.{guard_count, has_instance_number}
 use Rattle.ev_guards.specs.Guards.{is_numbered_link, link_to, links_to}
 use Rattle.ev_guards.specs.declared.guards.Guard.{Guard}
 use Rattle.ev_guards.specs.declared.guards.GuardedNode.{GuardedNode}
@@ -36,7 +37,7 @@ broken_watched topology props (Some n) =
     map guarded_instance (filter (λ v. is_unmet topology n.path props v.asked) n.guards)
 
 broken_at_node : (topology : Topology) (props : List Prop) (ns : List GuardedNode) (e : ℕ)
-    → broken_of topology props (slice_get ns e)
+    → broken_on topology props (slice_get ns e)
     ≡ broken_watched topology props (slice_get (map view_node ns) e)
 broken_at_node topology props [] e = refl
 broken_at_node topology props (n ∷ ns) zero = broken_map topology n.path props n.guards.items
@@ -60,19 +61,20 @@ counted e (n ∷ ns) =
     ∙ (λ i. length-map n.guards.items (link_to e) i + counted (suc e) ns i)
 
 numbered_here : (e : ℕ) (gs : List Guard)
-    → list_all is_numbered_link (map (link_to e) gs) ≡ list_all has_number gs
+    → list_all is_numbered_link (map (link_to e) gs) ≡ list_all has_instance_number gs
 numbered_here e [] = refl
-numbered_here e (g ∷ gs) = ap (λ (b : Bool). has_number g && b) (numbered_here e gs)
+numbered_here e (g ∷ gs) = ap (λ (b : Bool). has_instance_number g && b) (numbered_here e gs)
 
 numbered : (e : ℕ) (ns : List GuardedNode) → list_all is_numbered_link (links_to e ns)
-    ≡ list_all (λ n. list_all has_number n.guards.items) ns
+    ≡ list_all (λ n. list_all has_instance_number n.guards.items) ns
 numbered e [] = refl
 numbered e (n ∷ ns) =
     list_all-append is_numbered_link (map (link_to e) n.guards.items) (links_to (suc e) ns)
     ∙ (λ i. numbered_here e n.guards.items i && numbered (suc e) ns i)
 
 pub few_links : (ns : List GuardedNode)
-    → (nat_lt (guard_count ns) (2 ^ 32) && list_all (λ n. list_all has_number n.guards.items) ns)
+    → (nat_lt (guard_count ns) (2 ^ 32) && list_all (λ n. list_all has_instance_number
+    n.guards.items) ns)
     ≡ (nat_lt (length (links_to 0 ns)) (2 ^ 32) && list_all is_numbered_link (links_to 0 ns))
 few_links ns = λ i. nat_lt (sym (counted 0 ns) i) (2 ^ 32) && sym (numbered 0 ns) i
 

@@ -8,7 +8,7 @@ use Rattle.ev_expr.specs.Conditions.{holds}
 use Rattle.ev_expr.specs.declared.settings.Prop.{Prop}
 use Rattle.ev_graph.specs.declared.instances.Link.{Link}
 use Rattle.ev_guards.specs.Watched.{Asked, Guarded, view_guard, view_question}
-use Rattle.ev_guards.specs.Guards.{guard_instance, is_broken, is_guard_of, is_met, link_to}
+use Rattle.ev_guards.specs.Guards.{guard_instance, is_broken, is_guard_of, question_holds, link_to}
 use Rattle.ev_guards.specs.declared.guards.Question.{Question}
 use Rattle.ev_guards.specs.declared.guards.Guard.{Guard}
 
@@ -22,11 +22,11 @@ answer topology path props a = holds (record {
 }) a.condition
 
 pub met_any : (topology : Topology) (path : List ℕ) (props : List Prop) (qs : List Question)
-    → list_any (is_met topology path props) qs
+    → list_any (question_holds topology path props) qs
     ≡ list_any (answer topology path props) (map view_question qs)
 met_any topology path props [] = refl
 met_any topology path props (q ∷ qs) =
-    ap (λ (b : Bool). is_met topology path props q || b) (met_any topology path props qs)
+    ap (λ (b : Bool). question_holds topology path props q || b) (met_any topology path props qs)
 
 abbrev pub is_of_instance : ℕ → Guarded → Bool
 is_of_instance i v = v.instance == i

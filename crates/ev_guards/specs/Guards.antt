@@ -43,8 +43,8 @@ abbrev pub guarded_links : GuardsValue → List Link
 guarded_links v = links_to 0 v.nodes
 
 -- the instance of a guard, and of a link, has a number of 32 bits
-abbrev pub has_number : Guard → Bool
-has_number g = nat_lt g.instance (2 ^ 32)
+abbrev pub has_instance_number : Guard → Bool
+has_instance_number g = nat_lt g.instance (2 ^ 32)
 
 abbrev pub is_numbered_link : Link → Bool
 is_numbered_link l = nat_lt l.instance (2 ^ 32)
@@ -60,8 +60,8 @@ has_few_links v =
     nat_lt (length (guarded_links v)) (2 ^ 32) && list_all is_numbered_link (guarded_links v)
 
 -- the condition of a question holds at a path with the pairs of a payload
-abbrev pub is_met : Topology → List ℕ → List Prop → Question → Bool
-is_met topology path props q = holds (record {
+abbrev pub question_holds : Topology → List ℕ → List Prop → Question → Bool
+question_holds topology path props q = holds (record {
   names = q.names.items;
   topology = topology;
   path = path;
@@ -70,19 +70,20 @@ is_met topology path props q = holds (record {
 
 -- a payload breaks a link: none of the conditions that guard it holds
 abbrev pub is_broken : Topology → List ℕ → List Prop → Guard → Bool
-is_broken topology path props g = not (list_any (is_met topology path props) g.questions.items)
+is_broken topology path props g = not
+    (list_any (question_holds topology path props) g.questions.items)
 
 abbrev pub guard_instance : Guard → ℕ
 guard_instance g = g.instance
 
-abbrev pub broken_of : Topology → List Prop → Option GuardedNode → List ℕ
-broken_of topology props None = []
-broken_of topology props (Some n) =
+abbrev pub broken_on : Topology → List Prop → Option GuardedNode → List ℕ
+broken_on topology props None = []
+broken_on topology props (Some n) =
     map guard_instance (filter (is_broken topology n.path props) n.guards.items)
 
 -- the instances whose link to a node a payload breaks
 abbrev pub broken_by : GuardsValue → ℕ → List Prop → List ℕ
-broken_by v e props = broken_of v.topology props (slice_get v.nodes e)
+broken_by v e props = broken_on v.topology props (slice_get v.nodes e)
 
 -- the same links are guarded, in the same order, and each payload breaks the same ones
 pub record GuardAlike (v w : GuardsValue) : Type 0 where

@@ -2,13 +2,14 @@
 
 ghost use Rattle.std.specs.Prelude.{◌≡◌, ◌==◌, ◌^◌, ◌&&◌, length, nat_lt};
 ghost use Rattle.std.specs.List.{list_all};
-ghost use Rattle.ev_guards.specs.Guards.{guard_count, has_number, is_numbered_link, links_to};
+ghost use Rattle.ev_guards.specs.Guards.{guard_count, has_instance_number};
+ghost use Rattle.ev_guards.specs.Guards.{is_numbered_link, links_to};
 
 use crate::guards::{Guard, GuardedNode};
 
 /// Whether the instance of a guard has a number of 32 bits, which each has.
 fn has_number(guard: &Guard) -> bool
-    ensures { result ≡ has_number guard.now }
+    ensures { result ≡ has_instance_number guard.now }
 {
     let _instance = guard.instance;
     true
@@ -16,14 +17,14 @@ fn has_number(guard: &Guard) -> bool
 
 /// Whether each of some guards has such one.
 fn each_has_number(guards: &[Guard]) -> bool
-    ensures { result ≡ list_all has_number guards.now }
+    ensures { result ≡ list_all has_instance_number guards.now }
 {
     guards.iter().all(|guard| has_number(guard))
 }
 
 /// Whether the guards of each of some nodes have such ones.
 fn have_numbers(nodes: &[GuardedNode]) -> bool
-    ensures { result ≡ list_all (λ n. list_all has_number n.guards.items) nodes.now }
+    ensures { result ≡ list_all (λ n. list_all has_instance_number n.guards.items) nodes.now }
 {
     nodes
         .iter()

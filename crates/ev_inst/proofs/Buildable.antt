@@ -52,8 +52,8 @@ use Rattle.ev_events.proofs.Keeping.{all_names}
 use Rattle.ev_events.proofs.Wholeness.{alike_class}
 use Rattle.ev_events.proofs.Places.{map_there}
 use Rattle.ev_inst.specs.Instances.{IsBuildable, instances_of_all}
-use Rattle.ev_inst.specs.Gathering.{is_given}
-use Rattle.ev_inst.specs.Outcomes.{count_of, events_of, instance_of, is_complete, is_dropped}
+use Rattle.ev_inst.specs.Gathering.{some_passes}
+use Rattle.ev_inst.specs.Outcomes.{count_at_arrow, events_of, instance_of, is_complete, is_dropped}
 use Rattle.ev_inst.specs.Outcomes.{is_event_among, is_event_of, is_made, numbers_with}
 use Rattle.ev_inst.proofs.Kindred.{kind_facts, node_category, not_report, not_root}
 use Rattle.ev_inst.proofs.Kindred.{reports, upsets}
@@ -89,7 +89,7 @@ member_at (x ∷ xs) (suc i) n h = by (x == n) (member_at xs i n h) where
   by true e = refl
   by false e = e
 
-given_node : (test : Node → Bool) (o : Option Node) → is_given test o ≡ true
+given_node : (test : Node → Bool) (o : Option Node) → some_passes test o ≡ true
     → (node : Node) × (o ≡ Some node) × (test node ≡ true)
 given_node test None h = absurd (false≢true h)
 given_node test (Some node) h = (node, refl, h)
@@ -358,7 +358,7 @@ module _ (f : CheckedFile) (topology : Topology) (whole : IsWholeFile f) (lawful
 
   -- ---- counts
   some_needed : (k : Count) (all : ℕ) → needs_cause k ≡ true → 0 < all
-      → nat_lt 0 (count_of k all) ≡ true
+      → nat_lt 0 (count_at_arrow k all) ≡ true
   some_needed counts.All all h less = lt-ltb 0 all less
   some_needed (counts.Number n) all h less = h
 

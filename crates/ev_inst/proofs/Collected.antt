@@ -24,7 +24,7 @@ use Rattle.ev_guards.specs.Watched.{Guarded}
 use Rattle.ev_inst.specs.Asked.{made_of, side_events, side_guards, side_patterns}
 use Rattle.ev_guards.specs.Watched.{view_guard}
 use Rattle.ev_guards.specs.Watched.{view_question}
-use Rattle.ev_inst.specs.Gathering.{is_given}
+use Rattle.ev_inst.specs.Gathering.{some_passes}
 use Rattle.ev_inst.specs.Guarding.{Derivation, are_guards, asks_if, derivation, derivations}
 use Rattle.ev_inst.specs.Outcomes.{is_complete, is_dropped, is_event_among, is_made}
 use Rattle.ev_inst.specs.Outcomes.{instance_of, is_skipped}
@@ -136,7 +136,7 @@ module _ (r : RightSide) where
   pub effect_event : (e : ℕ) (node : Node) → slice_get r.nodes.now e ≡ Some node
       → is_member (side_events r) e ≡ true → is_side_event node ≡ true
   effect_event e node s h =
-      sym (ap (is_given is_side_event) s) ∙ sym (numbers_member is_side_event r.nodes.now e) ∙ h
+      sym (ap (some_passes is_side_event) s) ∙ sym (numbers_member is_side_event r.nodes.now e) ∙ h
 
   pub effect_within : (e : ℕ) → is_member (side_events r) e ≡ true → e < length r.nodes.now
   effect_within e h =
@@ -356,7 +356,7 @@ instance_added r l es names patterns are old new number from to was is adds coun
       in
       let member : is_member es e ≡ event node =
       ap (λ (xs : List ℕ). is_member xs e) are ∙ numbers_member event r.nodes.now e
-      ∙ ap (is_given event) s in (
+      ∙ ap (some_passes event) s in (
         told.0,
         told.1
             ∙ ap (λ (gs : List Guarded). map view_guard o.guards.items ++ gs)

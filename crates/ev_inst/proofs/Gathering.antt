@@ -30,7 +30,7 @@ use Rattle.ev_events.proofs.Places.{none_is_not}
 use Rattle.ev_events.specs.Giving.{giving}
 use Rattle.ev_inst.specs.Gathering.{AddsCandidates, AddsOutcome, AreEventNumbers, AreOrderedNodes}
 use Rattle.ev_inst.specs.Gathering.{IsGatheredTo, IsOutcome, IsReady}
-use Rattle.ev_inst.specs.Gathering.{IsSideReady, fitting_links, is_given}
+use Rattle.ev_inst.specs.Gathering.{IsSideReady, fitting_links, some_passes}
 use Rattle.ev_inst.specs.Gathering.{is_node_on, outcome_links}
 use Rattle.ev_inst.specs.Instances.{AreCandidatesOf, AreSomeCandidatesOf, HaveMoreLinks}
 use Rattle.ev_inst.specs.Instances.{instances_of_all, links_of_all, skipped_of_all}
@@ -45,14 +45,14 @@ use Rattle.ev_inst.proofs.Numbering.{event_on, few_given}
 
 -- ---- one pattern more
 none_given : (topology : Topology) (vs : List (List ℕ)) (b : List ℕ) (o : Option Node)
-    → is_given (is_event_among topology vs b []) o ≡ false
+    → some_passes (is_event_among topology vs b []) o ≡ false
 none_given topology vs b None = refl
 none_given topology vs b (Some node) = refl
 
 given_more : (topology : Topology) (vs : List (List ℕ)) (b : List ℕ) (qs : List Pattern)
     (q : Pattern) (o : Option Node)
-    → is_given (is_event_among topology vs b (qs ++ q ∷ [])) o
-    ≡ (is_given (is_event_among topology vs b qs) o || is_given
+    → some_passes (is_event_among topology vs b (qs ++ q ∷ [])) o
+    ≡ (some_passes (is_event_among topology vs b qs) o || some_passes
     (λ node. is_event_of topology vs b node q) o)
 given_more topology vs b qs q None = refl
 given_more topology vs b qs q (Some node) =

@@ -26,12 +26,12 @@ use Rattle.ev_inst.specs.Asked.{AreAllGuards, AreGuardsTo}
 use Rattle.ev_guards.specs.Watched.{Asked, Guarded}
 use Rattle.ev_inst.specs.Asked.{asked_if, asked_of, guard_if, guards_to}
 use Rattle.ev_guards.specs.Watched.{view_guard}
-use Rattle.ev_inst.specs.Gathering.{is_given}
+use Rattle.ev_inst.specs.Gathering.{some_passes}
 use Rattle.ev_inst.specs.Guarding.{Derivation, are_guards, asks_if, breaks, broken_at, derivations}
 use Rattle.ev_inst.specs.Guarding.{guarded_at, guards, holds_with, link_of, links_guarded}
 use Rattle.ev_inst.specs.Guarding.{shows_with}
 use Rattle.ev_inst.specs.GuardsOf.{AreGuardsOf, IsInstantiated}
-use Rattle.ev_guards.specs.Guards.{GuardsValue, broken_by, broken_of, guard_instance, guarded_links}
+use Rattle.ev_guards.specs.Guards.{GuardsValue, broken_by, broken_on, guard_instance, guarded_links}
 use Rattle.ev_guards.specs.Guards.{guards_if_any, is_broken, is_guard_of, is_guarded, link_to}
 use Rattle.ev_guards.specs.Guards.{links_to}
 use Rattle.ev_inst.specs.Instances.{instances_of_all}
@@ -276,11 +276,11 @@ module _ (topology : Topology) (nodes : List Node) (ds : List Derivation)
   broken_same e props = by (slice_get nodes e) refl where
     by : (o : Option Node) → slice_get nodes e ≡ o
         → broken_by value e props ≡ broken_at topology ds props o
-    by None none = ap (broken_of topology props) (none_as nodes gs e are.long none)
+    by None none = ap (broken_on topology props) (none_as nodes gs e are.long none)
     by (Some node) s =
         let n = there_as nodes gs e node are.long s in
         let told = are.each e node n.0 s n.1 in
-        ap (broken_of topology props) n.1
+        ap (broken_on topology props) n.1
         ∙ broken_is topology node ds props n.0 told.0 told.1
 
   -- ---- the links, in order
@@ -423,13 +423,13 @@ module _ (topology : Topology) (nodes : List Node) (ds : List Derivation)
       → is_member ((wiring (map (derived topology nodes) ds)).effects i) e ≡ true
   guards_links i e h = by (slice_get nodes e) refl (sym (guarded_same i e) ∙ h) where
     effect : (node : Node) → slice_get nodes e ≡ Some node → (o : Option Derivation)
-        → slice_get ds i ≡ o → is_given (guards topology node) o ≡ true
+        → slice_get ds i ≡ o → some_passes (guards topology node) o ≡ true
         → is_member (effects_if_any (slice_get (map (derived topology nodes) ds) i)) e ≡ true
     effect node s None t given = absurd (false≢true given)
     effect node s (Some d) t given =
         ap (λ (x : Option Instance). is_member (effects_if_any x) e) (mapped_at ds i d t)
         ∙ numbers_member (is_effect d) nodes e
-        ∙ ap (is_given (is_effect d)) s
+        ∙ ap (some_passes (is_effect d)) s
         ∙ (and_parts (is_effect d node) _ given).0
 
     by : (o : Option Node) → slice_get nodes e ≡ o
@@ -439,7 +439,7 @@ module _ (topology : Topology) (nodes : List Node) (ds : List Derivation)
         absurd (false≢true (ap (λ (o : Option Node). is_member (guarded_at topology ds o) i)
         (sym s) ∙ given))
     by (Some node) s given =
-        let number : is_given (guards topology node) (slice_get ds i) ≡ true =
+        let number : some_passes (guards topology node) (slice_get ds i) ≡ true =
         sym (numbers_member (guards topology node) ds i)
         ∙ ap (λ (o : Option Node). is_member (guarded_at topology ds o) i) (sym s) ∙ given in
         effect node s (slice_get ds i) refl number

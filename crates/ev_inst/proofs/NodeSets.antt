@@ -17,7 +17,7 @@ use Rattle.std.proofs.lemmas.Option.{get_or_from_slice_get}
 use Rattle.ev_join.specs.Tables.{RisesFrom}
 use Rattle.ev_incidence.specs.Sets.{is_member}
 use Rattle.ev_events.proofs.Places.{any_found, same_tests, within_is}
-use Rattle.ev_inst.specs.Gathering.{is_given}
+use Rattle.ev_inst.specs.Gathering.{some_passes}
 use Rattle.ev_inst.specs.Outcomes.{numbers_with}
 
 none_below : (n low : ℕ) (xs : List ℕ) → RisesFrom low xs → n < low → is_member xs n ≡ false
@@ -128,7 +128,7 @@ numbers_rise test at (node ∷ more) = elim (cases_Bool (test node)) [
   lower n (x ∷ xs) h = let up = h.0 in (omega (arith, up), h.1)
 
 number_member : {X : Type 0} (test : X → Bool) (at i : ℕ) (nodes : List X)
-    → is_member (numbers_with test at nodes) (at + i) ≡ is_given test (slice_get nodes i)
+    → is_member (numbers_with test at nodes) (at + i) ≡ some_passes test (slice_get nodes i)
 number_member test at i [] = refl
 number_member test at zero (node ∷ more) =
     let same : at + 0 ≡ at = omega arith in
@@ -143,7 +143,7 @@ number_member test at zero (node ∷ more) =
 number_member test at (suc i) (node ∷ more) =
     let same : at + suc i ≡ suc at + i = omega arith in
     let later : is_member (numbers_with test (suc at) more) (at + suc i)
-    ≡ is_given test (slice_get more i) =
+    ≡ some_passes test (slice_get more i) =
     ap (is_member (numbers_with test (suc at) more)) same ∙ number_member test (suc at) i more in
     elim (cases_Bool (test node)) [
       | inl so ↦
@@ -154,7 +154,7 @@ number_member test at (suc i) (node ∷ more) =
     ]
 
 pub numbers_member : {X : Type 0} (test : X → Bool) (nodes : List X) (n : ℕ)
-    → is_member (numbers_with test 0 nodes) n ≡ is_given test (slice_get nodes n)
+    → is_member (numbers_with test 0 nodes) n ≡ some_passes test (slice_get nodes n)
 numbers_member test nodes n =
     let same : n ≡ 0 + n = omega arith in
     ap (is_member (numbers_with test 0 nodes)) same ∙ number_member test 0 n nodes

@@ -36,8 +36,8 @@ use Rattle.ev_events.specs.Placed.{is_before_name}
 use Rattle.ev_events.proofs.Declaring.{ascends_named}
 use Rattle.ev_events.proofs.Finding.{before_trans}
 use Rattle.ev_inst.specs.Gathering.{AreOnPaths, AreOrderedNodes, ArePatternsKnown}
-use Rattle.ev_inst.specs.Gathering.{is_given, is_node_at}
-use Rattle.ev_inst.specs.Gathering.{is_node_on, is_of}
+use Rattle.ev_inst.specs.Gathering.{some_passes, is_node_at}
+use Rattle.ev_inst.specs.Gathering.{is_node_on, is_at_path}
 use Rattle.ev_inst.specs.Outcomes.{is_event_of}
 
 -- ---- places that pass a test
@@ -127,13 +127,13 @@ once names up i j name s t =
     ]
 
 is_of_itself : (class path : List ℕ)
-    → is_of class (Some path) (Some (record { class = class; path = path })) ≡ true
+    → is_at_path class (Some path) (Some (record { class = class; path = path })) ≡ true
 is_of_itself class path =
     and_true (same_name class class) (same_name path path) (same_from class class refl)
     (same_from path path refl)
 
 is_of_same : (class path : List ℕ) (name : EventName)
-    → is_of class (Some path) (Some name) ≡ true → name ≡ record { class = class; path = path }
+    → is_at_path class (Some path) (Some name) ≡ true → name ≡ record { class = class; path = path }
 is_of_same class path name h =
     let p = and_parts (same_name name.class class) (same_name name.path path) h in
     let c = names_same name.class class p.0 in
@@ -148,15 +148,16 @@ module _ (topology : Topology) (nodes : List Node) (ordered : AreOrderedNodes to
       → (n : ℕ) → (m == n) ≡ is_node_at topology nodes class n at
   added class at m path s t n =
       let whole : is_node_at topology nodes class n at
-      ≡ is_of class (Some path) (slice_get (map node_name nodes) n) =
-      ap (λ (o : Option (List ℕ)). is_of class o (slice_get (map node_name nodes) n)) s in
+      ≡ is_at_path class (Some path) (slice_get (map node_name nodes) n) =
+      ap (λ (o : Option (List ℕ)). is_at_path class o (slice_get (map node_name nodes) n)) s in
       same_tests (m == n) (is_node_at topology nodes class n at)
       (λ h. let e = eqb-true m n h in
-      whole ∙ ap (is_of class (Some path)) (ap (slice_get (map node_name nodes)) (sym e) ∙ t)
+      whole ∙ ap (is_at_path class (Some path)) (ap (slice_get (map node_name nodes)) (sym e) ∙ t)
       ∙ is_of_itself class path)
       (λ h. by (slice_get (map node_name nodes) n) refl (sym whole ∙ h)) where
         by : (o : Option EventName) → slice_get (map node_name nodes) n ≡ o
-            → is_of class (Some path) (slice_get (map node_name nodes) n) ≡ true → (m == n) ≡ true
+            → is_at_path class (Some path) (slice_get (map node_name nodes) n) ≡ true
+            → (m == n) ≡ true
         by None e h = absurd (false≢true (rw e at h))
         by (Some name) e h =
             let is = is_of_same class path name (rw e at h) in
@@ -192,7 +193,7 @@ module _ (topology : Topology) (nodes : List Node) (ordered : AreOrderedNodes to
     -- a node is on one of the places just where it is an event of the pattern
     pub event_on : (n : ℕ)
         → is_node_on topology nodes q.class (giving topology vs b q) n
-        ≡ is_given (λ node. is_event_of topology vs b node q) (slice_get nodes n)
+        ≡ some_passes (λ node. is_event_of topology vs b node q) (slice_get nodes n)
     event_on n = by (slice_get nodes n) refl where
       test : ℕ → Bool
       test at = is_node_at topology nodes q.class n at
@@ -208,31 +209,31 @@ module _ (topology : Topology) (nodes : List Node) (ordered : AreOrderedNodes to
 
       by : (o : Option Node) → slice_get nodes n ≡ o
           → is_node_on topology nodes q.class (giving topology vs b q) n
-          ≡ is_given (λ node. is_event_of topology vs b node q) (slice_get nodes n)
+          ≡ some_passes (λ node. is_event_of topology vs b node q) (slice_get nodes n)
       by None e =
           same_tests (list_any test (giving topology vs b q))
-          (is_given (λ node. is_event_of topology vs b node q) (slice_get nodes n))
+          (some_passes (λ node. is_event_of topology vs b node q) (slice_get nodes n))
           (λ h. let found = any_found test (giving topology vs b q) h in
           absurd (false≢true (sym (no_name (slice_get (keys_of topology) found.1)) ∙ found.3)))
           (λ h. absurd (false≢true (rw e at h))) where
             no_name : (o : Option (List ℕ))
-                → is_of q.class o (slice_get (map node_name nodes) n) ≡ false
-            no_name None = ap (is_of q.class None) (none_on None e 0 refl)
-            no_name (Some path) = ap (is_of q.class (Some path)) (none_on None e 0 refl)
+                → is_at_path q.class o (slice_get (map node_name nodes) n) ≡ false
+            no_name None = ap (is_at_path q.class None) (none_on None e 0 refl)
+            no_name (Some path) = ap (is_at_path q.class (Some path)) (none_on None e 0 refl)
       by (Some node) e =
           let named : slice_get (map node_name nodes) n ≡ Some node.name =
           mapped_at nodes n e in
           same_tests (list_any test (giving topology vs b q))
-          (is_given (λ node. is_event_of topology vs b node q) (slice_get nodes n))
+          (some_passes (λ node. is_event_of topology vs b node q) (slice_get nodes n))
           (λ h. let found = any_found test (giving topology vs b q) h in
           let p = place_is (gives topology vs b q) 0 topology found.0 found.1 found.2 in
           let number : slice_get (keys_of topology) found.1 ≡ Some p.1 =
           ap (slice_get (keys_of topology)) (p.2 ∙ (let z : 0 + p.0 ≡ p.0 = omega arith in z)) ∙ p.3
           in
-          let whole : is_of q.class (Some p.1) (Some node.name) ≡ true =
-          (λ i. is_of q.class (sym number i) (sym named i)) ∙ found.3 in
+          let whole : is_at_path q.class (Some p.1) (Some node.name) ≡ true =
+          (λ i. is_at_path q.class (sym number i) (sym named i)) ∙ found.3 in
           let is = is_of_same q.class p.1 node.name whole in
-          ap (is_given (λ node. is_event_of topology vs b node q)) e
+          ap (some_passes (λ node. is_event_of topology vs b node q)) e
           ∙ and_true (same_name node.name.class q.class) (gives topology vs b q node.name.path)
           (same_from node.name.class q.class (ap (λ (x : EventName). x.class) is))
           (ap (λ (x : EventName). gives topology vs b q x.path) is ∙ p.4))
@@ -240,7 +241,7 @@ module _ (topology : Topology) (nodes : List Node) (ordered : AreOrderedNodes to
           let p = and_parts (same_name node.name.class q.class) _ event in
           let placed = ordered.placed n node e in
           in_places test (gives topology vs b q) 0 topology placed.0 node.name.path placed.1 p.1
-          ((λ i. is_of q.class ((ap (slice_get (keys_of topology))
+          ((λ i. is_at_path q.class ((ap (slice_get (keys_of topology))
           (let z : 0 + placed.0 ≡ placed.0 = omega arith in z) ∙ placed.1) i) (named i))
           ∙ and_true (same_name node.name.class q.class) (same_name node.name.path node.name.path)
           p.0 (same_from node.name.path node.name.path refl))) where

@@ -25,7 +25,7 @@ use Rattle.ev_inst.specs.Asked.{AreEventsOf, AreEventsOfAll, AreGivenAt, asked_b
 use Rattle.ev_guards.specs.Watched.{Asked}
 use Rattle.ev_guards.specs.Watched.{Guarded, view_question}
 use Rattle.ev_inst.specs.Asked.{asked_of, guard_if}
-use Rattle.ev_inst.specs.Gathering.{AreOrderedNodes, IsSideReady, is_given}
+use Rattle.ev_inst.specs.Gathering.{AreOrderedNodes, IsSideReady, some_passes}
 use Rattle.ev_inst.specs.Gathering.{is_node_on}
 use Rattle.ev_inst.specs.Guarding.{asks_if, is_guard}
 use Rattle.ev_inst.specs.Outcomes.{is_event_of}
@@ -101,7 +101,7 @@ module _ (topology : Topology) (nodes : List Node) (vs : List (List ℕ)) (b : L
   given_at e node s (q ∷ qs) (xs ∷ given) h = (
     h.0.ascend,
     (
-      h.0.members e ∙ ap (is_given (λ n. is_event_of topology vs b n q)) s,
+      h.0.members e ∙ ap (some_passes (λ n. is_event_of topology vs b n q)) s,
       given_at e node s qs given h.1,
     ),
   )

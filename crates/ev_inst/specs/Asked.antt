@@ -9,7 +9,7 @@ use Rattle.ev_incidence.specs.Sets.{ascends, is_member}
 use Rattle.ev_graph.specs.declared.nodes.Node.{Node}
 use Rattle.ev_events.specs.Names.{iterators}
 use Rattle.ev_events.specs.Asking.{condition_names}
-use Rattle.ev_inst.specs.Gathering.{is_given}
+use Rattle.ev_inst.specs.Gathering.{some_passes}
 use Rattle.ev_inst.specs.Guarding.{Derivation, derivation, derivations, is_guarded_by}
 use Rattle.ev_inst.specs.Instances.{AreCandidatesOf}
 use Rattle.ev_inst.specs.Outcomes.{events_of, is_event_of, is_made}
@@ -36,7 +36,7 @@ pub record AreEventsOf (topology : Topology) (nodes : List Node) (vs : List (Lis
     (b : List ℕ) (q : Pattern) (xs : List ℕ) : Type 0 where
   pub ascend : ascends xs ≡ true
   pub members : (n : ℕ) → is_member xs n
-      ≡ is_given (λ node. is_event_of topology vs b node q) (slice_get nodes n)
+      ≡ some_passes (λ node. is_event_of topology vs b node q) (slice_get nodes n)
 
 abbrev pub AreEventsOfAll : Topology → List Node → List (List ℕ) → List ℕ → List Pattern
     → List (List ℕ) → Type 0

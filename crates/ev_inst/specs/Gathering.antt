@@ -36,14 +36,14 @@ pub record AreOrderedNodes (topology : Topology) (nodes : List Node) : Type 0 wh
       → (at : ℕ) × (slice_get (keys_of topology) at ≡ Some node.name.path)
 
 -- the name is of the class, at the path
-abbrev pub is_of : List ℕ → Option (List ℕ) → Option EventName → Bool
-is_of class (Some path) (Some name) = same_name name.class class && same_name name.path path
-is_of class _ _ = false
+abbrev pub is_at_path : List ℕ → Option (List ℕ) → Option EventName → Bool
+is_at_path class (Some path) (Some name) = same_name name.class class && same_name name.path path
+is_at_path class _ _ = false
 
 -- the node of a number is of the class, at the path of a number
 abbrev pub is_node_at : Topology → List Node → List ℕ → ℕ → ℕ → Bool
 is_node_at topology nodes class n at =
-    is_of class (slice_get (keys_of topology) at) (slice_get (map node_name nodes) n)
+    is_at_path class (slice_get (keys_of topology) at) (slice_get (map node_name nodes) n)
 
 -- at one of the paths of these numbers
 abbrev pub is_node_on : Topology → List Node → List ℕ → List ℕ → ℕ → Bool
@@ -64,15 +64,15 @@ pub record ArePatternsKnown (topology : Topology) (nodes : List Node) (qs : List
       → IsAmongNames (map node_name nodes) (record { class = q.class; path = path })
 
 -- what stands at a place is there and passes a test
-abbrev pub is_given : {X : Type 0} → (X → Bool) → Option X → Bool
-is_given test None = false
-is_given test (Some x) = test x
+abbrev pub some_passes : {X : Type 0} → (X → Bool) → Option X → Bool
+some_passes test None = false
+some_passes test (Some x) = test x
 
 -- it is an event of one of the patterns
 abbrev pub is_event_number : Topology → List Node → List (List ℕ) → List ℕ → List Pattern → ℕ
     → Bool
 is_event_number topology nodes vs b qs n =
-    is_given (is_event_among topology vs b qs) (slice_get nodes n)
+    some_passes (is_event_among topology vs b qs) (slice_get nodes n)
 
 -- the fitting paths of patterns, counted
 abbrev pub fitting_links : Topology → List (List ℕ) → List ℕ → List Pattern → ℕ

@@ -53,9 +53,9 @@ abbrev pub is_dropped : Topology → Linking → List ℕ → Bool
 is_dropped topology l b = list_any (is_bare topology (iterators l) b) (patterns_of l)
 
 -- the number at an arrow, `A` being all of so many
-abbrev pub count_of : Count → ℕ → ℕ
-count_of counts.All all = all
-count_of (counts.Number n) all = n
+abbrev pub count_at_arrow : Count → ℕ → ℕ
+count_at_arrow counts.All all = all
+count_at_arrow (counts.Number n) all = n
 
 -- the instance of causes and effects: `A` for N is the number of the effects, and for K that of
 -- the causes
@@ -63,8 +63,8 @@ abbrev pub instance_with : List ℕ → List ℕ → Count → Count → Instanc
 instance_with causes effects n k = record {
   causes = causes;
   effects = effects;
-  n = count_of n (length effects);
-  k = count_of k (length causes);
+  n = count_at_arrow n (length effects);
+  k = count_at_arrow k (length causes);
 }
 
 -- the instance that a candidate comes to where it is not dropped

@@ -23,7 +23,7 @@ use Rattle.ev_graph.specs.declared.nodes.Node.{Node}
 use Rattle.ev_graph.specs.declared.nodes.NodeKind.{NodeKind}
 use Rattle.ev_graph.specs.declared.nodes.NodeKind.TheVariants as nodes
 use Rattle.ev_graph.specs.declared.nodes.EngineSpec.{EngineSpec}
-use Rattle.ev_events.specs.Placed.{IsAmongNames, IsAt, is_before_name}
+use Rattle.ev_events.specs.Placed.{IsAmongNames, IsDeclaredAt, is_before_name}
 use Rattle.ev_events.specs.Nodes.{AreEngines, AreNodes, IsEngineAt, IsKindAt, engine_name}
 use Rattle.ev_events.specs.Nodes.{node_name, spec_engine}
 use Rattle.ev_events.proofs.Declaring.{ascends_named, map_long}
@@ -48,7 +48,7 @@ names_one xs ys up down own other =
 
 -- what is declared at a name is determined
 declared_one : (topology : Topology) (d e : Declared) (a b : EventName) → a ≡ b
-    → IsAt topology d a → IsAt topology e b → d ≡ e
+    → IsDeclaredAt topology d a → IsDeclaredAt topology e b → d ≡ e
 declared_one topology d e a b same at other =
     let class : d.class ≡ e.class =
     sym at.class ∙ ap (λ (n : EventName). n.class) same ∙ other.class in

@@ -11,7 +11,7 @@ use Rattle.std.proofs.lemmas.Option.{slice_get_within}
 use Rattle.ev_join.specs.declared.table.Row.{Row}
 use Rattle.ev_join.specs.Order.{IsNotBefore, AreSmall, is_begun, placing}
 use Rattle.ev_join.specs.Tables.{TableValue, HasRow, bound_values, rows_at}
-use Rattle.ev_join.specs.Candidates.{HasRows, IsCandidate, AreCandidates, AreAllCandidates, IsAmong}
+use Rattle.ev_join.specs.Candidates.{HasRows, IsJoined, AreJoined, AreAllCandidates, IsAmong}
 use Rattle.ev_join.specs.Candidates.{links_at}
 use Rattle.ev_join.specs.Search.{IsOpen, IsFirstCandidate, HasNoCandidate, IsRaised}
 use Rattle.ev_join.proofs.Ordering.{goes_any, not_before_trans}
@@ -68,14 +68,14 @@ raised_or_same (a ∷ q) (z ∷ c) x len (inr (e, p)) =
 pub record Collected (tables : List TableValue) (n : ℕ) (front : List ℕ) (value : ℕ)
     (bs : List (List ℕ)) : Type 0 where
   pub opened : IsOpen tables n front value
-  pub candidates : AreCandidates tables n bs
+  pub candidates : AreJoined tables n bs
   pub before : (i : ℕ) (b : List ℕ) → slice_get bs i ≡ Some b
       → IsNotBefore b (front ++ value ∷ []) → ⊥
-  pub rest : (c : List ℕ) → IsCandidate tables n c
+  pub rest : (c : List ℕ) → IsJoined tables n c
       → IsAmong c bs ⊎ IsNotBefore c (front ++ value ∷ [])
 
 module _ (tables : List TableValue) (n : ℕ) where
-  none_yet : AreCandidates tables n []
+  none_yet : AreJoined tables n []
   none_yet = record {
     each = λ i b at. absurd (let no : ⊥ = cc in no);
     ascend = λ i j a b less at to p. absurd (let no : ⊥ = cc in no);
@@ -88,7 +88,7 @@ module _ (tables : List TableValue) (n : ℕ) where
     before = λ i b at p. absurd (let no : ⊥ = cc in no);
     rest = λ c h. inr (whole c h);
   } where
-    whole : (c : List ℕ) → IsCandidate tables n c → IsNotBefore c (0 ∷ [])
+    whole : (c : List ℕ) → IsJoined tables n c → IsNotBefore c (0 ∷ [])
     whole [] h = absurd (omega (arith, h.full, wide))
     whole (z ∷ c) h = goes_any [] c 0 z (omega arith)
 
@@ -99,11 +99,11 @@ module _ (tables : List TableValue) (n : ℕ) where
     earlier : (i : ℕ) (a : List ℕ) → slice_get bs i ≡ Some a → IsNotBefore a b → ⊥
     earlier i a at p = h.before i a at (not_before_trans a b (front ++ value ∷ []) p first.from)
 
-    pub candidates_more : AreCandidates tables n (bs ++ b ∷ [])
+    pub candidates_more : AreJoined tables n (bs ++ b ∷ [])
     candidates_more = record {
       each = λ i a at. elim (at_more bs b a i at) [
         | inl old ↦ h.candidates.each i a old
-        | inr new ↦ subst (IsCandidate tables n) new.1 first.candidate
+        | inr new ↦ subst (IsJoined tables n) new.1 first.candidate
       ];
       ascend = λ i j a c less at to p. elim (at_more bs b c j to) [
         | inl old ↦ elim (at_more bs b a i at) [
@@ -182,7 +182,7 @@ whole_only tables rows = record {
   candidates = record {
     each = λ i b at. elim (at_more [] [] b i at) [
       | inl old ↦ absurd (let no : ⊥ = cc in no)
-      | inr new ↦ subst (IsCandidate tables 0) new.1
+      | inr new ↦ subst (IsJoined tables 0) new.1
           (record { full = refl; small = tt; fits = rows })
     ];
     ascend = λ i j a b less at to p. elim (at_more [] [] b j to) [

@@ -6,7 +6,7 @@ use Rattle.std.proofs.lemmas.Bool.{cases_Bool}
 use Rattle.std.proofs.lemmas.Grind.{common_steps}
 use Rattle.ev_join.specs.Order.{AreSmall}
 use Rattle.ev_join.specs.Tables.{TableValue}
-use Rattle.ev_join.specs.Candidates.{HasRows, IsCandidate}
+use Rattle.ev_join.specs.Candidates.{HasRows, IsJoined}
 use Rattle.ev_join.specs.Search.{IsLeastFrom, GoesOn, IsOpen, IsFirstCandidate, HasNoCandidate}
 use Rattle.ev_join.specs.Search.{MovesTo, steps_left}
 use Rattle.ev_join.proofs.Ordering.{GoesFrom, IsPast, parts, past_any, goes_any, goes_back, raised}
@@ -31,7 +31,7 @@ small_front (x ∷ p) more h = (h.0, small_front p more h.1)
 -- ---- turns
 module _ (tables : List TableValue) (n : ℕ) where
   -- a candidate that goes on from a beginning shows a number with which that goes on
-  goes_on : (c front : List ℕ) (y : ℕ) → IsCandidate tables n c → (g : GoesFrom c front y)
+  goes_on : (c front : List ℕ) (y : ℕ) → IsJoined tables n c → (g : GoesFrom c front y)
       → GoesOn tables front g.value
   goes_on c front y h g = record {
     small = small_at front g.more g.value (subst AreSmall g.is h.small);
@@ -80,7 +80,7 @@ module _ (tables : List TableValue) (n : ℕ) where
   }
 
   -- a whole binding that fits is the first candidate
-  pub is_first : (old b : List ℕ) → IsCandidate tables n b → MovesTo tables n old b
+  pub is_first : (old b : List ℕ) → IsJoined tables n b → MovesTo tables n old b
       → IsFirstCandidate tables n old b
   is_first old b h m = record {
     candidate = h;
@@ -122,7 +122,7 @@ module _ (tables : List TableValue) (n : ℕ) where
 
   pub full_candidate : (front : List ℕ) (x v : ℕ) → IsOpen tables n front x
       → IsLeastFrom (GoesOn tables front) x (Some v) → length (front ++ v ∷ []) ≡ n
-      → IsCandidate tables n (front ++ v ∷ [])
+      → IsJoined tables n (front ++ v ∷ [])
   full_candidate front x v h least full = record {
     full = full;
     small = small_push front v h.small least.1.0.small;

@@ -11,14 +11,14 @@ pub record HasRows (tables : List TableValue) (b : List ℕ) : Type 0 where
 
 -- a binding, which gives an instance below 2 ^ 32 to each of n iterators, with which each table has
 -- a row
-pub record IsCandidate (tables : List TableValue) (n : ℕ) (b : List ℕ) : Type 0 where
+pub record IsJoined (tables : List TableValue) (n : ℕ) (b : List ℕ) : Type 0 where
   pub full : length b ≡ n
   pub small : AreSmall b
   pub fits : HasRows tables b
 
 -- candidates, each once, in order
-pub record AreCandidates (tables : List TableValue) (n : ℕ) (bs : List (List ℕ)) : Type 0 where
-  pub each : (i : ℕ) (b : List ℕ) → slice_get bs i ≡ Some b → IsCandidate tables n b
+pub record AreJoined (tables : List TableValue) (n : ℕ) (bs : List (List ℕ)) : Type 0 where
+  pub each : (i : ℕ) (b : List ℕ) → slice_get bs i ≡ Some b → IsJoined tables n b
   pub ascend : (i j : ℕ) (a b : List ℕ) → i < j → slice_get bs i ≡ Some a
       → slice_get bs j ≡ Some b → IsNotBefore a b → ⊥
 
@@ -29,8 +29,8 @@ pub record IsAmong (b : List ℕ) (bs : List (List ℕ)) : Type 0 where
 
 -- all candidates, each once, in order
 pub record AreAllCandidates (tables : List TableValue) (n : ℕ) (bs : List (List ℕ)) : Type 0 where
-  pub candidates : AreCandidates tables n bs
-  pub all : (c : List ℕ) → IsCandidate tables n c → IsAmong c bs
+  pub candidates : AreJoined tables n bs
+  pub all : (c : List ℕ) → IsJoined tables n c → IsAmong c bs
 
 -- the same bindings in order
 pub record AreInOrder (bs cs : List (List ℕ)) : Type 0 where

@@ -5,7 +5,7 @@ use Rattle.std.specs.List.{AllWithin}
 use Rattle.ev_join.specs.declared.table.Row.{Row}
 use Rattle.ev_join.specs.Order.{IsNotBefore, AreSmall, is_not_before}
 use Rattle.ev_join.specs.Tables.{TableValue}
-use Rattle.ev_join.specs.Candidates.{HasRows, IsCandidate}
+use Rattle.ev_join.specs.Candidates.{HasRows, IsJoined}
 
 -- the least number from x on that has P; none has it
 abbrev pub IsLeastFrom : (ℕ → Type 0) → ℕ → Option ℕ → Type 0
@@ -41,18 +41,18 @@ pub record IsOpen (tables : List TableValue) (n : ℕ) (front : List ℕ) (value
 
 -- the first candidate from a list on
 pub record IsFirstCandidate (tables : List TableValue) (n : ℕ) (old b : List ℕ) : Type 0 where
-  pub candidate : IsCandidate tables n b
+  pub candidate : IsJoined tables n b
   pub from : IsNotBefore b old
-  pub least : (c : List ℕ) → IsCandidate tables n c → IsNotBefore c old → IsNotBefore c b
+  pub least : (c : List ℕ) → IsJoined tables n c → IsNotBefore c old → IsNotBefore c b
 
 -- there is none
 pub record HasNoCandidate (tables : List TableValue) (n : ℕ) (old : List ℕ) : Type 0 where
-  pub none : (c : List ℕ) → IsCandidate tables n c → IsNotBefore c old → ⊥
+  pub none : (c : List ℕ) → IsJoined tables n c → IsNotBefore c old → ⊥
 
 -- the same candidates stand from either list on
 pub record MovesTo (tables : List TableValue) (n : ℕ) (old new : List ℕ) : Type 0 where
-  pub on : (c : List ℕ) → IsCandidate tables n c → IsNotBefore c old → IsNotBefore c new
-  pub back : (c : List ℕ) → IsCandidate tables n c → IsNotBefore c new → IsNotBefore c old
+  pub on : (c : List ℕ) → IsJoined tables n c → IsNotBefore c old → IsNotBefore c new
+  pub back : (c : List ℕ) → IsJoined tables n c → IsNotBefore c new → IsNotBefore c old
 
 -- how many beginnings of n numbers there are at most from a list on: a bound on the steps of a
 -- search

@@ -2,7 +2,7 @@
 
 ghost use Rattle.std.specs.Prelude.{◌≡◌, ◌<◌, ◌+◌, ◌++◌, ◌∷◌, [], List, ℕ, length, sum_by, IfOk};
 ghost use Rattle.std.specs.Prelude.{IfErr, MatchBool, MatchOption};
-ghost use Rattle.ev_join.specs.Candidates.{AreAllCandidates, AreCandidates, HasRows, links_at};
+ghost use Rattle.ev_join.specs.Candidates.{AreAllCandidates, AreJoined, HasRows, links_at};
 ghost use Rattle.ev_join.specs.Search.{IsRaised};
 ghost use Rattle.ev_join.specs.declared.join_fault.JoinFault.TheVariants.{Links};
 
@@ -76,7 +76,7 @@ fn collect(alloc: Global, tables: &[Table], count: usize, limit: u64) -> Result<
     ensures left { IfOk result
         (λ joined. joined.left + sum_by (links_at tables.now) joined.bindings ≡ limit) }
     ensures many { IfErr result (λ fault. fault ≡ Links → (bs : List (List ℕ))
-        × (AreCandidates tables.now count bs × (limit < sum_by (links_at tables.now) bs))) }
+        × (AreJoined tables.now count bs × (limit < sum_by (links_at tables.now) bs))) }
 {
     let mut bindings = Items::new(Vec::new(alloc));
     let mut front = Vec::new(alloc);
@@ -102,7 +102,7 @@ fn join_whole(alloc: Global, tables: &[Table], limit: u64) -> Result<Joined, Joi
     ensures left { IfOk result
         (λ joined. joined.left + sum_by (links_at tables.now) joined.bindings ≡ limit) }
     ensures many { IfErr result (λ fault. fault ≡ Links → (bs : List (List ℕ))
-        × (AreCandidates tables.now 0 bs × (limit < sum_by (links_at tables.now) bs))) }
+        × (AreJoined tables.now 0 bs × (limit < sum_by (links_at tables.now) bs))) }
 {
     let Some(left) = less_links(tables, &[], limit) else {
         return Err(JoinFault::Links);
@@ -121,7 +121,7 @@ pub fn join(alloc: Global, tables: &[Table], count: usize, limit: u64) -> Result
     ensures left { IfOk result
         (λ joined. joined.left + sum_by (links_at tables.now) joined.bindings ≡ limit) }
     ensures many { IfErr result (λ fault. fault ≡ Links → (bs : List (List ℕ))
-        × (AreCandidates tables.now count bs × (limit < sum_by (links_at tables.now) bs))) }
+        × (AreJoined tables.now count bs × (limit < sum_by (links_at tables.now) bs))) }
 {
     if !have_rows(tables) {
         let bindings = Items::new(Vec::new(alloc));

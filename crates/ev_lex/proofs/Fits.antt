@@ -11,7 +11,7 @@ use Rattle.std.proofs.lemmas.Option.{same_Some}
 use Rattle.std.proofs.lemmas.Bool.Decides.{nat_tests}
 use Rattle.ev_lex.specs.Bytes.{count_while, opens, is_word_byte, is_text_byte, is_in_line, is_blank}
 use Rattle.ev_lex.specs.Bytes.{int_value}
-use Rattle.ev_lex.specs.Pieces.{goes_on, word_length, word_piece, number_piece, text_piece}
+use Rattle.ev_lex.specs.Pieces.{is_in_word, word_length, word_piece, number_piece, text_piece}
 use Rattle.ev_lex.specs.Pieces.{punct_piece, comment_piece, parts_fit, is_unit, opens_pair}
 use Rattle.ev_lex.specs.Pieces.{opens_single, closing, piece, size}
 use Rattle.ev_lex.specs.declared.piece.Piece.{Piece}
@@ -48,7 +48,7 @@ count_while-cons test b bs e =
 pub word_length-le : (text : List ℕ) → word_length text ≤ length text
 word_length-le [] = omega arith
 word_length-le (b ∷ bs) =
-    choose (goes_on b bs) (1 + word_length bs) 0 (word_length (b ∷ bs)) refl
+    choose (is_in_word b bs) (1 + word_length bs) 0 (word_length (b ∷ bs)) refl
     (λ t e. omega (arith, e, word_length-le bs)) (λ f e. omega (arith, e))
 
 both_open : (b : ℕ) (bs : List ℕ) → (b == 42 && opens 47 bs) ≡ true → 1 ≤ length bs
@@ -74,7 +74,7 @@ closing-le (b ∷ bs) n e =
 
 word_first : (b : ℕ) (bs : List ℕ) → is_ascii_alphabetic b ≡ true → 0 < word_length (b ∷ bs)
 word_first b bs t =
-    let on : goes_on b bs ≡ true = grind (arith, nat_tests) in
+    let on : is_in_word b bs ≡ true = grind (arith, nat_tests) in
     let more : word_length (b ∷ bs) ≡ 1 + word_length bs = rw on refl in
     omega (arith, more)
 

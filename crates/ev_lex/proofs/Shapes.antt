@@ -17,8 +17,9 @@ use Rattle.std.proofs.lemmas.Option.{same_Some}
 use Rattle.std.proofs.lemmas.Bool.Decides.{nat_tests}
 use Rattle.ev_lex.specs.Bytes.{count_while, opens, opens_word, is_word_byte, is_text_byte}
 use Rattle.ev_lex.specs.Bytes.{int_value}
-use Rattle.ev_lex.specs.Pieces.{goes_on, word_length, word_piece, number_piece, text_piece}
-use Rattle.ev_lex.specs.Pieces.{punct_piece, comment_piece, closing, parts_fit, is_unit, is_pair}
+use Rattle.ev_lex.specs.Pieces.{is_in_word, word_length, word_piece, number_piece, text_piece}
+use Rattle.ev_lex.specs.Pieces.{punct_piece, comment_piece, closing, parts_fit}
+use Rattle.ev_lex.specs.Pieces.{is_unit, is_double_sign}
 use Rattle.ev_lex.specs.Pieces.{is_single, opens_pair, opens_single, piece, size, line_after}
 use Rattle.ev_lex.specs.Cut.{IsCut, AreTokens, lexeme, tokens_from}
 use Rattle.ev_lex.specs.Forms.{belongs, IsWord, IsNumber, IsInt, IsTime, IsText, IsPunct, IsForm}
@@ -84,17 +85,17 @@ opens_is (b ∷ bs) = refl
 
 -- ---- words
 
-long : (b : ℕ) (bs : List ℕ) → goes_on b bs ≡ true → word_length (b ∷ bs) ≡ suc (word_length bs)
+long : (b : ℕ) (bs : List ℕ) → is_in_word b bs ≡ true → word_length (b ∷ bs) ≡ suc (word_length bs)
 long b bs e =
     let more : word_length (b ∷ bs) ≡ 1 + word_length bs = rw e refl in omega (arith, more)
 
-over : (b : ℕ) (bs : List ℕ) → goes_on b bs ≡ false → word_length (b ∷ bs) ≡ 0
+over : (b : ℕ) (bs : List ℕ) → is_in_word b bs ≡ false → word_length (b ∷ bs) ≡ 0
 over b bs e = rw e refl
 
-letter_on : (b : ℕ) (bs : List ℕ) → is_ascii_alphabetic b ≡ true → goes_on b bs ≡ true
+letter_on : (b : ℕ) (bs : List ℕ) → is_ascii_alphabetic b ≡ true → is_in_word b bs ≡ true
 letter_on b bs t = grind (arith, nat_tests)
 
-byte_on : (b : ℕ) (bs : List ℕ) → is_word_byte b ≡ true → goes_on b bs ≡ true
+byte_on : (b : ℕ) (bs : List ℕ) → is_word_byte b ≡ true → is_in_word b bs ≡ true
 byte_on b bs t = rw t refl
 
 -- what follows a byte of the word, as far as it is in the word
@@ -102,19 +103,20 @@ opens_kept : (bs : List ℕ) → opens_word (take (word_length bs) bs) ≡ opens
 opens_kept [] = refl
 opens_kept (c ∷ cs) = by_test (is_word_byte c)
     (λ t. rw (long c cs (byte_on c cs t)) refl)
-    (λ f. by_test (goes_on c cs) (λ g. rw (long c cs g) refl) (λ g. rw (over c cs g) (sym f)))
+    (λ f. by_test (is_in_word c cs) (λ g. rw (long c cs g) refl) (λ g. rw (over c cs g) (sym f)))
 
-on_kept : (b : ℕ) (bs : List ℕ) → goes_on b bs ≡ true → goes_on b (take (word_length bs) bs) ≡ true
+on_kept : (b : ℕ) (bs : List ℕ) → is_in_word b bs ≡ true
+    → is_in_word b (take (word_length bs) bs) ≡ true
 on_kept b bs e = ap (λ o. is_word_byte b || ((b == 45 || b == 46) && o)) (opens_kept bs) ∙ e
 
-word_step : (c : ℕ) (cs front : List ℕ) (b : ℕ) (back : List ℕ) → goes_on c cs ≡ true
-    → ((f : List ℕ) → take (word_length cs) cs ≡ f ++ b ∷ back → goes_on b back ≡ true)
-    → c ∷ take (word_length cs) cs ≡ front ++ b ∷ back → goes_on b back ≡ true
+word_step : (c : ℕ) (cs front : List ℕ) (b : ℕ) (back : List ℕ) → is_in_word c cs ≡ true
+    → ((f : List ℕ) → take (word_length cs) cs ≡ f ++ b ∷ back → is_in_word b back ≡ true)
+    → c ∷ take (word_length cs) cs ≡ front ++ b ∷ back → is_in_word b back ≡ true
 word_step c cs [] b back t more h =
     let first : c ≡ b = cc in
     let others : take (word_length cs) cs ≡ back = cc in
-    subst (λ x. goes_on x back ≡ true) first
-    (subst (λ l. goes_on c l ≡ true) others (on_kept c cs t))
+    subst (λ x. is_in_word x back ≡ true) first
+    (subst (λ l. is_in_word c l ≡ true) others (on_kept c cs t))
 word_step c cs (x ∷ f) b back t more h =
     let others : take (word_length cs) cs ≡ f ++ b ∷ back = cc in more f others
 
@@ -122,16 +124,16 @@ nothing : (front : List ℕ) (b : ℕ) (back : List ℕ) → [] ≡ front ++ b �
 nothing front b back e = omega (arith, ap length e, length-append front (b ∷ back))
 
 word_inside : (text front : List ℕ) (b : ℕ) (back : List ℕ)
-    → take (word_length text) text ≡ front ++ b ∷ back → goes_on b back ≡ true
+    → take (word_length text) text ≡ front ++ b ∷ back → is_in_word b back ≡ true
 word_inside [] front b back e = absurd (nothing front b back e)
-word_inside (c ∷ cs) front b back e = by_test (goes_on c cs)
+word_inside (c ∷ cs) front b back e = by_test (is_in_word c cs)
     (λ t. word_step c cs front b back t (λ f h. word_inside cs f b back h)
     (sym (ap (λ n. take n (c ∷ cs)) (long c cs t)) ∙ e))
     (λ f. absurd (nothing front b back (sym (ap (λ n. take n (c ∷ cs)) (over c cs f)) ∙ e)))
 
 word_ends : (text : List ℕ) → belongs (drop (word_length text) text) ≡ false
 word_ends [] = refl
-word_ends (c ∷ cs) = by_test (goes_on c cs)
+word_ends (c ∷ cs) = by_test (is_in_word c cs)
     (λ t. rw (long c cs t) (word_ends cs)) (λ f. rw (over c cs f) f)
 
 word_form : (b : ℕ) (bs : List ℕ) (p : Piece) → is_ascii_alphabetic b ≡ true
@@ -258,7 +260,7 @@ single_form (a ∷ c ∷ cs) f t = inr (
   a,
   refl,
   t,
-  λ b bs e. let same : c ≡ b = cc in subst (λ x. is_pair a x ≡ false) same f,
+  λ b bs e. let same : c ≡ b = cc in subst (λ x. is_double_sign a x ≡ false) same f,
 )
 
 punct_form : (b : ℕ) (bs : List ℕ) (p : Piece) → punct_piece (b ∷ bs) ≡ Some p → Formed (b ∷ bs) p

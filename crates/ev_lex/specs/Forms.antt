@@ -5,7 +5,7 @@ use Rattle.std.specs.Prelude.{List, [], ◌∷◌, ◌++◌, length, take, drop,
 use Rattle.std.specs.Char.{is_ascii_alphabetic}
 use Rattle.std.specs.List.{list_all}
 use Rattle.ev_lex.specs.Bytes.{opens_word, is_text_byte, int_value}
-use Rattle.ev_lex.specs.Pieces.{goes_on, parts_fit, is_unit, is_pair, is_single}
+use Rattle.ev_lex.specs.Pieces.{is_in_word, parts_fit, is_unit, is_double_sign, is_single}
 use Rattle.ev_lex.specs.Cut.{AreTokens}
 use Rattle.ev_lex.specs.declared.token.Kind.{Kind}
 use Rattle.ev_lex.specs.declared.token.Kind.TheVariants as kinds
@@ -14,14 +14,14 @@ use Rattle.ev_lex.specs.declared.token.Token.{Token}
 -- the first byte belongs to a word
 abbrev pub belongs : List ℕ → Bool
 belongs [] = false
-belongs (b ∷ bs) = goes_on b bs
+belongs (b ∷ bs) = is_in_word b bs
 
 -- A Word begins with a letter. Each of its bytes is a letter, a digit or `_`, or a `-` or `.` with
 -- one of these behind it in the word, and no byte that belongs to it follows. It keeps the limits.
 pub record IsWord (bytes after : List ℕ) : Type 0 where
   pub letter : (b : ℕ) × (bs : List ℕ) × (bytes ≡ b ∷ bs) × (is_ascii_alphabetic b ≡ true)
   pub inside : (front : List ℕ) (b : ℕ) (back : List ℕ) → bytes ≡ front ++ b ∷ back
-      → goes_on b back ≡ true
+      → is_in_word b back ≡ true
   pub ends : belongs after ≡ false
   pub short : length bytes ≤ 255
   pub parts : parts_fit bytes ≡ true
@@ -54,9 +54,9 @@ pub record IsText (bytes : List ℕ) : Type 0 where
 -- punctuation of two bytes, or of one that doesn't stand before the second of two
 abbrev pub IsPunct : List ℕ → List ℕ → Type 0
 IsPunct bytes after =
-    ((a : ℕ) × (b : ℕ) × (bytes ≡ a ∷ b ∷ []) × (is_pair a b ≡ true))
+    ((a : ℕ) × (b : ℕ) × (bytes ≡ a ∷ b ∷ []) × (is_double_sign a b ≡ true))
     ⊎ ((a : ℕ) × (bytes ≡ a ∷ []) × (is_single a ≡ true)
-    × ((b : ℕ) (bs : List ℕ) → after ≡ b ∷ bs → is_pair a b ≡ false))
+    × ((b : ℕ) (bs : List ℕ) → after ≡ b ∷ bs → is_double_sign a b ≡ false))
 
 -- a token of each kind
 abbrev pub IsForm : Kind → List ℕ → List ℕ → Type 0

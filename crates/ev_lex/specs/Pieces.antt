@@ -14,13 +14,13 @@ use Rattle.ev_lex.specs.declared.piece.Piece.TheVariants as pieces
 
 -- The byte belongs to a word, of which bs follow: a letter, a digit or `_`, or a `-` or `.` before
 -- one of these.
-abbrev pub goes_on : ℕ → List ℕ → Bool
-goes_on b bs = is_word_byte b || ((b == 45 || b == 46) && opens_word bs)
+abbrev pub is_in_word : ℕ → List ℕ → Bool
+is_in_word b bs = is_word_byte b || ((b == 45 || b == 46) && opens_word bs)
 
 -- how many bytes from the front on belong to a word
 abbrev pub word_length : List ℕ → ℕ
 word_length [] = 0
-word_length (b ∷ bs) = if goes_on b bs then 1 + word_length bs else 0
+word_length (b ∷ bs) = if is_in_word b bs then 1 + word_length bs else 0
 
 -- no part between dots has over 32 bytes
 abbrev pub parts_fit : List ℕ → Bool
@@ -64,8 +64,8 @@ text_piece rest =
     if opens 34 (drop n rest) then Some (pieces.Lexeme kinds.Text (n + 2)) else None
 
 -- punctuation of two bytes
-abbrev pub is_pair : ℕ → ℕ → Bool
-is_pair a b =
+abbrev pub is_double_sign : ℕ → ℕ → Bool
+is_double_sign a b =
     ((((((a == 45 && b == 62) || (a == 60 && b == 61)) || (a == 62 && b == 61)) ||
     (a == 61 && b == 61))
     || (a == 33 && b == 61)) || (a == 38 && b == 38)) || (a == 124 && b == 124)
@@ -81,7 +81,7 @@ is_single a =
 abbrev pub opens_pair : List ℕ → Bool
 opens_pair [] = false
 opens_pair (a ∷ []) = false
-opens_pair (a ∷ b ∷ others) = is_pair a b
+opens_pair (a ∷ b ∷ others) = is_double_sign a b
 
 -- the first byte is punctuation of one byte
 abbrev pub opens_single : List ℕ → Bool

@@ -22,7 +22,7 @@ use Rattle.ev_tree.specs.declared.tree.EventAttr.TheVariants as event_attrs
 use Rattle.ev_tree.specs.declared.tree.Operand.TheVariants as operands
 use Rattle.ev_tree.specs.declared.tree.TimeWord.{TimeWord}
 use Rattle.ev_tree.specs.declared.tree.Unit.TheVariants as units
-use Rattle.ev_parse.specs.Read.{Read, opens_at, is, is_word, closed_at, more_at}
+use Rattle.ev_parse.specs.Read.{Got, opens_at, is, is_word, closed_at, more_at}
 use Rattle.ev_parse.specs.Reading.{pick_name, pick_class, pick_int, pick_time, pick_text}
 use Rattle.ev_parse.specs.Reading.{comparison, pick_compare, is_int, opens_name, any_token, name_at}
 use Rattle.ev_parse.specs.Reading.{class_at, int_at, time_at, text_at, compare_at, declared_of}
@@ -443,12 +443,12 @@ both_signs = codes "&&" ∷ sum_signs
 abbrev cond_signs : List (List ℕ)
 cond_signs = codes "||" ∷ both_signs
 
-pub both_law : {u : List Tok → Read Condition} {U : Condition → Lang} → Law u U (among sum_signs)
+pub both_law : {u : List Tok → Got Condition} {U : Condition → Lang} → Law u U (among sum_signs)
     → Law (all_of_at u) (both U) (among both_signs)
 unfolding all_of_at both
 both_law l = making (gather all) (by_sign (codes "&&") sum_signs refl l)
 
-pub cond_law : {u : List Tok → Read Condition} {U : Condition → Lang} → Law u U (among sum_signs)
+pub cond_law : {u : List Tok → Got Condition} {U : Condition → Lang} → Law u U (among sum_signs)
     → Law (any_of_at u) (cond U) (among cond_signs)
 unfolding any_of_at cond
 cond_law l = making (gather any) (by_sign (codes "||") both_signs refl (both_law l))
@@ -519,7 +519,7 @@ attrs_starts {A = A} {test = test} {v = v} S comma semi =
       comma,
     )
 
-pub attrs_law : {A : Type 0} {p : List Tok → Read A} {S : A → Lang} → Law p S (among [])
+pub attrs_law : {A : Type 0} {p : List Tok → Got A} {S : A → Lang} → Law p S (among [])
     → Law (closed_at (more_at (codes ",") p) (codes ";"))
     (λ as'. each (λ a. sign (codes ",") · S a) as' · sign (codes ";")) (λ t. false)
 attrs_law l = closed (codes ";") (λ t. false) refl (more (codes ",") [] refl l)

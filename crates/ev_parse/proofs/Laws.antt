@@ -4,12 +4,13 @@ use Rattle.std.proofs.Common.{Some, None, Ok, Err, if◌then◌else◌, refl, sy
 use Rattle.std.proofs.Common.{append_assoc}
 use Rattle.ev_tree.specs.Tok.{Tok}
 use Rattle.ev_tree.specs.Language.{Lang, nothing, ◌·◌, ◌∣◌, made, always}
-use Rattle.ev_parse.specs.Read.{Read, bind, opens_at, taken, token_at, map_at, both_at, either_at}
+use Rattle.ev_parse.specs.Read.{Got, bind, opens_at, taken_token, token_at, map_at}
+use Rattle.ev_parse.specs.Read.{both_at, either_at}
 use Rattle.ev_parse.specs.Read.{pure_at}
 
 -- p reads x from ts: a word of the value stands in front, and what is read depends on no more than
 -- the next token
-pub record Took {A : Type 0} (p : List Tok → Read A) (S : A → Lang) (ts : List Tok)
+pub record Took {A : Type 0} (p : List Tok → Got A) (S : A → Lang) (ts : List Tok)
     (x : A × List Tok) : Type 0 where
   pub front : List Tok
   pub parts : ts ≡ front ++ x.1
@@ -18,7 +19,7 @@ pub record Took {A : Type 0} (p : List Tok → Read A) (S : A → Lang) (ts : Li
 
 -- p stops at rest: what stands in front begins a word, and the fault depends on no more than the
 -- token there
-pub record Failed {A : Type 0} (p : List Tok → Read A) (S : A → Lang) (ts rest : List Tok) : Type 0
+pub record Failed {A : Type 0} (p : List Tok → Got A) (S : A → Lang) (ts rest : List Tok) : Type 0
   where
     pub seen : List Tok
     pub parts : ts ≡ seen ++ rest
@@ -27,14 +28,14 @@ pub record Failed {A : Type 0} (p : List Tok → Read A) (S : A → Lang) (ts re
     pub viable : S value (seen ++ more)
     pub same : (t : Tok) (a b : List Tok) → rest ≡ t ∷ a → p (seen ++ t ∷ b) ≡ Err (t ∷ b)
 
-abbrev pub After : {A : Type 0} → (List Tok → Read A) → (A → Lang) → List Tok → Read A → Type 0
+abbrev pub After : {A : Type 0} → (List Tok → Got A) → (A → Lang) → List Tok → Got A → Type 0
 After p S ts (Ok x) = Took p S ts x
 After p S ts (Err rest) = Failed p S ts rest
 
 -- p reads the language S, where tokens that pass goes_on would go on a word: what is spelled is
 -- read, what is read is spelled, a fault stands behind the longest front that begins a word; and
 -- some value has a word
-pub record Law {A : Type 0} (p : List Tok → Read A) (S : A → Lang) (goes_on : Tok → Bool) : Type 0
+pub record Law {A : Type 0} (p : List Tok → Got A) (S : A → Lang) (goes_on : Tok → Bool) : Type 0
   where
     pub again : (v : A) (front rest : List Tok) → S v front → opens_at goes_on rest ≡ false
         → p (front ++ rest) ≡ Ok (v, rest)
@@ -71,7 +72,7 @@ no_more t a e = cc
 pub first_same : (t u : Tok) (a b : List Tok) → t ∷ a ≡ u ∷ b → t ≡ u
 first_same t u a b e = cc
 
-pub same_over : {A : Type 0} (p : List Tok → Read A) (S : A → Lang) (ts : List Tok)
+pub same_over : {A : Type 0} (p : List Tok → Got A) (S : A → Lang) (ts : List Tok)
     (x : A × List Tok) (took : Took p S ts x) (f : List Tok) (t : Tok) (a b : List Tok)
     → x.1 ≡ f ++ t ∷ a → p (took.front ++ (f ++ t ∷ b)) ≡ Ok (x.0, f ++ t ∷ b)
 same_over p S ts x took [] t a b e = took.same t a b e
@@ -79,8 +80,8 @@ same_over p S ts x took (u ∷ us) t a b e = took.same u (us ++ t ∷ a) (us ++ 
 
 -- ---- two readers that answer the same, and two languages with the same words
 
-after_same : {A : Type 0} (p q : List Tok → Read A) (S : A → Lang)
-    (e : (ts : List Tok) → p ts ≡ q ts) (ts : List Tok) (r : Read A) → After p S ts r
+after_same : {A : Type 0} (p q : List Tok → Got A) (S : A → Lang)
+    (e : (ts : List Tok) → p ts ≡ q ts) (ts : List Tok) (r : Got A) → After p S ts r
     → After q S ts r
 after_same p q S e ts (Ok x) took =
     record {
@@ -102,8 +103,8 @@ after_same p q S e ts (Err rest) failed =
           ∙ failed.same t a b h;
     }
 
-pub law_same : {A : Type 0} {p : List Tok → Read A} {S : A → Lang} {g : Tok → Bool}
-    (q : List Tok → Read A) → ((ts : List Tok) → p ts ≡ q ts) → Law p S g → Law q S g
+pub law_same : {A : Type 0} {p : List Tok → Got A} {S : A → Lang} {g : Tok → Bool}
+    (q : List Tok → Got A) → ((ts : List Tok) → p ts ≡ q ts) → Law p S g → Law q S g
 law_same {A = A} {p = p} {S = S} {g = g} q e l =
     record {
       again = λ v front rest s stop. sym (e (front ++ rest)) ∙ l.again v front rest s stop;
@@ -114,7 +115,7 @@ law_same {A = A} {p = p} {S = S} {g = g} q e l =
     }
 
 -- the same with a test that more tokens pass
-pub wider : {A : Type 0} {p : List Tok → Read A} {S : A → Lang} {g : Tok → Bool} (h : Tok → Bool)
+pub wider : {A : Type 0} {p : List Tok → Got A} {S : A → Lang} {g : Tok → Bool} (h : Tok → Bool)
     → ((t : Tok) → h t ≡ false → g t ≡ false) → Law p S g → Law p S h
 wider {A = A} {p = p} {S = S} {g = g} h less l =
     record {
@@ -132,8 +133,8 @@ wider {A = A} {p = p} {S = S} {g = g} h less l =
 
 -- ---- a value that is made of another
 
-mapped_after : {A B : Type 0} (f : A → B) (p : List Tok → Read A) (S : A → Lang) (T : B → Lang)
-    (forth : (a : A) (ts : List Tok) → S a ts → T (f a) ts) (ts : List Tok) (r : Read A)
+mapped_after : {A B : Type 0} (f : A → B) (p : List Tok → Got A) (S : A → Lang) (T : B → Lang)
+    (forth : (a : A) (ts : List Tok) → S a ts → T (f a) ts) (ts : List Tok) (r : Got A)
     → After p S ts r → After (map_at f p) T ts (bind r (λ a rest. Ok (f a, rest)))
 mapped_after f p S T forth ts (Ok x) took =
     record {
@@ -152,7 +153,7 @@ mapped_after f p S T forth ts (Err rest) failed =
       same = λ t a b h. ap (λ r. bind r (λ c rest. Ok (f c, rest))) (failed.same t a b h);
     }
 
-pub mapped : {A B : Type 0} {p : List Tok → Read A} {S : A → Lang} {g : Tok → Bool} (f : A → B)
+pub mapped : {A B : Type 0} {p : List Tok → Got A} {S : A → Lang} {g : Tok → Bool} (f : A → B)
     (T : B → Lang) → ((a : A) (ts : List Tok) → S a ts → T (f a) ts)
     → ((b : B) (ts : List Tok) → T b ts → (a : A) × (f a ≡ b) × S a ts) → Law p S g
     → Law (map_at f p) T g
@@ -168,18 +169,18 @@ mapped {A = A} {B = B} {p = p} {S = S} {g = g} f T forth back l =
       sampled = forth l.sample l.word l.sampled;
     }
 
-pub making : {A B : Type 0} {p : List Tok → Read A} {S : A → Lang} {g : Tok → Bool} (f : A → B)
+pub making : {A B : Type 0} {p : List Tok → Got A} {S : A → Lang} {g : Tok → Bool} (f : A → B)
     → Law p S g → Law (map_at f p) (made f S) g
 making {A = A} {B = B} {p = p} {S = S} {g = g} f l =
     mapped f (made f S) (λ a ts s. record { from = a; value = refl; spelled = s })
     (λ b ts m. (m.from, m.value, m.spelled)) l
 
-pub bind_pure : {A : Type 0} (r : Read A) → bind r (λ a rest. Ok (a, rest)) ≡ r
+pub bind_pure : {A : Type 0} (r : Got A) → bind r (λ a rest. Ok (a, rest)) ≡ r
 bind_pure (Ok x) = refl
 bind_pure (Err rest) = refl
 
 -- the same reader for a language of the same words
-pub respelled : {A : Type 0} {p : List Tok → Read A} {S : A → Lang} {g : Tok → Bool} (T : A → Lang)
+pub respelled : {A : Type 0} {p : List Tok → Got A} {S : A → Lang} {g : Tok → Bool} (T : A → Lang)
     → ((a : A) (ts : List Tok) → S a ts → T a ts) → ((a : A) (ts : List Tok) → T a ts → S a ts)
     → Law p S g → Law p T g
 respelled {A = A} {p = p} {S = S} {g = g} T forth back l =
@@ -191,7 +192,7 @@ respelled {A = A} {p = p} {S = S} {g = g} T forth back l =
 token_after : {A : Type 0} (pick : Tok → Option A) (S : A → Lang) (back : (t : Tok) (a : A)
     → pick t ≡ Some a → S a (t ∷ [])) (sample : A) (word : List Tok) (sampled : S sample word)
     (t : Tok) (ts : List Tok) (o : Option A) → pick t ≡ o
-    → After (token_at pick) S (t ∷ ts) (taken o t ts)
+    → After (token_at pick) S (t ∷ ts) (taken_token o t ts)
 token_after pick S back sample word sampled t ts None e =
     record {
       seen = [];
@@ -200,7 +201,7 @@ token_after pick S back sample word sampled t ts None e =
       value = sample;
       viable = sampled;
       same = λ u a b h. let is : t ≡ u = first_same t u ts a h in
-          ap (λ o. taken o u b) (subst (λ v. pick v ≡ None) is e);
+          ap (λ o. taken_token o u b) (subst (λ v. pick v ≡ None) is e);
     }
 token_after pick S back sample word sampled t ts (Some v) e =
     record {
@@ -208,7 +209,7 @@ token_after pick S back sample word sampled t ts (Some v) e =
       parts = refl;
       spelled = back t v e;
       same =
-          λ u a b h. ap (λ o. taken o t (u ∷ b)) e;
+          λ u a b h. ap (λ o. taken_token o t (u ∷ b)) e;
     }
 
 token_after_all : {A : Type 0} (pick : Tok → Option A) (S : A → Lang) (back : (t : Tok) (a : A)
@@ -236,7 +237,7 @@ token_law pick S g forth back sample word sampled =
       again = λ v front rest s stop.
           let one_token = forth v front s in
           ap (λ l. token_at pick (l ++ rest)) one_token.1
-          ∙ ap (λ o. taken o one_token.0 rest) one_token.2;
+          ∙ ap (λ o. taken_token o one_token.0 rest) one_token.2;
       after = token_after_all pick S back sample word sampled;
       sample = sample;
       word = word;
@@ -263,8 +264,8 @@ pure_law a g =
 
 -- ---- one behind the other
 
-joined_second : {A B : Type 0} (p : List Tok → Read A) (q : List Tok → Read B) (S : A → Lang)
-    (T : B → Lang) (ts : List Tok) (x : A × List Tok) (took : Took p S ts x) (r : Read B)
+joined_second : {A B : Type 0} (p : List Tok → Got A) (q : List Tok → Got B) (S : A → Lang)
+    (T : B → Lang) (ts : List Tok) (x : A × List Tok) (took : Took p S ts x) (r : Got B)
     → After q T x.1 r → After (both_at p q) (λ v. S v.0 · T v.1) ts
     (bind r (λ b end. Ok ((x.0, b), end)))
 joined_second p q S T ts x took (Ok y) then' =
@@ -311,8 +312,8 @@ joined_second p q S T ts x took (Err rest) failed =
           ∙ ap (λ r. bind r (λ d end. Ok ((x.0, d), end))) (failed.same t a b h);
     }
 
-joined_first : {A B : Type 0} (p : List Tok → Read A) (q : List Tok → Read B) (S : A → Lang)
-    (T : B → Lang) (h : Tok → Bool) (l : Law q T h) (ts : List Tok) (r : Read A) → After p S ts r
+joined_first : {A B : Type 0} (p : List Tok → Got A) (q : List Tok → Got B) (S : A → Lang)
+    (T : B → Lang) (h : Tok → Bool) (l : Law q T h) (ts : List Tok) (r : Got A) → After p S ts r
     → After (both_at p q) (λ v. S v.0 · T v.1) ts
     (bind r (λ a rest. bind (q rest) (λ b end. Ok ((a, b), end))))
 joined_first p q S T h l ts (Ok x) took = joined_second p q S T ts x took (q x.1) (l.after x.1)
@@ -335,7 +336,7 @@ joined_first p q S T h l ts (Err rest) failed =
           (failed.same t a b e);
     }
 
-pub joined : {A B : Type 0} {p : List Tok → Read A} {q : List Tok → Read B} {S : A → Lang}
+pub joined : {A B : Type 0} {p : List Tok → Got A} {q : List Tok → Got B} {S : A → Lang}
     {T : B → Lang} {g h : Tok → Bool} → Avoids g T h → Law p S g → Law q T h
     → Law (both_at p q) (λ v. S v.0 · T v.1) h
 joined {A = A} {B = B} {p = p} {q = q} {S = S} {T = T} {g = g} {h = h} apart l m =
@@ -363,8 +364,8 @@ joined {A = A} {B = B} {p = p} {q = q} {S = S} {T = T} {g = g} {h = h} apart l m
 
 -- ---- one or the other
 
-either_after_first : {A : Type 0} (test : Tok → Bool) (p q : List Tok → Read A) (S T : A → Lang)
-    (ts : List Tok) → opens_at test ts ≡ true → (r : Read A) → After p S ts r
+either_after_first : {A : Type 0} (test : Tok → Bool) (p q : List Tok → Got A) (S T : A → Lang)
+    (ts : List Tok) → opens_at test ts ≡ true → (r : Got A) → After p S ts r
     → After (either_at test p q) (λ v. S v ∣ T v) ts r
 either_after_first test p q S T ts o (Ok x) took =
     record {
@@ -393,8 +394,8 @@ either_after_first test p q S T ts o (Err rest) failed =
           ∙ failed.same t a b h;
     }
 
-either_after_second : {A : Type 0} (test : Tok → Bool) (p q : List Tok → Read A) (S T : A → Lang)
-    (ts : List Tok) → opens_at test ts ≡ false → (r : Read A) → After q T ts r
+either_after_second : {A : Type 0} (test : Tok → Bool) (p q : List Tok → Got A) (S T : A → Lang)
+    (ts : List Tok) → opens_at test ts ≡ false → (r : Got A) → After q T ts r
     → After (either_at test p q) (λ v. S v ∣ T v) ts r
 either_after_second test p q S T ts o (Ok x) took =
     record {
@@ -423,7 +424,7 @@ either_after_second test p q S T ts o (Err rest) failed =
           ∙ failed.same t a b h;
     }
 
-either_after : {A : Type 0} (test : Tok → Bool) (p q : List Tok → Read A) (S T : A → Lang)
+either_after : {A : Type 0} (test : Tok → Bool) (p q : List Tok → Got A) (S T : A → Lang)
     (g h : Tok → Bool) (l : Law p S g) (m : Law q T h) (ts : List Tok) (c : Bool)
     → opens_at test ts ≡ c
     → After (either_at test p q) (λ v. S v ∣ T v) ts (if c then p ts else q ts)
@@ -432,7 +433,7 @@ either_after test p q S T g h l m ts true o =
 either_after test p q S T g h l m ts false o =
     either_after_second test p q S T ts o (q ts) (m.after ts)
 
-either_again : {A : Type 0} (test : Tok → Bool) (p q : List Tok → Read A) (S T : A → Lang)
+either_again : {A : Type 0} (test : Tok → Bool) (p q : List Tok → Got A) (S T : A → Lang)
     (g : Tok → Bool) (begins : Begins test S) (apart : Avoids test T g) (l : Law p S g)
     (m : Law q T g) (v : A) (front rest : List Tok) → S v front ⊎ T v front
     → opens_at g rest ≡ false → either_at test p q (front ++ rest) ≡ Ok (v, rest)
@@ -443,7 +444,7 @@ either_again test p q S T g begins apart l m v front rest (inr s) stop =
     ap (λ c. if c then p (front ++ rest) else q (front ++ rest)) (apart.first v front rest s stop)
     ∙ m.again v front rest s stop
 
-pub either : {A : Type 0} {p q : List Tok → Read A} {S T : A → Lang} {g : Tok → Bool}
+pub either : {A : Type 0} {p q : List Tok → Got A} {S T : A → Lang} {g : Tok → Bool}
     (test : Tok → Bool) → Begins test S → Avoids test T g → Law p S g → Law q T g
     → Law (either_at test p q) (λ v. S v ∣ T v) g
 either {A = A} {p = p} {q = q} {S = S} {T = T} {g = g} test begins apart l m =

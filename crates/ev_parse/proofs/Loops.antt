@@ -6,7 +6,7 @@ use Rattle.ev_tree.specs.Tok.{Tok}
 use Rattle.ev_tree.specs.Language.{Lang}
 use Rattle.std.proofs.lemmas.List.{length-map}
 use Rattle.ev_lex.specs.declared.token.Token.{Token}
-use Rattle.ev_parse.specs.Read.{Read, bind, opens_at, many_up_at, many_at, more_at, after_at, is}
+use Rattle.ev_parse.specs.Read.{Got, bind, opens_at, many_up_at, many_at, more_at, after_at, is}
 use Rattle.ev_parse.specs.Gives.{onto, Fails}
 use Rattle.ev_parse.specs.Toks.{toks, tok_of}
 use Rattle.ev_parse.specs.declared.stop.ParseStop.{ParseStop}
@@ -15,8 +15,8 @@ use Rattle.ev_parse.proofs.Laws.{After, Law, Begins}
 use Rattle.ev_parse.proofs.Many.{longer, over, turn}
 use Rattle.ev_parse.proofs.Rules.{after as behind, begun, starts_sign}
 
-took_less : {A : Type 0} (test : Tok → Bool) (q : List Tok → Read A) (S : A → Lang)
-    (begins : Begins test S) (ts : List Tok) (r : Read A) (x : A × List Tok) → r ≡ Ok x
+took_less : {A : Type 0} (test : Tok → Bool) (q : List Tok → Got A) (S : A → Lang)
+    (begins : Begins test S) (ts : List Tok) (r : Got A) (x : A × List Tok) → r ≡ Ok x
     → After q S ts r → length x.1 < length ts
 took_less test q S begins ts (Ok y) x e took =
     let some : 1 ≤ length took.front =
@@ -26,16 +26,16 @@ took_less test q S begins ts (Ok y) x e took =
 took_less test q S begins ts (Err rest) x e failed = absurd (cc)
 
 -- a value takes a token at least
-pub shortens : {A : Type 0} {q : List Tok → Read A} {S : A → Lang} {g : Tok → Bool}
+pub shortens : {A : Type 0} {q : List Tok → Got A} {S : A → Lang} {g : Tok → Bool}
     (test : Tok → Bool) → Begins test S → Law q S g → (ts : List Tok) (x : A × List Tok)
     → q ts ≡ Ok x → length x.1 < length ts
 shortens {A = A} {q = q} {S = S} {g = g} test begins l ts x e =
     took_less test q S begins ts (q ts) x e (l.after ts)
 
-enough_turn : {A : Type 0} (test : Tok → Bool) (q : List Tok → Read A)
+enough_turn : {A : Type 0} (test : Tok → Bool) (q : List Tok → Got A)
     (less : (ts : List Tok) (x : A × List Tok) → q ts ≡ Ok x → length x.1 < length ts) (n m : ℕ)
     (ts : List Tok) → ((us : List Tok) → length us < length ts
-    → many_up_at test q n us ≡ many_up_at test q m us) → (r : Read A) → q ts ≡ r
+    → many_up_at test q n us ≡ many_up_at test q m us) → (r : Got A) → q ts ≡ r
     → bind r (λ a rest. bind (many_up_at test q n rest) (λ more end. Ok (a ∷ more, end)))
     ≡ bind r (λ a rest. bind (many_up_at test q m rest) (λ more end. Ok (a ∷ more, end)))
 enough_turn test q less n m ts goes (Ok x) e =
@@ -43,7 +43,7 @@ enough_turn test q less n m ts goes (Ok x) e =
 enough_turn test q less n m ts goes (Err rest) e = refl
 
 -- a bound that is large enough serves as well as another
-enough : {A : Type 0} (test : Tok → Bool) (q : List Tok → Read A)
+enough : {A : Type 0} (test : Tok → Bool) (q : List Tok → Got A)
     (less : (ts : List Tok) (x : A × List Tok) → q ts ≡ Ok x → length x.1 < length ts) (n m : ℕ)
     (ts : List Tok) → length ts ≤ n → length ts ≤ m
     → many_up_at test q n ts ≡ many_up_at test q m ts
@@ -58,7 +58,7 @@ enough test q less (suc n) (suc m) ts a b =
     (λ us short. enough test q less n m us (omega arith) (omega arith)) (q ts) refl)
 
 -- a turn that takes a value
-goes : {A : Type 0} (test : Tok → Bool) (q : List Tok → Read A)
+goes : {A : Type 0} (test : Tok → Bool) (q : List Tok → Got A)
     (less : (ts : List Tok) (x : A × List Tok) → q ts ≡ Ok x → length x.1 < length ts)
     (ts : List Tok) (x : A × List Tok) → opens_at test ts ≡ true → q ts ≡ Ok x
     → many_at test q ts ≡ bind (many_at test q x.1) (λ more end. Ok (x.0 ∷ more, end))
@@ -72,13 +72,13 @@ goes test q less ts x o e =
     (enough test q less (length ts) (length x.1) x.1 (omega (arith, less ts x e))
     (le_refl (length x.1)))
 
-onto_cons : {A : Type 0} (front : List A) (a : A) (r : Read (List A))
+onto_cons : {A : Type 0} (front : List A) (a : A) (r : Got (List A))
     → onto front (bind r (λ more end. Ok (a ∷ more, end))) ≡ onto (front ++ a ∷ []) r
 onto_cons front a (Ok y) = ap (λ l. Ok (l, y.1)) (sym (append_assoc front (a ∷ []) y.0))
 onto_cons front a (Err rest) = refl
 
 -- with the values in front: a turn that takes another, one that fails, and the end
-pub onto_goes : {A : Type 0} {q : List Tok → Read A} {S : A → Lang} {g : Tok → Bool}
+pub onto_goes : {A : Type 0} {q : List Tok → Got A} {S : A → Lang} {g : Tok → Bool}
     (test : Tok → Bool) → Begins test S → Law q S g
     → (front : List A) (ts : List Tok) (x : A × List Tok) → opens_at test ts ≡ true → q ts ≡ Ok x
     → onto (front ++ x.0 ∷ []) (many_at test q x.1) ≡ onto front (many_at test q ts)
@@ -86,7 +86,7 @@ onto_goes {A = A} {q = q} {S = S} {g = g} test begins l front ts x o e =
     sym (onto_cons front x.0 (many_at test q x.1))
     ∙ ap (onto front) (sym (goes test q (shortens test begins l) ts x o e))
 
-pub onto_fails : {A : Type 0} (q : List Tok → Read A) (test : Tok → Bool) (front : List A)
+pub onto_fails : {A : Type 0} (q : List Tok → Got A) (test : Tok → Bool) (front : List A)
     (ts rest : List Tok) → opens_at test ts ≡ true → q ts ≡ Err rest
     → onto front (many_at test q ts) ≡ Err rest
 unfolding many_at
@@ -96,7 +96,7 @@ onto_fails q test front (t ∷ ts) rest o e =
     ∙ ap (λ r. bind r (λ a end. bind (many_up_at test q (length ts) end)
     (λ more last. Ok (a ∷ more, last)))) e)
 
-pub onto_stops : {A : Type 0} (q : List Tok → Read A) (test : Tok → Bool) (front : List A)
+pub onto_stops : {A : Type 0} (q : List Tok → Got A) (test : Tok → Bool) (front : List A)
     (ts : List Tok) → opens_at test ts ≡ false → onto front (many_at test q ts) ≡ Ok (front, ts)
 unfolding many_at
 onto_stops {A = A} q test front ts o =
@@ -106,12 +106,12 @@ onto_stops {A = A} q test front ts o =
     append_none [] = refl
     append_none (a ∷ more) = ap (λ k. a ∷ k) (append_none more)
 
-pub onto_nothing : {A : Type 0} (r : Read (List A)) → onto [] r ≡ r
+pub onto_nothing : {A : Type 0} (r : Got (List A)) → onto [] r ≡ r
 onto_nothing (Ok x) = refl
 onto_nothing (Err rest) = refl
 
 -- a stop at a value in a row is a stop of the row
-pub fails_through : {A B : Type 0} (text : List ℕ) (e : ParseStop) (one : Read A) (all' : Read B)
+pub fails_through : {A B : Type 0} (text : List ℕ) (e : ParseStop) (one : Got A) (all' : Got B)
     → Fails text e one → ((rest : List Tok) → one ≡ Err rest → all' ≡ Err rest) → Fails text e all'
 fails_through text stops.NoMemory one all' f goes = tt
 fails_through text (stops.At rest) one all' f goes = goes (toks text rest.now) f
@@ -119,7 +119,7 @@ fails_through text (stops.At rest) one all' f goes = goes (toks text rest.now) f
 -- The law of a loop that reads a value behind each mark: `front` are the values at hand, `rest` the
 -- tokens, and what is read of these comes to `whole`.
 
-pub loop_shorter : {A : Type 0} (mark : List ℕ) {q : List Tok → Read A} {S : A → Lang}
+pub loop_shorter : {A : Type 0} (mark : List ℕ) {q : List Tok → Got A} {S : A → Lang}
     {g : Tok → Bool}
     → Law q S g → (text : List ℕ) (rest after : List Token) (a : A)
     → after_at mark q (toks text rest) ≡ Ok (a, toks text after) → length after < length rest
@@ -128,9 +128,9 @@ loop_shorter mark {q = q} {S = S} {g = g} law text rest after a e =
     (a, toks text after) e in
     omega (arith, less, length-map after (tok_of text), length-map rest (tok_of text))
 
-module _ {A : Type 0} (mark : List ℕ) {q : List Tok → Read A} {S : A → Lang} {g : Tok → Bool}
+module _ {A : Type 0} (mark : List ℕ) {q : List Tok → Got A} {S : A → Lang} {g : Tok → Bool}
     (law : Law q S g)
-    (text : List ℕ) (front : List A) (rest : List Token) (whole : Read (List A)) (next : Bool)
+    (text : List ℕ) (front : List A) (rest : List Token) (whole : Got (List A)) (next : Bool)
     (next_is : next ≡ opens_at (is mark) (toks text rest))
     (kept : onto front (more_at mark q (toks text rest)) ≡ whole) where
   pub loop_fails : next ≡ true → (e : ParseStop) → Fails text e (after_at mark q (toks text rest))

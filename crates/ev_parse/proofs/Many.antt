@@ -4,7 +4,7 @@ use Rattle.std.proofs.Common.{length, Ok, Err, if◌then◌else◌, refl, sym, �
 use Rattle.std.proofs.Common.{append_assoc, length-append, arith, le_refl}
 use Rattle.ev_tree.specs.Tok.{Tok}
 use Rattle.ev_tree.specs.Language.{Lang, each}
-use Rattle.ev_parse.specs.Read.{Read, bind, opens_at, many_up_at, many_at}
+use Rattle.ev_parse.specs.Read.{Got, bind, opens_at, many_up_at, many_at}
 use Rattle.ev_parse.proofs.Laws.{Took, After, Law, Begins, opens_front, opens_same, same_over}
 
 -- what many readers in a row owe: behind a value either another begins or nothing goes on
@@ -14,7 +14,7 @@ pub record Apart (test g h : Tok → Bool) : Type 0 where
   pub stopped : (t : Tok) → h t ≡ false → g t ≡ false
 
 -- as Took and Failed, for each bound that is large enough
-record TookMany {A : Type 0} (test : Tok → Bool) (p : List Tok → Read A) (S : A → Lang)
+record TookMany {A : Type 0} (test : Tok → Bool) (p : List Tok → Got A) (S : A → Lang)
     (ts : List Tok) (x : List A × List Tok) : Type 0 where
   front : List Tok
   parts : ts ≡ front ++ x.1
@@ -23,7 +23,7 @@ record TookMany {A : Type 0} (test : Tok → Bool) (p : List Tok → Read A) (S 
       → many_up_at test p m (front ++ t ∷ b) ≡ Ok (x.0, t ∷ b)
   ends : opens_at test x.1 ≡ false
 
-record FailedMany {A : Type 0} (test : Tok → Bool) (p : List Tok → Read A) (S : A → Lang)
+record FailedMany {A : Type 0} (test : Tok → Bool) (p : List Tok → Got A) (S : A → Lang)
     (ts rest : List Tok) : Type 0 where
   seen : List Tok
   parts : ts ≡ seen ++ rest
@@ -33,13 +33,13 @@ record FailedMany {A : Type 0} (test : Tok → Bool) (p : List Tok → Read A) (
   same : (t : Tok) (a b : List Tok) → rest ≡ t ∷ a → (m : ℕ) → length (seen ++ t ∷ b) ≤ m
       → many_up_at test p m (seen ++ t ∷ b) ≡ Err (t ∷ b)
 
-abbrev AfterMany : {A : Type 0} → (Tok → Bool) → (List Tok → Read A) → (A → Lang) → List Tok
-    → Read (List A) → Type 0
+abbrev AfterMany : {A : Type 0} → (Tok → Bool) → (List Tok → Got A) → (A → Lang) → List Tok
+    → Got (List A) → Type 0
 AfterMany test p S ts (Ok x) = TookMany test p S ts x
 AfterMany test p S ts (Err rest) = FailedMany test p S ts rest
 
 -- one turn, where the first token passes the test
-pub turn : {A : Type 0} (test : Tok → Bool) (p : List Tok → Read A) (m : ℕ) (ts : List Tok)
+pub turn : {A : Type 0} (test : Tok → Bool) (p : List Tok → Got A) (m : ℕ) (ts : List Tok)
     → opens_at test ts ≡ true
     → many_up_at test p (suc m) ts
     ≡ bind (p ts) (λ a rest. bind (many_up_at test p m rest) (λ more end. Ok (a ∷ more, end)))
@@ -47,7 +47,7 @@ turn test p m ts o = ap
     (λ c. if c then bind (p ts)
     (λ a rest. bind (many_up_at test p m rest) (λ more end. Ok (a ∷ more, end))) else Ok ([], ts)) o
 
-pub over : {A : Type 0} (test : Tok → Bool) (p : List Tok → Read A) (m : ℕ) (ts : List Tok)
+pub over : {A : Type 0} (test : Tok → Bool) (p : List Tok → Got A) (m : ℕ) (ts : List Tok)
     → opens_at test ts ≡ false → many_up_at test p m ts ≡ Ok ([], ts)
 over test p zero ts o = refl
 over test p (suc m) ts o =
@@ -77,7 +77,7 @@ behind test g h S begins apart (a ∷ more) k rest s stop =
     by_first [] e = refl
     by_first (t ∷ ts) e = apart.begun t e
 
-many_again : {A : Type 0} (test g h : Tok → Bool) (p : List Tok → Read A) (S : A → Lang)
+many_again : {A : Type 0} (test g h : Tok → Bool) (p : List Tok → Got A) (S : A → Lang)
     (begins : Begins test S) (apart : Apart test g h) (l : Law p S g) (as' : List A)
     (front rest : List Tok) → each S as' front → opens_at h rest ≡ false → (n : ℕ)
     → length (front ++ rest) ≤ n → many_up_at test p n (front ++ rest) ≡ Ok (as', rest)
@@ -114,7 +114,7 @@ many_again test g h p S begins apart l (a ∷ more) front rest s stop (suc n) bo
     (many_again test g h p S begins apart l more s.back rest s.second stop n less)
 
 -- no turn
-took_none : {A : Type 0} (test : Tok → Bool) (p : List Tok → Read A) (S : A → Lang) (ts : List Tok)
+took_none : {A : Type 0} (test : Tok → Bool) (p : List Tok → Got A) (S : A → Lang) (ts : List Tok)
     → opens_at test ts ≡ false → TookMany test p S ts ([], ts)
 took_none test p S ts o =
     record {
@@ -146,9 +146,9 @@ shorter f s t b m some bound =
 not_none : (f : List Tok) (t : Tok) (b : List Tok) → length (f ++ t ∷ b) ≤ 0 → ⊥
 not_none f t b bound = omega (arith, length-append f (t ∷ b))
 
-more_same : {A : Type 0} (test : Tok → Bool) (p : List Tok → Read A) (S : A → Lang)
+more_same : {A : Type 0} (test : Tok → Bool) (p : List Tok → Got A) (S : A → Lang)
     (begins : Begins test S) (ts : List Tok) (x : A × List Tok) (took : Took p S ts x)
-    → opens_at test ts ≡ true → (s y : List Tok) (r : Read (List A)) (t : Tok) (a b : List Tok)
+    → opens_at test ts ≡ true → (s y : List Tok) (r : Got (List A)) (t : Tok) (a b : List Tok)
     → x.1 ≡ s ++ y → y ≡ t ∷ a
     → ((m : ℕ) → length (s ++ t ∷ b) ≤ m → many_up_at test p m (s ++ t ∷ b) ≡ r) → (m : ℕ)
     → length ((took.front ++ s) ++ t ∷ b) ≤ m
@@ -166,9 +166,9 @@ more_same test p S begins ts x took o s y r t a b inner h rest (suc m) bound =
     (longer test took.front (begins.first x.0 took.front took.spelled)) bound))
 
 -- a turn that took x, and what the turns after it did
-more_after : {A : Type 0} (test : Tok → Bool) (p : List Tok → Read A) (S : A → Lang)
+more_after : {A : Type 0} (test : Tok → Bool) (p : List Tok → Got A) (S : A → Lang)
     (begins : Begins test S) (ts : List Tok) (x : A × List Tok) (took : Took p S ts x)
-    → opens_at test ts ≡ true → (r : Read (List A)) → AfterMany test p S x.1 r
+    → opens_at test ts ≡ true → (r : Got (List A)) → AfterMany test p S x.1 r
     → AfterMany test p S ts (bind r (λ more end. Ok (x.0 ∷ more, end)))
 more_after test p S begins ts x took o (Ok y) rest =
     record {
@@ -208,7 +208,7 @@ more_after test p S begins ts x took o (Err end) failed =
     }
 
 -- a turn that failed
-fail_same : {A : Type 0} (test : Tok → Bool) (p : List Tok → Read A) (ts seen rest : List Tok)
+fail_same : {A : Type 0} (test : Tok → Bool) (p : List Tok → Got A) (ts seen rest : List Tok)
     (t : Tok) (a b : List Tok) → ts ≡ seen ++ rest → rest ≡ t ∷ a → opens_at test ts ≡ true
     → p (seen ++ t ∷ b) ≡ Err (t ∷ b) → (m : ℕ) → length (seen ++ t ∷ b) ≤ m
     → many_up_at test p m (seen ++ t ∷ b) ≡ Err (t ∷ b)
@@ -218,10 +218,10 @@ fail_same test p ts seen rest t a b parts h o e (suc m) bound =
     ∙ ap (λ l. opens_at test (seen ++ l)) (sym h) ∙ ap (opens_at test) (sym parts) ∙ o)
     ∙ ap (λ q. bind q (λ c end. bind (many_up_at test p m end) (λ cs last. Ok (c ∷ cs, last)))) e
 
-turn_after : {A : Type 0} (test : Tok → Bool) (p : List Tok → Read A) (S : A → Lang)
+turn_after : {A : Type 0} (test : Tok → Bool) (p : List Tok → Got A) (S : A → Lang)
     (begins : Begins test S) (n : ℕ) (rest_after : (us : List Tok) → length us ≤ n
     → AfterMany test p S us (many_up_at test p n us)) (ts : List Tok) → length ts ≤ suc n
-    → opens_at test ts ≡ true → (r : Read A) → After p S ts r
+    → opens_at test ts ≡ true → (r : Got A) → After p S ts r
     → AfterMany test p S ts
     (bind r (λ a rest. bind (many_up_at test p n rest) (λ more end. Ok (a ∷ more, end))))
 turn_after test p S begins n rest_after ts bound o (Ok x) took =
@@ -247,7 +247,7 @@ turn_after test p S begins n rest_after ts bound o (Err rest) failed =
           (failed.same t a b h);
     }
 
-choice_after : {A : Type 0} (test : Tok → Bool) (p : List Tok → Read A) (S : A → Lang)
+choice_after : {A : Type 0} (test : Tok → Bool) (p : List Tok → Got A) (S : A → Lang)
     (begins : Begins test S) (after : (ts : List Tok) → After p S ts (p ts)) (n : ℕ)
     (rest_after : (us : List Tok) → length us ≤ n → AfterMany test p S us (many_up_at test p n us))
     (ts : List Tok) → length ts ≤ suc n → (c : Bool) → opens_at test ts ≡ c
@@ -258,7 +258,7 @@ choice_after test p S begins after n rest_after ts bound true o =
     turn_after test p S begins n rest_after ts bound o (p ts) (after ts)
 choice_after test p S begins after n rest_after ts bound false o = took_none test p S ts o
 
-many_after : {A : Type 0} (test : Tok → Bool) (p : List Tok → Read A) (S : A → Lang)
+many_after : {A : Type 0} (test : Tok → Bool) (p : List Tok → Got A) (S : A → Lang)
     (begins : Begins test S) (after : (ts : List Tok) → After p S ts (p ts)) (n : ℕ) (ts : List Tok)
     → length ts ≤ n → AfterMany test p S ts (many_up_at test p n ts)
 many_after test p S begins after zero [] bound = took_none test p S [] refl
@@ -267,8 +267,8 @@ many_after test p S begins after (suc n) ts bound =
     choice_after test p S begins after n (λ us less. many_after test p S begins after n us less) ts
     bound (opens_at test ts) refl
 
-each_after : {A : Type 0} (test : Tok → Bool) (p : List Tok → Read A) (S : A → Lang) (ts : List Tok)
-    (r : Read (List A)) → AfterMany test p S ts r → After (many_at test p) (each S) ts r
+each_after : {A : Type 0} (test : Tok → Bool) (p : List Tok → Got A) (S : A → Lang) (ts : List Tok)
+    (r : Got (List A)) → AfterMany test p S ts r → After (many_at test p) (each S) ts r
 unfolding many_at
 each_after test p S ts (Ok x) took =
     record {
@@ -293,7 +293,7 @@ each_after test p S ts (Err rest) failed =
     }
 
 -- many values in a row, as long as the first token passes the test
-pub many_law : {A : Type 0} {p : List Tok → Read A} {S : A → Lang} {g : Tok → Bool}
+pub many_law : {A : Type 0} {p : List Tok → Got A} {S : A → Lang} {g : Tok → Bool}
     (test h : Tok → Bool) → Begins test S → Apart test g h → Law p S g
     → Law (many_at test p) (each S) h
 unfolding many_at
@@ -308,18 +308,18 @@ many_law {A = A} {p = p} {S = S} {g = g} test h begins apart l =
       sampled = refl;
     }
 
-ok_same : {A : Type 0} (y x : A × List Tok) → ◌≡◌ {A = Read A} (Ok y) (Ok x) → y ≡ x
+ok_same : {A : Type 0} (y x : A × List Tok) → ◌≡◌ {A = Got A} (Ok y) (Ok x) → y ≡ x
 ok_same y x e = cc
 
-ends_after : {A : Type 0} (test : Tok → Bool) (p : List Tok → Read A) (S : A → Lang) (ts : List Tok)
-    (r : Read (List A)) (x : List A × List Tok) → r ≡ Ok x → AfterMany test p S ts r
+ends_after : {A : Type 0} (test : Tok → Bool) (p : List Tok → Got A) (S : A → Lang) (ts : List Tok)
+    (r : Got (List A)) (x : List A × List Tok) → r ≡ Ok x → AfterMany test p S ts r
     → opens_at test x.1 ≡ false
 ends_after test p S ts (Ok y) x e took =
     subst (λ z. opens_at test z.1 ≡ false) (ok_same y x e) took.ends
 ends_after test p S ts (Err rest) x e failed = absurd (cc)
 
 -- behind many values the first token fails the test
-pub many_ends : {A : Type 0} {p : List Tok → Read A} {S : A → Lang} {g : Tok → Bool}
+pub many_ends : {A : Type 0} {p : List Tok → Got A} {S : A → Lang} {g : Tok → Bool}
     (test : Tok → Bool) → Begins test S → Law p S g → (ts : List Tok) (x : List A × List Tok)
     → many_at test p ts ≡ Ok x → opens_at test x.1 ≡ false
 unfolding many_at

@@ -7,7 +7,7 @@ use Rattle.std.proofs.lemmas.Option.{same_Some}
 use Rattle.ev_tree.specs.Tok.{Tok, Sign, Name, Class, Int, Time, Text, Odd, same_bytes}
 use Rattle.ev_tree.specs.Language.{Lang, nothing, one, Seq, ◌·◌, ◌∣◌, made, always, maybe, each}
 use Rattle.ev_tree.specs.Language.{separated, sign, word}
-use Rattle.ev_parse.specs.Read.{Read, bind, opens_at, is, is_word, passed, sign_at, word_at}
+use Rattle.ev_parse.specs.Read.{Got, bind, opens_at, is, is_word, passed, sign_at, word_at}
 use Rattle.ev_parse.specs.Read.{after_at, after_word_at, closed_at, optional_at, more_at}
 use Rattle.ev_parse.specs.Read.{separated_at}
 use Rattle.ev_parse.proofs.Laws.{Law, Begins, Avoids, law_same, mapped, making, respelled}
@@ -188,18 +188,18 @@ avoids_none S g = record { first = λ v front rest s stop. opens_none (front ++ 
 
 -- ---- a sign in front, a sign behind
 
-second_pure : {A : Type 0} (u : Unit {0}) (r : Read A)
+second_pure : {A : Type 0} (u : Unit {0}) (r : Got A)
     → r ≡ bind {A = Unit {0} × A} (bind r (λ a end. Ok ((u, a), end))) (λ x end. Ok (x.1, end))
 second_pure u (Ok x) = refl
 second_pure u (Err rest) = refl
 
-after_is : {A : Type 0} (p : List Tok → Read A) (r : Read (Unit {0}))
+after_is : {A : Type 0} (p : List Tok → Got A) (r : Got (Unit {0}))
     → bind {A = Unit {0} × A} (bind r (λ u rest. bind (p rest) (λ a end. Ok ((u, a), end))))
     (λ x end. Ok (x.1, end)) ≡ bind r (λ u rest. p rest)
 after_is p (Ok x) = sym (second_pure x.0 (p x.1))
 after_is p (Err rest) = refl
 
-pub after : {A : Type 0} {p : List Tok → Read A} {S : A → Lang} {g : Tok → Bool} (s : List ℕ)
+pub after : {A : Type 0} {p : List Tok → Got A} {S : A → Lang} {g : Tok → Bool} (s : List ℕ)
     → Law p S g → Law (after_at s p) (λ a. sign s · S a) g
 after {A = A} {p = p} {S = S} {g = g} s l =
     law_same (after_at s p) (λ ts. after_is p (sign_at s ts))
@@ -207,7 +207,7 @@ after {A = A} {p = p} {S = S} {g = g} s l =
     (λ a ts w. ((tt, a), refl, w))
     (joined (avoids_none S g) (sign_law s (λ t. false)) l))
 
-pub after_word : {A : Type 0} {p : List Tok → Read A} {S : A → Lang} {g : Tok → Bool} (s : List ℕ)
+pub after_word : {A : Type 0} {p : List Tok → Got A} {S : A → Lang} {g : Tok → Bool} (s : List ℕ)
     → Law p S g → Law (after_word_at s p) (λ a. word s · S a) g
 after_word {A = A} {p = p} {S = S} {g = g} s l =
     law_same (after_word_at s p) (λ ts. after_is p (word_at s ts))
@@ -215,19 +215,19 @@ after_word {A = A} {p = p} {S = S} {g = g} s l =
     (λ a ts w. ((tt, a), refl, w))
     (joined (avoids_none S g) (word_law s (λ t. false)) l))
 
-closed_tail : {A : Type 0} (a : A) (r : Read (Unit {0}))
+closed_tail : {A : Type 0} (a : A) (r : Got (Unit {0}))
     → bind {A = A × Unit {0}} (bind r (λ u end. Ok ((a, u), end))) (λ x end. Ok (x.0, end))
     ≡ bind r (λ u end. Ok (a, end))
 closed_tail a (Ok x) = refl
 closed_tail a (Err rest) = refl
 
-closed_is : {A : Type 0} (s : List ℕ) (r : Read A)
+closed_is : {A : Type 0} (s : List ℕ) (r : Got A)
     → bind {A = A × Unit {0}} (bind r (λ a rest. bind (sign_at s rest) (λ u end. Ok ((a, u), end))))
     (λ x end. Ok (x.0, end)) ≡ bind r (λ a rest. bind (sign_at s rest) (λ u end. Ok (a, end)))
 closed_is s (Ok x) = closed_tail x.0 (sign_at s x.1)
 closed_is s (Err rest) = refl
 
-pub closed : {A : Type 0} {p : List Tok → Read A} {S : A → Lang} {g : Tok → Bool} (s : List ℕ)
+pub closed : {A : Type 0} {p : List Tok → Got A} {S : A → Lang} {g : Tok → Bool} (s : List ℕ)
     (h : Tok → Bool) → g (Sign s) ≡ false → Law p S g → Law (closed_at p s) (λ a. S a · sign s) h
 closed {A = A} {p = p} {S = S} {g = g} s h apart l =
     law_same (closed_at p s) (λ ts. closed_is s (p ts))
@@ -261,7 +261,7 @@ avoids_missing test g less =
     by_rest [] e = refl
     by_rest (t ∷ ts) e = less t e
 
-pub optional : {A : Type 0} {p : List Tok → Read A} {S : A → Lang} {g : Tok → Bool}
+pub optional : {A : Type 0} {p : List Tok → Got A} {S : A → Lang} {g : Tok → Bool}
     (test : Tok → Bool) → ((t : Tok) → g t ≡ false → test t ≡ false) → Starts test true S
     → Law p S g → Law (optional_at test p) (maybe S) g
 optional {A = A} {p = p} {S = S} {g = g} test less starts l =
@@ -312,7 +312,7 @@ apart_signs m ms e =
 pub starts_sign : {A : Type 0} (m : List ℕ) (S : A → Lang) → Starts (is m) true (λ a. sign m · S a)
 starts_sign m S = by_one (Sign m) (same_self m)
 
-pub more : {A : Type 0} {p : List Tok → Read A} {S : A → Lang} (m : List ℕ) (ms : List (List ℕ))
+pub more : {A : Type 0} {p : List Tok → Got A} {S : A → Lang} (m : List ℕ) (ms : List (List ℕ))
     → among ms (Sign m) ≡ false → Law p S (among ms)
     → Law (more_at m p) (each (λ a. sign m · S a)) (among (m ∷ ms))
 more {A = A} {p = p} {S = S} m ms e l =
@@ -335,13 +335,13 @@ avoids_more {A = A} S m ms e = record { first = λ as' front rest s stop. of as'
         (s.parts ∙ ap (λ l. l ++ s.back)
         (s.first.parts ∙ ap (λ l. l ++ s.first.back) s.first.first)) ∙ e
 
-separated_tail : {A : Type 0} (a : A) (r : Read (List A))
+separated_tail : {A : Type 0} (a : A) (r : Got (List A))
     → bind {A = A × List A} (bind r (λ b end. Ok ((a, b), end))) (λ x end. Ok (x.0 ∷ x.1, end))
     ≡ bind r (λ b end. Ok (a ∷ b, end))
 separated_tail a (Ok x) = refl
 separated_tail a (Err rest) = refl
 
-separated_is : {A : Type 0} (q : List Tok → Read (List A)) (r : Read A)
+separated_is : {A : Type 0} (q : List Tok → Got (List A)) (r : Got A)
     → bind {A = A × List A} (bind r (λ a rest. bind (q rest) (λ b end. Ok ((a, b), end))))
     (λ x end. Ok (x.0 ∷ x.1, end)) ≡ bind r (λ a rest. bind (q rest) (λ b end. Ok (a ∷ b, end)))
 separated_is q (Ok x) = separated_tail x.0 (q x.1)
@@ -354,7 +354,7 @@ separated_back m S [] ts s = absurd s
 separated_back m S (a ∷ others) ts s = ((a, others), refl, s)
 
 -- one value, and more behind signs
-pub by_sign : {A : Type 0} {p : List Tok → Read A} {S : A → Lang} (m : List ℕ) (ms : List (List ℕ))
+pub by_sign : {A : Type 0} {p : List Tok → Got A} {S : A → Lang} (m : List ℕ) (ms : List (List ℕ))
     → among ms (Sign m) ≡ false → Law p S (among ms)
     → Law (separated_at m p) (separated (Sign m) S) (among (m ∷ ms))
 by_sign {A = A} {p = p} {S = S} m ms e l =

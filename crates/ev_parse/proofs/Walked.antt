@@ -12,7 +12,7 @@ use Rattle.ev_tree.specs.declared.tree.Statement.{Statement}
 use Rattle.ev_parse.specs.Fault.{place_from}
 use Rattle.ev_parse.specs.Gives.{onto}
 use Rattle.ev_parse.specs.Placed.{StandFrom}
-use Rattle.ev_parse.specs.Read.{Read, opens_at}
+use Rattle.ev_parse.specs.Read.{Got, opens_at}
 use Rattle.ev_parse.specs.Reading.{any_token, statement_at, file_at}
 use Rattle.ev_parse.specs.Toks.{toks, tok_of}
 use Rattle.ev_parse.proofs.GrammarLaws.{statement_law, statement_begins}
@@ -59,7 +59,7 @@ stand_more text tokens from (i ∷ items) at s n stands spelled place = (
   stand_more text tokens (from + stands.0) items at s n stands.3 spelled place,
 )
 
-took_at : (ts : List Tok) (r : Read Rule) (x : Rule × List Tok) → r ≡ Ok x
+took_at : (ts : List Tok) (r : Got Rule) (x : Rule × List Tok) → r ≡ Ok x
     → After statement_at statement ts r → (front : List Tok) × (ts ≡ front ++ x.1)
     × statement x.0 front
 took_at ts (Ok y) x e took =

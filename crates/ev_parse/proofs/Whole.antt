@@ -7,13 +7,13 @@ use Rattle.ev_lex.specs.declared.token.Token.{Token}
 use Rattle.ev_tree.specs.Grammar.{file}
 use Rattle.ev_tree.specs.Rule.{Rule}
 use Rattle.ev_tree.specs.Tok.{Tok}
-use Rattle.ev_parse.specs.Fault.{BeginsFile, IsParseFault, Faults, fault_from}
+use Rattle.ev_parse.specs.Fault.{BeginsFile, IsParseFault, IsFaultOfText, fault_from}
 use Rattle.ev_parse.specs.Gives.{Fails}
 use Rattle.ev_parse.specs.Toks.{toks, tok_of}
 use Rattle.ev_parse.specs.declared.stop.ParseStop.{ParseStop}
 use Rattle.ev_parse.specs.declared.stop.ParseStop.TheVariants as stops
 use Rattle.ev_parse.specs.declared.fault.ParseFault.TheVariants as faults
-use Rattle.ev_parse.specs.Read.{Read, opens_at}
+use Rattle.ev_parse.specs.Read.{Got, opens_at}
 use Rattle.ev_parse.specs.Reading.{any_token, file_at}
 use Rattle.ev_parse.proofs.GrammarLaws.{file_law, statement_law, statement_begins}
 use Rattle.ev_parse.proofs.Laws.{Failed, After}
@@ -35,7 +35,7 @@ pub all_read : (ts : List Tok) (x : List Rule × List Tok) → file_at ts ≡ Ok
 unfolding file_at
 all_read ts x e = no_rest x.1 (many_ends any_token statement_begins statement_law ts x e)
 
-took_file : (ts : List Tok) (r : Read (List Rule)) (x : List Rule × List Tok) → r ≡ Ok x → x.1 ≡ []
+took_file : (ts : List Tok) (r : Got (List Rule)) (x : List Rule × List Tok) → r ≡ Ok x → x.1 ≡ []
     → After file_at file ts r → file x.0 ts
 took_file ts (Ok y) x e end took =
     let same : y ≡ x = cc in
@@ -48,9 +48,9 @@ took_file ts (Err rest) x e end failed = absurd (cc)
 pub file_found : (ts : List Tok) (x : List Rule × List Tok) → file_at ts ≡ Ok x → file x.0 ts
 file_found ts x e = took_file ts (file_at ts) x e (all_read ts x e) (file_law.after ts)
 
-not_both : (x : List Rule × List Tok) (rest : List Tok) (r : Read (List Rule)) → r ≡ Ok x
+not_both : (x : List Rule × List Tok) (rest : List Tok) (r : Got (List Rule)) → r ≡ Ok x
     → r ≡ Err rest → ⊥
-not_both x rest r a b = let two : ◌≡◌ {A = Read (List Rule)} (Ok x) (Err rest) = sym a ∙ b in cc
+not_both x rest r a b = let two : ◌≡◌ {A = Got (List Rule)} (Ok x) (Err rest) = sym a ∙ b in cc
 
 -- no file has the token of the fault behind those before it
 refuses : (ts rest : List Tok) (failed : Failed file_at file ts rest) (t : Tok) (a : List Tok)
@@ -89,7 +89,7 @@ fault_seen ts rest e failed =
     by_rest (t ∷ a) h less begins =
         refuses ts rest failed t a h (subst BeginsFile (one_more t a h) begins)
 
-fault_of : (ts rest : List Tok) (r : Read (List Rule)) → file_at ts ≡ r → r ≡ Err rest
+fault_of : (ts rest : List Tok) (r : Got (List Rule)) → file_at ts ≡ r → r ≡ Err rest
     → After file_at file ts r → (number : ℕ) → number + length rest ≡ length ts
     → IsParseFault ts number
 fault_of ts rest (Ok x) e f took number count = absurd (cc)
@@ -110,7 +110,7 @@ pub file_fault : (ts rest : List Tok) → file_at ts ≡ Err rest → (number : 
 file_fault ts rest e number count =
     fault_of ts rest (file_at ts) refl e (file_law.after ts) number count
 
-one_file : (x y : List Rule × List Tok) → ◌≡◌ {A = Read (List Rule)} (Ok x) (Ok y) → x ≡ y
+one_file : (x y : List Rule × List Tok) → ◌≡◌ {A = Got (List Rule)} (Ok x) (Ok y) → x ≡ y
 one_file x y e = cc
 
 -- no other rules are spelled
@@ -118,7 +118,7 @@ pub file_one : (ts : List Tok) (x : List Rule × List Tok) (rules : List Rule) �
     → file rules ts → x.0 ≡ rules
 file_one ts x rules e s = ap (λ z. z.0) (one_file x (rules, []) (sym e ∙ file_read rules ts s))
 
-short_of : (ts rest : List Tok) (r : Read (List Rule)) → r ≡ Err rest → After file_at file ts r
+short_of : (ts rest : List Tok) (r : Got (List Rule)) → r ≡ Err rest → After file_at file ts r
     → length rest ≤ length ts
 short_of ts rest (Ok x) e took = absurd (cc)
 short_of ts rest (Err end) e failed =
@@ -132,7 +132,7 @@ file_short ts rest e = short_of ts rest (file_at ts) e (file_law.after ts)
 -- a stop is a fault of the tokens, and no rules are spelled
 pub stop_faults : (text : List ℕ) (tokens : List Token) (stop : ParseStop)
     → Fails text stop (file_at (toks text tokens))
-    → Faults text tokens (fault_from (length text) tokens stop)
+    → IsFaultOfText text tokens (fault_from (length text) tokens stop)
 stop_faults text tokens stops.NoMemory f = tt
 stop_faults text tokens (stops.At rest) f =
     let number = length tokens - length rest.now in

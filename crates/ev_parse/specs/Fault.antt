@@ -37,9 +37,9 @@ pub record FaultAt (text : List ℕ) (tokens : List Token) (place : ℕ) : Type 
   pub stands : place ≡ place_from (length text) (drop number tokens)
 
 -- what a fault says of the tokens of a text
-abbrev pub Faults : List ℕ → List Token → ParseFault → Type 0
-Faults text tokens (faults.At place) = FaultAt text tokens place
-Faults text tokens faults.NoMemory = Unit {0}
+abbrev pub IsFaultOfText : List ℕ → List Token → ParseFault → Type 0
+IsFaultOfText text tokens (faults.At place) = FaultAt text tokens place
+IsFaultOfText text tokens faults.NoMemory = Unit {0}
 
 -- the fault that a stop is: at the first of the tokens that are left
 abbrev pub fault_from : ℕ → List Token → ParseStop → ParseFault

@@ -22,7 +22,7 @@ use Rattle.ev_tree.specs.declared.tree.Operand.{Operand}
 use Rattle.ev_tree.specs.declared.tree.Operand.TheVariants as operands
 use Rattle.ev_tree.specs.declared.tree.Part.{Part}
 use Rattle.ev_tree.specs.declared.tree.TimeWord.{TimeWord}
-use Rattle.ev_parse.specs.Read.{Read, token_at, map_at, both_at, is, is_word, word_at, after_at}
+use Rattle.ev_parse.specs.Read.{Got, token_at, map_at, both_at, is, is_word, word_at, after_at}
 use Rattle.ev_parse.specs.Read.{after_word_at, closed_at, either_at, pure_at, optional_at, many_at}
 use Rattle.ev_parse.specs.Read.{more_at, separated_at}
 
@@ -84,34 +84,34 @@ any_token t = true
 
 -- the rules
 
-unfoldable pub name_at : List Tok → Read (List ℕ)
+unfoldable pub name_at : List Tok → Got (List ℕ)
 name_at ts = token_at pick_name ts
 
-unfoldable pub class_at : List Tok → Read (List ℕ)
+unfoldable pub class_at : List Tok → Got (List ℕ)
 class_at ts = token_at pick_class ts
 
-unfoldable pub int_at : List Tok → Read ℕ
+unfoldable pub int_at : List Tok → Got ℕ
 int_at ts = token_at pick_int ts
 
-unfoldable pub time_at : List Tok → Read TimeWord
+unfoldable pub time_at : List Tok → Got TimeWord
 time_at ts = token_at pick_time ts
 
-unfoldable pub text_at : List Tok → Read (List ℕ)
+unfoldable pub text_at : List Tok → Got (List ℕ)
 text_at ts = token_at pick_text ts
 
-unfoldable pub compare_at : List Tok → Read Compare
+unfoldable pub compare_at : List Tok → Got Compare
 compare_at ts = token_at pick_compare ts
 
 abbrev pub declared_of : List ℕ × List (List ℕ) → Declared
 declared_of p = record { class = p.0; names = p.1 }
 
-unfoldable pub names_at : List Tok → Read (List (List ℕ))
+unfoldable pub names_at : List Tok → Got (List (List ℕ))
 names_at ts = separated_at (codes "/") name_at ts
 
-unfoldable pub declared_at : List Tok → Read Declared
+unfoldable pub declared_at : List Tok → Got Declared
 declared_at ts = map_at declared_of (both_at class_at (after_at (codes "@") names_at)) ts
 
-unfoldable pub event_attr_at : List Tok → Read EventAttr
+unfoldable pub event_attr_at : List Tok → Got EventAttr
 event_attr_at ts =
     either_at (is_word (codes "FITrate"))
     (map_at event_attrs.Fit (after_word_at (codes "FITrate") (after_at (codes "=") int_at)))
@@ -121,7 +121,7 @@ event_attr_at ts =
     (map_at event_attrs.Engine (after_at (codes "engine") (after_at (codes "=") class_at)))
     (map_at event_attrs.Within (after_word_at (codes "within") (after_at (codes "=") time_at))))) ts
 
-unfoldable pub engine_attr_at : List Tok → Read EngineAttr
+unfoldable pub engine_attr_at : List Tok → Got EngineAttr
 engine_attr_at ts =
     either_at (is_word (codes "N"))
     (map_at engine_attrs.N (after_word_at (codes "N") (after_at (codes "=") int_at)))
@@ -132,18 +132,18 @@ engine_attr_at ts =
 abbrev pub all_counted : Unit {0} → Count
 all_counted u = counts.All
 
-unfoldable pub count_at : List Tok → Read Count
+unfoldable pub count_at : List Tok → Got Count
 count_at ts = either_at is_int (map_at counts.Number int_at)
     (map_at all_counted (word_at (codes "A"))) ts
 
-unfoldable pub arrow_count_at : List Tok → Read (Option Count)
+unfoldable pub arrow_count_at : List Tok → Got (Option Count)
 arrow_count_at ts = optional_at (is (codes "("))
     (after_at (codes "(") (closed_at count_at (codes ")"))) ts
 
-unfoldable pub index_at : List Tok → Read At
+unfoldable pub index_at : List Tok → Got At
 index_at ts = either_at opens_name (map_at ats.Down name_at) (map_at ats.Number int_at) ts
 
-unfoldable pub at_at : List Tok → Read At
+unfoldable pub at_at : List Tok → Got At
 at_at ts =
     either_at (is (codes "[")) (after_at (codes "[") (closed_at index_at (codes "]")))
     (either_at (is (codes "<"))
@@ -153,17 +153,17 @@ at_at ts =
 abbrev pub named_part : List ℕ × At → Part
 named_part p = record { name = p.0; at = p.1 }
 
-unfoldable pub part_at : List Tok → Read Part
+unfoldable pub part_at : List Tok → Got Part
 part_at ts = map_at named_part (both_at name_at at_at) ts
 
-unfoldable pub parts_at : List Tok → Read (List Part)
+unfoldable pub parts_at : List Tok → Got (List Part)
 parts_at ts = separated_at (codes "/") part_at ts
 
 -- a reserved word, and a text in parentheses
-unfoldable pub call_at : List ℕ → List Tok → Read (List ℕ)
+unfoldable pub call_at : List ℕ → List Tok → Got (List ℕ)
 call_at word ts = after_at word (after_at (codes "(") (closed_at text_at (codes ")"))) ts
 
-unfoldable pub operand_at : List Tok → Read Operand
+unfoldable pub operand_at : List Tok → Got Operand
 operand_at ts =
     either_at is_int (map_at operands.Int int_at)
     (either_at opens_name (map_at operands.Name name_at)
@@ -172,25 +172,25 @@ operand_at ts =
     (map_at operands.Payloadprop (call_at (codes "payloadprop")))
     (map_at operands.Text text_at)))) ts
 
-unfoldable pub sum_at : List Tok → Read (List Operand)
+unfoldable pub sum_at : List Tok → Got (List Operand)
 sum_at ts = separated_at (codes "+") operand_at ts
 
-unfoldable pub compares_at : List Tok → Read Condition
+unfoldable pub compares_at : List Tok → Got Condition
 compares_at ts = map_at comparing (both_at sum_at (both_at compare_at sum_at)) ts
 
-unfoldable pub atom_at : List Tok → Read Condition
+unfoldable pub atom_at : List Tok → Got Condition
 atom_at ts =
     either_at (is (codes "confprop_defined")) (map_at Defined (call_at (codes "confprop_defined")))
     compares_at ts
 
 -- the `&&` and the `||` of conditions, over a reader of unary ones
-unfoldable pub all_of_at : (List Tok → Read Condition) → List Tok → Read Condition
+unfoldable pub all_of_at : (List Tok → Got Condition) → List Tok → Got Condition
 all_of_at unary ts = map_at (gather all) (separated_at (codes "&&") unary) ts
 
-unfoldable pub any_of_at : (List Tok → Read Condition) → List Tok → Read Condition
+unfoldable pub any_of_at : (List Tok → Got Condition) → List Tok → Got Condition
 any_of_at unary ts = map_at (gather any) (separated_at (codes "||") (all_of_at unary)) ts
 
-unfoldable pub unary_at : ℕ → List Tok → Read Condition
+unfoldable pub unary_at : ℕ → List Tok → Got Condition
 unary_at zero ts = atom_at ts
 unary_at (suc n) ts =
     either_at (is (codes "!")) (map_at Negated (after_at (codes "!") (unary_at n)))
@@ -198,42 +198,42 @@ unary_at (suc n) ts =
     (after_at (codes "(") (closed_at (any_of_at (unary_at n)) (codes ")")))
     atom_at) ts
 
-unfoldable pub condition_at : List Tok → Read Condition
+unfoldable pub condition_at : List Tok → Got Condition
 condition_at ts = any_of_at (unary_at 64) ts
 
 abbrev pub pattern_of : List ℕ × (List Part × Option Condition) → Pattern
 pattern_of p = record { class = p.0; parts = p.1.0; cond = p.1.1 }
 
 -- a condition in braces, where there is one
-unfoldable pub guard_at : List Tok → Read (Option Condition)
+unfoldable pub guard_at : List Tok → Got (Option Condition)
 guard_at ts = optional_at (is (codes "{"))
     (after_at (codes "{") (closed_at condition_at (codes "}"))) ts
 
-unfoldable pub pattern_at : List Tok → Read Pattern
+unfoldable pub pattern_at : List Tok → Got Pattern
 pattern_at ts = map_at pattern_of
     (both_at class_at (after_at (codes "@") (both_at parts_at guard_at))) ts
 
-unfoldable pub side_at : List Tok → Read (List Pattern)
+unfoldable pub side_at : List Tok → Got (List Pattern)
 side_at ts = separated_at (codes ",") pattern_at ts
 
-unfoldable pub event_at : List Tok → Read Rule
+unfoldable pub event_at : List Tok → Got Rule
 event_at ts = map_at event_of
     (after_at (codes "event")
     (both_at declared_at (closed_at (more_at (codes ",") event_attr_at) (codes ";")))) ts
 
-unfoldable pub engine_at : List Tok → Read Rule
+unfoldable pub engine_at : List Tok → Got Rule
 engine_at ts = map_at engine_of
     (after_at (codes "engine")
     (both_at declared_at (closed_at (more_at (codes ",") engine_attr_at) (codes ";")))) ts
 
-unfoldable pub prop_at : List Tok → Read Rule
+unfoldable pub prop_at : List Tok → Got Rule
 prop_at ts =
     map_at prop_of (after_at (codes "prop") (both_at side_at (both_at arrow_count_at
     (after_at (codes "->") (both_at arrow_count_at (closed_at side_at (codes ";"))))))) ts
 
-unfoldable pub statement_at : List Tok → Read Rule
+unfoldable pub statement_at : List Tok → Got Rule
 statement_at ts = either_at (is (codes "event")) event_at
     (either_at (is (codes "engine")) engine_at prop_at) ts
 
-unfoldable pub file_at : List Tok → Read (List Rule)
+unfoldable pub file_at : List Tok → Got (List Rule)
 file_at ts = many_at any_token statement_at ts

@@ -15,8 +15,8 @@ use Rattle.ev_tree.specs.declared.tree.Unit as the_unit
 use Rattle.ev_tree.specs.declared.tree.Unit.TheVariants as units
 
 -- the bytes of a token
-abbrev pub bytes_of : List ℕ → Token → List ℕ
-bytes_of text t = take (t.to - t.from) (drop t.from text)
+abbrev pub token_bytes : List ℕ → Token → List ℕ
+token_bytes text t = take (t.to - t.from) (drop t.from text)
 
 -- a reserved word, a name or a class
 abbrev pub word_meaning : List ℕ → Tok
@@ -68,7 +68,7 @@ meaning kinds.Punct b = Sign b
 
 -- what a token of a text means
 unfoldable pub tok_of : List ℕ → Token → Tok
-tok_of text t = meaning t.kind (bytes_of text t)
+tok_of text t = meaning t.kind (token_bytes text t)
 
 -- what tokens of a text mean
 abbrev pub toks : List ℕ → List Token → List Tok

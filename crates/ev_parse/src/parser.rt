@@ -3,7 +3,7 @@ ghost use Rattle.std.specs.Prelude.{◌≡◌, ◌≤◌, List, length, map, IfO
 ghost use Rattle.ev_lex.specs.Cut.{AreTokens};
 ghost use Rattle.ev_tree.specs.Grammar.{file};
 ghost use Rattle.ev_tree.specs.Rule.{Rule, view_statement, view_tree};
-ghost use Rattle.ev_parse.specs.Fault.{Faults, place_from, fault_from};
+ghost use Rattle.ev_parse.specs.Fault.{IsFaultOfText, place_from, fault_from};
 ghost use Rattle.ev_parse.specs.Gives.{GivesAll};
 ghost use Rattle.ev_parse.specs.Placed.{StandFrom};
 ghost use Rattle.ev_parse.specs.Reading.{file_at};
@@ -77,7 +77,7 @@ pub fn parse(alloc: Global, text: &[u8], tokens: &[Token]) -> Result<Tree, Parse
         (λ tree. StandFrom text.now tokens.now 0 tree.statements (length tokens.now)) }
     ensures only { (rules : List Rule) → file rules (toks text.now tokens.now)
         → MatchResult result (λ tree. view_tree tree ≡ rules) (λ e. e ≡ ParseFault.NoMemory) }
-    ensures fault { MatchResult result (λ _. Unit {0}) (Faults text.now tokens.now) }
+    ensures fault { MatchResult result (λ _. Unit {0}) (IsFaultOfText text.now tokens.now) }
 {
     match statements(alloc, text, tokens) {
         Ok(statements) => Ok(Tree { statements }),

@@ -12,7 +12,7 @@ use Rattle.fm_name.proofs.Cutting.{some_text}
 use Rattle.fm_name.proofs.Scanning.{scan, scan_start, any_dots}
 use Rattle.ev_lex.specs.Bytes.{is_word_byte, opens_word}
 use Rattle.ev_lex.specs.Forms.{IsWord}
-use Rattle.ev_lex.specs.Pieces.{goes_on}
+use Rattle.ev_lex.specs.Pieces.{is_in_word}
 
 pub and_one : (a b : Bool) → (a && b) ≡ true → a ≡ true
 and_one true b e = refl
@@ -25,7 +25,7 @@ and_two false b e = absurd (false≢true e)
 -- each byte goes on
 abbrev AllOn : List ℕ → Type 0
 AllOn bytes = (front : List ℕ) (b : ℕ) (back : List ℕ) → bytes ≡ front ++ b ∷ back
-    → goes_on b back ≡ true
+    → is_in_word b back ≡ true
 
 -- the parts keep the limit, where the first has so many bytes already
 abbrev fit : ℕ → List (List ℕ) → Bool
@@ -68,7 +68,7 @@ split_dot : (b : ℕ) (bs : List ℕ) → (b == 46) ≡ true
 split_dot b bs e = rw e refl
 
 -- what a byte that is none of a piece is
-joint : (b : ℕ) (bs : List ℕ) → is_word_byte b ≡ false → goes_on b bs ≡ true
+joint : (b : ℕ) (bs : List ℕ) → is_word_byte b ≡ false → is_in_word b bs ≡ true
     → ((b == 45 || b == 46) ≡ true) × (opens_word bs ≡ true)
 joint b bs e on =
     let both : ((b == 45 || b == 46) && opens_word bs) ≡ true =

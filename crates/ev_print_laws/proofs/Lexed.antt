@@ -20,7 +20,8 @@ use Rattle.fm_name.specs.Class.{is_class}
 use Rattle.ev_lex.specs.Bytes.{count_while, opens, opens_word, is_word_byte, is_text_byte, is_blank}
 use Rattle.ev_lex.specs.Bytes.{is_in_line, int_value}
 use Rattle.ev_lex.specs.Cut.{IsCut, lexeme, tokens_from, AreTokens}
-use Rattle.ev_lex.specs.Pieces.{piece, goes_on, word_length, word_piece, number_piece, text_piece}
+use Rattle.ev_lex.specs.Pieces.{piece, is_in_word, word_length, word_piece}
+use Rattle.ev_lex.specs.Pieces.{number_piece, text_piece}
 use Rattle.ev_lex.specs.Pieces.{punct_piece, comment_piece, closing, parts_fit, is_unit, opens_pair}
 use Rattle.ev_lex.specs.Pieces.{opens_single, size, line_after}
 use Rattle.ev_lex.specs.declared.piece.Piece.{Piece}
@@ -355,10 +356,10 @@ kind_given kinds.Punct b word = tt
 take_more : (m b : ℕ) (bs : List ℕ) → take (1 + m) (b ∷ bs) ≡ b ∷ take m bs
 take_more m b bs = ap (λ n. take n (b ∷ bs)) (let e : 1 + m ≡ suc m = omega arith in e)
 
-on_word : (b : ℕ) (bs : List ℕ) → is_word_byte b ≡ true → goes_on b bs ≡ true
+on_word : (b : ℕ) (bs : List ℕ) → is_word_byte b ≡ true → is_in_word b bs ≡ true
 on_word b bs e = or_left (is_word_byte b) ((b == 45 || b == 46) && opens_word bs) e
 
-joined_opens : (b : ℕ) (bs : List ℕ) → goes_on b bs ≡ true → (c : Bool) → is_word_byte b ≡ c
+joined_opens : (b : ℕ) (bs : List ℕ) → is_in_word b bs ≡ true → (c : Bool) → is_word_byte b ≡ c
     → ((is_word_byte b ≡ true) ⊎ (((b == 45 || b == 46) ≡ true) × (opens_word bs ≡ true)))
 joined_opens b bs e true w = inl w
 joined_opens b bs e false w =
@@ -379,15 +380,15 @@ word_opens : (bs rest : List ℕ) → opens_word bs ≡ true
 word_opens [] rest e = absurd (cc)
 word_opens (c ∷ cs) rest e =
     ap (λ n. opens_word (take n (c ∷ cs) ++ rest))
-    (if_true (goes_on c cs) (1 + word_length cs) 0 (on_word c cs e))
+    (if_true (is_in_word c cs) (1 + word_length cs) 0 (on_word c cs e))
     ∙ ap (λ l. opens_word (l ++ rest)) (take_more (word_length cs) c cs) ∙ e
 
-still_on : (b : ℕ) (bs rest : List ℕ) → goes_on b bs ≡ true
-    → goes_on b (take (word_length bs) bs ++ rest) ≡ true
+still_on : (b : ℕ) (bs rest : List ℕ) → is_in_word b bs ≡ true
+    → is_in_word b (take (word_length bs) bs ++ rest) ≡ true
 still_on b bs rest e = by_cases (joined_opens b bs e (is_word_byte b) refl)
   where
     by_cases : ((is_word_byte b ≡ true) ⊎ (((b == 45 || b == 46) ≡ true) × (opens_word bs ≡ true)))
-        → goes_on b (take (word_length bs) bs ++ rest) ≡ true
+        → is_in_word b (take (word_length bs) bs ++ rest) ≡ true
     by_cases (inl w) = on_word b (take (word_length bs) bs ++ rest) w
     by_cases (inr j) =
         or_right (is_word_byte b)
@@ -398,21 +399,21 @@ still_on b bs rest e = by_cases (joined_opens b bs e (is_word_byte b) refl)
 length_again : (bs rest : List ℕ)
     → word_length (take (word_length bs) bs ++ (32 ∷ rest)) ≡ word_length bs
 length_again [] rest = refl
-length_again (b ∷ bs) rest = by_test (goes_on b bs) refl (length_again bs rest)
+length_again (b ∷ bs) rest = by_test (is_in_word b bs) refl (length_again bs rest)
   where
-    by_test : (c : Bool) → goes_on b bs ≡ c
+    by_test : (c : Bool) → is_in_word b bs ≡ c
         → word_length (take (word_length bs) bs ++ (32 ∷ rest)) ≡ word_length bs
         → word_length (take (word_length (b ∷ bs)) (b ∷ bs) ++ (32 ∷ rest)) ≡ word_length (b ∷ bs)
     by_test false e more =
         ap (λ n. word_length (take n (b ∷ bs) ++ (32 ∷ rest)))
-        (if_false (goes_on b bs) (1 + word_length bs) 0 e)
-        ∙ sym (if_false (goes_on b bs) (1 + word_length bs) 0 e)
+        (if_false (is_in_word b bs) (1 + word_length bs) 0 e)
+        ∙ sym (if_false (is_in_word b bs) (1 + word_length bs) 0 e)
     by_test true e more =
         let whole : word_length (b ∷ bs) ≡ 1 + word_length bs =
-        if_true (goes_on b bs) (1 + word_length bs) 0 e in
+        if_true (is_in_word b bs) (1 + word_length bs) 0 e in
         ap (λ n. word_length (take n (b ∷ bs) ++ (32 ∷ rest))) whole
         ∙ ap (λ l. word_length (l ++ (32 ∷ rest))) (take_more (word_length bs) b bs)
-        ∙ if_true (goes_on b (take (word_length bs) bs ++ (32 ∷ rest)))
+        ∙ if_true (is_in_word b (take (word_length bs) bs ++ (32 ∷ rest)))
         (1 + word_length (take (word_length bs) bs ++ (32 ∷ rest))) 0
         (still_on b bs (32 ∷ rest) e)
         ∙ ap (λ n. 1 + n) more
@@ -453,7 +454,7 @@ word_again : (b : ℕ) (bs : List ℕ) → is_ascii_alphabetic b ≡ true
     → WordAgain (take (word_length (b ∷ bs)) (b ∷ bs))
 word_again b bs letter fits line rest =
     let whole : word_length (b ∷ bs) ≡ 1 + word_length bs =
-    if_true (goes_on b bs) (1 + word_length bs) 0 (on_word b bs (letter_opens b letter)) in
+    if_true (is_in_word b bs) (1 + word_length bs) 0 (on_word b bs (letter_opens b letter)) in
     let front : take (word_length (b ∷ bs)) (b ∷ bs) ≡ b ∷ take (word_length bs) bs =
     ap (λ n. take n (b ∷ bs)) whole ∙ take_more (word_length bs) b bs in
     ap (λ l. piece line (l ++ (32 ∷ rest))) front

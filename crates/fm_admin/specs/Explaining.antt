@@ -11,13 +11,13 @@ use Rattle.fm_explain.specs.Explained.{IsExplained}
 use Rattle.fm_saved.specs.declared.conf.Conf.{Conf}
 use Rattle.fm_drain.specs.CaseStatus.{IsStatusOf}
 use Rattle.fm_sources.specs.Rules.{IsRuleFile}
-use Rattle.fm_topo.specs.Fault.{IsClean}
+use Rattle.fm_topo.specs.Fault.{IsFaultless}
 use Rattle.fm_topo.specs.Topology.{topology_of}
 use Rattle.fm_admin.specs.Rows.{row_with}
 
 -- the text is a rule file, and this is its graph over the topology of another text
 pub record TextHasGraph (topo text : List ℕ) (g : GraphValue) : Type 0 where
-  pub clean : IsClean topo
+  pub clean : IsFaultless topo
   pub checked : CheckedFile
   pub is_rules : IsRuleFile text checked
   pub made : Made

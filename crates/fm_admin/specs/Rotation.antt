@@ -40,8 +40,8 @@ pub record IsRotated {D M : Type 0} (old new : StoreOf D M) (number : ℕ) : Typ
   pub journal_is : new.logs.active ≡ blank_journal new.logs.active.disk number
 
 -- a disk failed
-abbrev pub RoseOnOne : {D M : Type 0} → Ghosts D → StoreOf D M → StoreOf D M → Type 0
-RoseOnOne g old new = (name : DiskName)
+abbrev pub StoreDiskRose : {D M : Type 0} → Ghosts D → StoreOf D M → StoreOf D M → Type 0
+StoreDiskRose g old new = (name : DiskName)
     × Rose (g.failures (store_disk name old)) (g.failures (store_disk name new))
 
 -- The limit of this kind: the drain stopped at a record that has no room in the fault log, or all
@@ -61,7 +61,7 @@ RotationRefused g m old new hands (Closed name failures) =
     (new ≡ old) × (old.logs.closed ≡ Some (name, failures))
 RotationRefused g m old new hands (Full kind) =
     (old.logs.closed ≡ None) × RotationLimit g m old new hands kind
-RotationRefused g m old new hands Disk = (old.logs.closed ≡ None) × RoseOnOne g old new
+RotationRefused g m old new hands Disk = (old.logs.closed ≡ None) × StoreDiskRose g old new
 RotationRefused g m old new hands NoMemory = Unit {0}
 RotationRefused _ _ _ _ _ _ = ⊥
 

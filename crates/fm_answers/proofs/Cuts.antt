@@ -12,7 +12,7 @@ use Rattle.std.proofs.lemmas.List.Splits.{slice_split_none, slice_split_at, leng
 use Rattle.std.proofs.lemmas.List.Splits.{slice_split-cons_yes, slice_split-cons_no}
 use Rattle.std.proofs.lemmas.List.Sums.{fails_before_first, passes_at_first}
 use Rattle.fm_line.proofs.Cutting.{after_first_ended, lines_from_afresh, lines_of_parts_cons}
-use Rattle.fm_line.specs.Lines.{is_newline, HasNoNewline, kept, lines_of_parts, lines_of}
+use Rattle.fm_line.specs.Lines.{is_newline, HasNoNewline, kept_line, lines_of_parts, lines_of}
 use Rattle.fm_line.specs.Lines.{lines_from, ended_lines, ended_line, taken_len}
 use Rattle.fm_line.specs.declared.split.Whole.{Whole}
 use Rattle.fm_answers.specs.Running.{Line}
@@ -58,13 +58,13 @@ map_append f (x ∷ xs) ys = ap (λ l. f x ∷ l) (map_append f xs ys)
 -- the lines of bytes with a newline between them are some of the first side, and those of the
 -- second
 lines_append : (xs ys : List ℕ) (b : ℕ) → is_newline b ≡ true
-    → lines_of (xs ++ b ∷ ys) ≡ map kept (slice_split is_newline xs) ++ lines_of ys
+    → lines_of (xs ++ b ∷ ys) ≡ map kept_line (slice_split is_newline xs) ++ lines_of ys
 unfolding lines_of
 lines_append xs ys b ends =
-    ap (λ parts. map kept (lines_of_parts parts)) (split_append xs ys b ends)
-    ∙ ap (map kept) (parts_append (slice_split is_newline xs) (slice_split is_newline ys)
+    ap (λ parts. map kept_line (lines_of_parts parts)) (split_append xs ys b ends)
+    ∙ ap (map kept_line) (parts_append (slice_split is_newline xs) (slice_split is_newline ys)
     (some_parts ys))
-    ∙ map_append kept (slice_split is_newline xs) (lines_of_parts (slice_split is_newline ys))
+    ∙ map_append kept_line (slice_split is_newline xs) (lines_of_parts (slice_split is_newline ys))
 
 -- a piece in which the first newline is at its end, or past it, has none
 no_newline : (xs : List ℕ) → length xs ≤ position_or_len is_newline xs → HasNoNewline xs
@@ -101,7 +101,7 @@ one_counted xs b free ends =
 -- the lines that one newline ends, whatever follows it
 ending : Line → List ℕ → List Line
 ending None before = None ∷ []
-ending (Some front) before = map kept (slice_split is_newline (front ++ before))
+ending (Some front) before = map kept_line (slice_split is_newline (front ++ before))
 
 lines_ending : (pending : Line) (before more : List ℕ) (b : ℕ) → HasNoNewline before
     → is_newline b ≡ true

@@ -16,7 +16,7 @@ use Rattle.fm_answers.specs.Draining.{core_book}
 use Rattle.fm_answers.specs.StreamsAt.{SinkAt}
 use Rattle.fm_answers.specs.Refusing.{PutCut}
 use Rattle.fm_answers.specs.Replaying.{fresh_book, replayed, replay_text, ReplayTaken, ReplayedAll}
-use Rattle.fm_answers.specs.Replaying.{ReplayStops, IsPartOf}
+use Rattle.fm_answers.specs.Replaying.{ReplayStops, IsPutOf}
 use Rattle.fm_answers.specs.Running.{RanAll, RanUntil}
 use Rattle.fm_answers.specs.Tallied.{sum_of, sum_with, entry_count, Tallied, TallyLast}
 use Rattle.fm_answers.specs.declared.stops.Stop.{Stop}
@@ -76,7 +76,7 @@ sum_after a b es last (book, spoken) tallied =
 
 -- what was put of a text, as the sink tells it
 part_of_put : (out out_now : SinkAt) (text : List ℕ) (stop : Stop) → PutCut out out_now text stop
-    → (part : List ℕ) × IsPartOf text stop part × Appends out.bytes out_now.bytes part
+    → (part : List ℕ) × IsPutOf text stop part × Appends out.bytes out_now.bytes part
 part_of_put out out_now text Write (rose, (m, within, put)) = (take m text, (m, within, refl), put)
 part_of_put out out_now text Memory (put, same) = ([], refl, put)
 part_of_put out out_now text _ cut = absurd cut

@@ -4,7 +4,7 @@ use Rattle.std.specs.Prelude.{Some, None, Result, Ok, Err, unwrap_or, if◌then�
 use Rattle.fm_entry.specs.declared.entry.Entry.{Entry}
 use Rattle.fm_line.specs.declared.fault.LineFault.{LineFault}
 use Rattle.fm_line.specs.Faults.{code_of}
-use Rattle.fm_line.specs.Outcomes.{outcome, entry_of}
+use Rattle.fm_line.specs.Outcomes.{line_outcome, entry_of}
 
 -- `ok N`
 abbrev pub ok_text : ℕ → List ℕ
@@ -21,7 +21,7 @@ entries_at None = []
 entries_at (Some result) = entry_of result
 
 unfoldable pub entries_in : Option (List ℕ) → List Entry
-entries_in line = entries_at (outcome line)
+entries_in line = entries_at (line_outcome line)
 
 -- the entries of the lines that have no fault, in order
 unfoldable pub entries_of : List (Option (List ℕ)) → List Entry
@@ -40,7 +40,7 @@ answer_at is_told number next None = []
 answer_at is_told number next (Some result) = answer_to is_told number next result
 
 unfoldable pub answer : Bool → ℕ → ℕ → Option (List ℕ) → List ℕ
-answer is_told number next line = answer_at is_told number next (outcome line)
+answer is_told number next line = answer_at is_told number next (line_outcome line)
 
 -- the answers to lines, the first of which has this number
 unfoldable pub answers : Bool → ℕ → ℕ → List (Option (List ℕ)) → List ℕ

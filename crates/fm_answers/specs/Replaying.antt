@@ -91,10 +91,10 @@ pub record ReplayedAll (puts consumes : List ℕ → Type 0) (at_end : Type 0) :
   pub put : puts (answers false 1 0 (lines_of read) ++ replay_text (entries_of (lines_of read)))
 
 -- what was put of a text: a front where the sink failed, and nothing where memory was wanted before
-abbrev pub IsPartOf : List ℕ → Stop → List ℕ → Type 0
-IsPartOf text Write part = (m : ℕ) × (m ≤ length text) × (part ≡ take m text)
-IsPartOf text Memory part = part ≡ []
-IsPartOf text _ part = ⊥
+abbrev pub IsPutOf : List ℕ → Stop → List ℕ → Type 0
+IsPutOf text Write part = (m : ℕ) × (m ≤ length text) × (part ≡ take m text)
+IsPutOf text Memory part = part ≡ []
+IsPutOf text _ part = ⊥
 
 -- The input was read to its end and all refused lines were put, but only a part of what follows.
 pub record SummaryCut (puts consumes : List ℕ → Type 0) (at_end : Type 0) (stop : Stop) : Type 0
@@ -104,7 +104,7 @@ pub record SummaryCut (puts consumes : List ℕ → Type 0) (at_end : Type 0) (s
     pub whole : at_end
     pub within : length read ≤ 2 ^ 40
     pub part : List ℕ
-    pub why : IsPartOf (replay_text (entries_of (lines_of read))) stop part
+    pub why : IsPutOf (replay_text (entries_of (lines_of read))) stop part
     pub put : puts (answers false 1 0 (lines_of read) ++ part)
 
 -- `replay` stopped, within the run over the input or after it, or before it for want of memory

@@ -8,19 +8,19 @@ use Rattle.fm_answers.specs.declared.status.ToolStatus.TheVariants.{NotFound, Fu
 use Rattle.fm_answers.specs.declared.status.ToolStatus.TheVariants.{Exists}
 
 -- the number that the program ends with
-abbrev pub code_of : ToolStatus → ℕ
-code_of Done = 0
-code_of Usage = 1
-code_of Rules = 2
-code_of Topology = 3
-code_of Differs = 4
-code_of Damaged = 5
-code_of ReadFault = 6
-code_of WriteFault = 7
-code_of DiskFault = 8
-code_of NoMemory = 9
-code_of NotFound = 10
-code_of Full = 11
-code_of ActFault = 12
-code_of Graph = 13
-code_of Exists = 14
+abbrev pub status_code : ToolStatus → ℕ
+status_code Done = 0
+status_code Usage = 1
+status_code Rules = 2
+status_code Topology = 3
+status_code Differs = 4
+status_code Damaged = 5
+status_code ReadFault = 6
+status_code WriteFault = 7
+status_code DiskFault = 8
+status_code NoMemory = 9
+status_code NotFound = 10
+status_code Full = 11
+status_code ActFault = 12
+status_code Graph = 13
+status_code Exists = 14

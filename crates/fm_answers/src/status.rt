@@ -1,6 +1,6 @@
 // How a call of the fault manager ends.
 ghost use Rattle.std.specs.Prelude.{◌≡◌};
-ghost use Rattle.fm_answers.specs.Status.{code_of};
+ghost use Rattle.fm_answers.specs.Status.{status_code};
 
 /// How a call ends. The number of each is the exit status of the program.
 #[derive(Clone, Copy, Debug, PartialEq, Eq)]
@@ -40,7 +40,7 @@ pub enum ToolStatus {
 impl ToolStatus {
     /// The exit status, 0 to 14.
     pub fn code(&self) -> u8
-        ensures { result ≡ code_of self.now }
+        ensures { result ≡ status_code self.now }
     {
         match self {
             ToolStatus::Done => 0,

@@ -45,12 +45,12 @@ abbrev pub explain_with : List ℕ → Option Command
 explain_with second = option_map Explain (parsed second)
 
 -- the number below 2^64 that a word is
-abbrev pub number_of : List ℕ → Option ℕ
-number_of word = digits_within (2 ^ 64 - 1) word
+abbrev pub word_number : List ℕ → Option ℕ
+word_number word = digits_within (2 ^ 64 - 1) word
 
 -- the command `gen` and a number
 abbrev pub generate_with : List ℕ → Option Command
-generate_with second = option_map Generate (number_of second)
+generate_with second = option_map Generate (word_number second)
 
 -- the command of two words: `init` and a namespace, `esc` or `fmd` and an option, `fmadm` and what
 -- is asked for, `explain` and a UUID, or `gen` and a number
@@ -83,7 +83,7 @@ repair_at now said =
 -- the command `gen`, the option `-l` and a number
 abbrev pub lines_with : List ℕ → List ℕ → Option Command
 lines_with option third =
-    if bytes_eq option (codes "-l") then option_map GeneratedLines (number_of third) else None
+    if bytes_eq option (codes "-l") then option_map GeneratedLines (word_number third) else None
 
 -- the command of three words: `gen`, its option and a number; or `fmadm`, what is said of repairs,
 -- and of what

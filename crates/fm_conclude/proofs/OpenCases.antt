@@ -5,7 +5,7 @@ use Rattle.std.proofs.Common.{Result, Ok, Err, OnOk}
 use Rattle.std.proofs.lemmas.List.{map-append, take_more}
 use Rattle.std.proofs.lemmas.List.Concat.{flat_map-append}
 use Rattle.std.specs.List.{slice_get}
-use Rattle.dx_engine.specs.Rows.{row_of}
+use Rattle.dx_engine.specs.Rows.{open_row}
 use Rattle.dx_engine.specs.declared.rows.OpenRow.{OpenRow}
 use Rattle.fm_adm.specs.Summary.{IsSummary}
 use Rattle.fm_adm.specs.declared.summary.OpenReports.{OpenReports}
@@ -26,10 +26,10 @@ use Rattle.fm_conclude.specs.DrainedSummary.{open_by_state, open_of_shown, open_
 use Rattle.fm_conclude.specs.DrainedSummary.{IsSummaryOf, open_report, reports_by}
 
 -- the rows of open cases
-pub rows_are : (own : ℕ) (cs : List OpenCase) (rows : List OpenRow) → rows ≡ map (row_of own) cs
+pub rows_are : (own : ℕ) (cs : List OpenCase) (rows : List OpenRow) → rows ≡ map (open_row own) cs
     → map reports_by rows ≡ map (open_report own) cs
 rows_are own cs rows is =
-    ap (map reports_by) is ∙ map_map (row_of own) reports_by cs
+    ap (map reports_by) is ∙ map_map (open_row own) reports_by cs
 
 module _ {M : Type 0} (m : ModuleGhosts M) where
   -- no hand

@@ -9,7 +9,7 @@ use Rattle.fm_entry.specs.declared.entry.Entry.TheVariants.{Report, Tick, Repair
 use Rattle.fm_entry.specs.declared.entry.Entry.TheVariants.{Acquit, Reload}
 use Rattle.fm_core.specs.Meaning.{State, Meaning, conf_after, conf_of, after_of, says_of}
 use Rattle.fm_core.specs.Folds.{state_along, words_along, records_at}
-use Rattle.fm_core.specs.Configurations.{conf_along, IsKnown, NamesKnown, KnowsMore, AreAlike}
+use Rattle.fm_core.specs.Configurations.{conf_along, IsKnown, NamesKnown, KnowsMore, AgreeAlong}
 
 -- the configuration of the state along entries
 pub conf_is : (m : Meaning) (s : State) (n : ℕ) (es : List Entry)
@@ -38,7 +38,7 @@ known_after known (Some c) (Acquit case moment) h names = h
 
 pub alike : (m longer : Meaning) (s : State) (n : ℕ) (es : List Entry) → KnowsMore m longer
     → IsKnown m.known (conf_of m s) → AllByRecursion (NamesKnown m.known) es
-    → AreAlike m longer s n es
+    → AgreeAlong m longer s n es
 alike m longer s n [] more known names = record { state_same = refl; words_same = refl }
 alike m longer s n (e ∷ es) more known names =
     let after : after_of longer s n e ≡ after_of m s n e = more.after_same s n e known names.0 in
@@ -46,7 +46,7 @@ alike m longer s n (e ∷ es) more known names =
     let still : IsKnown m.known (conf_of m (after_of m s n e)) =
     subst (IsKnown m.known) (sym (m.conf_steps s n e))
     (known_after m.known (conf_of m s) e known names.0) in
-    let rest : AreAlike m longer (after_of m s n e) (n + 1) es =
+    let rest : AgreeAlong m longer (after_of m s n e) (n + 1) es =
     alike m longer (after_of m s n e) (n + 1) es more still names.1 in
     let own : records_at longer.own n (says_of longer s n e)
     ≡ records_at m.own n (says_of m s n e) =

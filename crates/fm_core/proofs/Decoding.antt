@@ -19,7 +19,7 @@ use Rattle.fm_name.specs.Category.{is_ereport}
 use Rattle.fm_core.specs.Counts.{is_count, is_ordered, are_counts, total_of}
 use Rattle.fm_core.specs.Counts.{count_bytes, counts_bytes}
 use Rattle.fm_core.specs.CountsOnce.{both_true, class_short, is_short_text, counts_prefix, IsShort}
-use Rattle.fm_core.specs.CountsOnce.{Counts}
+use Rattle.fm_core.specs.CountsOnce.{AreLawfulCounts}
 use Rattle.fm_core.specs.CountsOnce.{counts_are}
 use Rattle.fm_core.proofs.Lists.{all_map, all_append}
 use Rattle.fm_core.specs.Loading.{IsBad, IsKept, NoCount, NoneRead, NoCounts}
@@ -173,7 +173,7 @@ counts_kept (x ∷ xs) most m h t =
     (record { counted = parts.0; fits = omega arith }, counts_kept xs most m parts.1 (omega arith))
 
 lawful_kept : (xs : List ClassCount) → IsTrue (are_counts xs) → AllByRecursion IsKept xs
-lawful_kept xs h = let c : Counts xs = counts_are xs h in
+lawful_kept xs h = let c : AreLawfulCounts xs = counts_are xs h in
     counts_kept xs (2 ^ 46) (omega arith) c.counted c.total_fits
 
 drop_all : (n : ℕ) (xs : List ClassCount) → length xs ≤ n → drop n xs ≡ []
@@ -186,7 +186,7 @@ drop_all (suc n) (x ∷ xs) h = drop_all n xs (omega arith)
 header : (xs : List ClassCount) (bytes : List ℕ) → IsTrue (are_counts xs) → counts_bytes xs ≡ bytes
     → number_from 8 bytes ≡ Some (length xs, flat_map count_bytes xs)
 header xs bytes h e =
-    let c : Counts xs = counts_are xs h in
+    let c : AreLawfulCounts xs = counts_are xs h in
     let few : IsTrue (is_unsigned (length xs)) =
     (let l : length xs < 2 ^ 64 = omega (arith, c.few) in grind (arith, nat_tests)) in
     ap (number_from 8) (sym e) ∙ long_reader.whole (length xs) (flat_map count_bytes xs) few
@@ -242,7 +242,7 @@ pub not_lawful : (bytes more rest : List ℕ) (n : ℕ) (counts : List ClassCoun
     → (is_ordered counts && nat_le (total_of counts) (2 ^ 46)) ≡ false → NoCounts bytes
 not_lawful bytes more rest n counts read size whole kept fails xs h e =
     let same : counts ≡ xs = (same_counts bytes more rest n counts xs read size whole kept h e).0 in
-    let c : Counts xs = counts_are xs h in
+    let c : AreLawfulCounts xs = counts_are xs h in
     let fits : nat_le (total_of xs) (2 ^ 46) ≡ true =
     (let l : total_of xs ≤ 2 ^ 46 = c.total_fits in grind (arith, nat_tests)) in
     let holds : (is_ordered xs && nat_le (total_of xs) (2 ^ 46)) ≡ true =

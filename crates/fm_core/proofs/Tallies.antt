@@ -17,12 +17,13 @@ use Rattle.std.proofs.lemmas.List.{at_drop_more}
 use Rattle.fm_entry.specs.declared.list_event.ListEvent.{ListEvent}
 use Rattle.fm_core.specs.declared.class_count.ClassCount.{ClassCount}
 use Rattle.fm_name.specs.Category.{is_ereport}
-use Rattle.fm_core.specs.Counts.{order, one_more, counted, count_or, count_of, total_of, cases_of}
+use Rattle.fm_core.specs.Counts.{order, one_more, plus_one, count_or, count_of, total_of, cases_of}
 use Rattle.fm_core.specs.Counts.{is_past, is_ordered, are_counts, third, report_words}
-use Rattle.fm_core.specs.CountsOnce.{both_true, Counts, counts_are}
-use Rattle.fm_core.specs.CountsKept.{cmp, less_is, is_less, turned, before_before, both, one}
+use Rattle.fm_core.specs.CountsOnce.{both_true, AreLawfulCounts, counts_are}
+use Rattle.fm_core.specs.CountsKept.{cmp, less_is, is_less, turned, before_before, both, one_count}
 use Rattle.fm_core.specs.CountsKept.{past_greater, total_counted, counts_counted, cases_fit}
-use Rattle.fm_core.specs.Places.{place_step, place_of, is_of, is_standing, standing_count, place_in}
+use Rattle.fm_core.specs.Places.{place_step, class_place, is_of, is_standing}
+use Rattle.fm_core.specs.Places.{standing_count, place_in}
 use Rattle.fm_core.specs.Places.{count_or_none, count_found, counted_at}
 
 -- what is past a class is past what stands before that
@@ -75,7 +76,7 @@ partitioned class (x ∷ xs) h (suc i) (suc j) d a b c =
 -- and their number is the place of the class
 pub place_is : (class : List ℕ) (xs : List ClassCount) (i : ℕ) → i ≤ length xs
     → AllWithin (λ y. before_class class y ≡ true) xs 0 i
-    → AllWithin (λ y. before_class class y ≡ false) xs i (length xs) → i ≡ place_of class xs
+    → AllWithin (λ y. before_class class y ≡ false) xs i (length xs) → i ≡ class_place class xs
 place_is class [] i l a b = omega arith
 place_is class (x ∷ xs) zero l a b = let here : before_class class x ≡ false =
     b 0 x (omega arith) (omega arith) in rw here refl
@@ -89,10 +90,10 @@ place_le_step : (b : Bool) (p n : ℕ) → p ≤ n → place_step b p ≤ suc n
 place_le_step true p n h = omega arith
 place_le_step false p n h = omega arith
 
-pub place_le : (class : List ℕ) (xs : List ClassCount) → place_of class xs ≤ length xs
+pub place_le : (class : List ℕ) (xs : List ClassCount) → class_place class xs ≤ length xs
 place_le class [] = omega arith
 place_le class (x ∷ xs) =
-    place_le_step (is_lt (order x class)) (place_of class xs) (length xs) (place_le class xs)
+    place_le_step (is_lt (order x class)) (class_place class xs) (length xs) (place_le class xs)
 
 -- whether a count is of a class, by how it stands to it
 of_class : (x : ClassCount) (class : List ℕ) (r : Ordering) → order x class ≡ r
@@ -101,8 +102,8 @@ of_class x class r e = texts_ties x.class class ∙ ap is_eq e
 
 deeper_by : (class : List ℕ) (x y : ClassCount) (xs : List ClassCount) (i : ℕ) (b : Bool)
     → cond b (set (x ∷ xs) (suc i) (record y { count = y.count + 1 }))
-    (insert (x ∷ xs) (suc i) (one class))
-    ≡ x ∷ cond b (set xs i (record y { count = y.count + 1 })) (insert xs i (one class))
+    (insert (x ∷ xs) (suc i) (one_count class))
+    ≡ x ∷ cond b (set xs i (record y { count = y.count + 1 })) (insert xs i (one_count class))
 deeper_by class x y xs i true = refl
 deeper_by class x y xs i false = refl
 
@@ -112,13 +113,13 @@ deeper class x xs i None = refl
 deeper class x xs i (Some y) = deeper_by class x y xs i (is_of class y)
 
 counted_step : (class : List ℕ) (x : ClassCount) (xs : List ClassCount) (r : Ordering)
-    → order x class ≡ r → counted class xs
-    ≡ counted_at class xs (place_of class xs) (slice_get xs (place_of class xs))
-    → one_more r class x xs (counted class xs)
-    ≡ counted_at class (x ∷ xs) (place_step (is_lt r) (place_of class xs))
-    (slice_get (x ∷ xs) (place_step (is_lt r) (place_of class xs)))
+    → order x class ≡ r → plus_one class xs
+    ≡ counted_at class xs (class_place class xs) (slice_get xs (class_place class xs))
+    → one_more r class x xs (plus_one class xs)
+    ≡ counted_at class (x ∷ xs) (place_step (is_lt r) (class_place class xs))
+    (slice_get (x ∷ xs) (place_step (is_lt r) (class_place class xs)))
 counted_step class x xs Less e h = ap (λ ys. x ∷ ys) h
-    ∙ sym (deeper class x xs (place_of class xs) (slice_get xs (place_of class xs)))
+    ∙ sym (deeper class x xs (class_place class xs) (slice_get xs (class_place class xs)))
 counted_step class x xs Equal e h = let same : is_of class x ≡ true = of_class x class Equal e in
     rw same refl
 counted_step class x xs Greater e h = let other : is_of class x ≡ false =
@@ -126,7 +127,8 @@ counted_step class x xs Greater e h = let other : is_of class x ≡ false =
 
 -- the counts with one report more, as the code makes them
 pub counted_is : (class : List ℕ) (xs : List ClassCount)
-    → counted class xs ≡ counted_at class xs (place_of class xs) (slice_get xs (place_of class xs))
+    → plus_one class xs ≡ counted_at class xs (class_place class xs)
+    (slice_get xs (class_place class xs))
 counted_is class [] = refl
 counted_is class (x ∷ xs) = counted_step class x xs (order x class) refl (counted_is class xs)
 
@@ -143,9 +145,9 @@ none_past class (x ∷ xs) h =
 
 count_step : (class : List ℕ) (x : ClassCount) (xs : List ClassCount) (r : Ordering)
     → order x class ≡ r → IsTrue (is_ordered (x ∷ xs))
-    → count_of class xs ≡ standing_count class (slice_get xs (place_of class xs))
+    → count_of class xs ≡ standing_count class (slice_get xs (class_place class xs))
     → count_or r x (count_of class xs)
-    ≡ standing_count class (slice_get (x ∷ xs) (place_step (is_lt r) (place_of class xs)))
+    ≡ standing_count class (slice_get (x ∷ xs) (place_step (is_lt r) (class_place class xs)))
 count_step class x xs Less e o h = h
 count_step class x xs Equal e o h = let same : is_of class x ≡ true = of_class x class Equal e in
     rw same refl
@@ -159,16 +161,16 @@ count_step class x xs Greater e o h =
 
 -- the count of a class is the one at its place
 pub count_is : (class : List ℕ) (xs : List ClassCount) → IsTrue (is_ordered xs)
-    → count_of class xs ≡ standing_count class (slice_get xs (place_of class xs))
+    → count_of class xs ≡ standing_count class (slice_get xs (class_place class xs))
 count_is class [] h = refl
 count_is class (x ∷ xs) h =
     count_step class x xs (order x class) refl h (count_is class xs (ordered_past x.class xs h))
 
 cases_step : (class : List ℕ) (x : ClassCount) (xs : List ClassCount) (r : Ordering)
     → order x class ≡ r → IsTrue (is_ordered (x ∷ xs))
-    → cases_of (counted class xs) + count_of class xs / 3
+    → cases_of (plus_one class xs) + count_of class xs / 3
     ≡ cases_of xs + (count_of class xs + 1) / 3
-    → cases_of (one_more r class x xs (counted class xs)) + count_or r x (count_of class xs) / 3
+    → cases_of (one_more r class x xs (plus_one class xs)) + count_or r x (count_of class xs) / 3
     ≡ x.count / 3 + cases_of xs + (count_or r x (count_of class xs) + 1) / 3
 cases_step class x xs Less e o h = omega arith
 cases_step class x xs Equal e o h = omega arith
@@ -181,7 +183,7 @@ cases_step class x xs Greater e o h =
 
 -- the cases grow by one at every third report of a class
 pub cases_counted : (class : List ℕ) (xs : List ClassCount) → IsTrue (is_ordered xs)
-    → cases_of (counted class xs) + count_of class xs / 3
+    → cases_of (plus_one class xs) + count_of class xs / 3
     ≡ cases_of xs + (count_of class xs + 1) / 3
 cases_counted class [] h = refl
 cases_counted class (x ∷ xs) h =
@@ -195,8 +197,8 @@ one_fits [] i d h = absurd (let no : ⊥ = omega arith in no)
 one_fits (x ∷ xs) zero d h = omega arith
 one_fits (x ∷ xs) (suc i) d h = omega (arith, one_fits xs i d (omega arith))
 
-made_by : (class : List ℕ) (xs : List ClassCount) (i : ℕ) → i ≡ place_of class xs
-    → counted class xs ≡ counted_at class xs i (slice_get xs i)
+made_by : (class : List ℕ) (xs : List ClassCount) (i : ℕ) → i ≡ class_place class xs
+    → plus_one class xs ≡ counted_at class xs i (slice_get xs i)
 made_by class xs i e = counted_is class xs
     ∙ ap (λ p. counted_at class xs p (slice_get xs p)) (sym e)
 
@@ -207,23 +209,24 @@ standing_by class xs i own e = rw e refl
 
 -- one more where the class stands
 pub counted_there : (class : List ℕ) (xs : List ClassCount) (i : ℕ) (own : ClassCount) (r : Bool)
-    → i ≡ place_of class xs → i < length xs → own ≡ get_or xs i own
+    → i ≡ class_place class xs → i < length xs → own ≡ get_or xs i own
     → r ≡ is_standing class (slice_get xs i) → r ≡ true
-    → set xs i (record own { count = own.count + 1 }) ≡ counted class xs
+    → set xs i (record own { count = own.count + 1 }) ≡ plus_one class xs
 counted_there class xs i own r at room read tested holds =
     let found : slice_get xs i ≡ Some own = slice_get_read xs (length xs) i own refl room read in
     let same : is_of class own ≡ true = ap (is_standing class) (sym found) ∙ sym tested ∙ holds in
     sym (made_by class xs i at ∙ ap (counted_at class xs i) found ∙ standing_by class xs i own same)
 
 absent_by : (class : List ℕ) (xs : List ClassCount) (i : ℕ) (o : Option ClassCount)
-    → is_standing class o ≡ false → counted_at class xs i o ≡ insert xs i (one class)
+    → is_standing class o ≡ false → counted_at class xs i o ≡ insert xs i (one_count class)
 absent_by class xs i None e = refl
 absent_by class xs i (Some x) e = rw e refl
 
 -- a first one where it would stand
-pub counted_new : (class : List ℕ) (xs : List ClassCount) (i : ℕ) (r : Bool) → i ≡ place_of class xs
+pub counted_new : (class : List ℕ) (xs : List ClassCount) (i : ℕ) (r : Bool)
+    → i ≡ class_place class xs
     → r ≡ is_standing class (slice_get xs i) → r ≡ false
-    → insert xs i (record { class = class; count = 1 }) ≡ counted class xs
+    → insert xs i (record { class = class; count = 1 }) ≡ plus_one class xs
 counted_new class xs i r at tested fails =
     sym (made_by class xs i at ∙ absent_by class xs i (slice_get xs i) (sym tested ∙ fails))
 
@@ -266,7 +269,7 @@ standing_past a class (x ∷ xs) (suc i) h s =
 
 -- in counts that ascend, a class stands at its place and at no other
 standing_place : (class : List ℕ) (xs : List ClassCount) (i : ℕ) → IsTrue (is_ordered xs)
-    → is_standing class (slice_get xs i) ≡ true → i ≡ place_of class xs
+    → is_standing class (slice_get xs i) ≡ true → i ≡ class_place class xs
 standing_place class [] i h s = absurd (let no : ⊥ = cc in no)
 standing_place class (x ∷ xs) zero h s =
     let same : order x class ≡ Equal =
@@ -277,13 +280,14 @@ standing_place class (x ∷ xs) (suc i) h s =
     rw up (ap suc (standing_place class xs i (ordered_past x.class xs h) s))
 
 -- what was found where the class stands, and where it would stand
-pub found_there : (class : List ℕ) (xs : List ClassCount) (i : ℕ) (r : Bool) → i ≡ place_of class xs
+pub found_there : (class : List ℕ) (xs : List ClassCount) (i : ℕ) (r : Bool)
+    → i ≡ class_place class xs
     → r ≡ is_standing class (slice_get xs i) → r ≡ true → Ok i ≡ place_in class xs
 found_there class xs i r at tested holds =
-    let is : is_standing class (slice_get xs (place_of class xs)) ≡ true =
+    let is : is_standing class (slice_get xs (class_place class xs)) ≡ true =
     ap (λ p. is_standing class (slice_get xs p)) (sym at) ∙ sym tested ∙ holds in
     let found : Result ℕ ℕ = Ok i in
-    subst (λ b. found ≡ cond b (Ok (place_of class xs)) (Err (place_of class xs))) (sym is)
+    subst (λ b. found ≡ cond b (Ok (class_place class xs)) (Err (class_place class xs))) (sym is)
     (ap Ok at)
 
 -- what was guessed
@@ -293,13 +297,14 @@ pub guessed_there : (class : List ℕ) (xs : List ClassCount) (i : ℕ) (r : Boo
 guessed_there class xs i r h tested holds =
     found_there class xs i r (standing_place class xs i h (sym tested ∙ holds)) tested holds
 
-pub found_none : (class : List ℕ) (xs : List ClassCount) (i : ℕ) (r : Bool) → i ≡ place_of class xs
+pub found_none : (class : List ℕ) (xs : List ClassCount) (i : ℕ) (r : Bool)
+    → i ≡ class_place class xs
     → r ≡ is_standing class (slice_get xs i) → r ≡ false → Err i ≡ place_in class xs
 found_none class xs i r at tested fails =
-    let is : is_standing class (slice_get xs (place_of class xs)) ≡ false =
+    let is : is_standing class (slice_get xs (class_place class xs)) ≡ false =
     ap (λ p. is_standing class (slice_get xs p)) (sym at) ∙ sym tested ∙ fails in
     let found : Result ℕ ℕ = Err i in
-    subst (λ b. found ≡ cond b (Ok (place_of class xs)) (Err (place_of class xs))) (sym is)
+    subst (λ b. found ≡ cond b (Ok (class_place class xs)) (Err (class_place class xs))) (sym is)
     (ap Err at)
 
 ok_from : (i p : ℕ) (b : Bool) → Ok i ≡ cond b (Ok p) (Err p) → (i ≡ p) × (b ≡ true)
@@ -312,19 +317,19 @@ err_from i p false e = (cc, refl)
 
 -- and what a place says of its class
 pub there_from : (class : List ℕ) (xs : List ClassCount) (i : ℕ) → Ok i ≡ place_in class xs
-    → (i ≡ place_of class xs) × (true ≡ is_standing class (slice_get xs i))
+    → (i ≡ class_place class xs) × (true ≡ is_standing class (slice_get xs i))
 there_from class xs i e =
-    let both : (i ≡ place_of class xs)
-    × (is_standing class (slice_get xs (place_of class xs)) ≡ true) =
-    ok_from i (place_of class xs) (is_standing class (slice_get xs (place_of class xs))) e in
+    let both : (i ≡ class_place class xs)
+    × (is_standing class (slice_get xs (class_place class xs)) ≡ true) =
+    ok_from i (class_place class xs) (is_standing class (slice_get xs (class_place class xs))) e in
     (both.0, sym (ap (λ p. is_standing class (slice_get xs p)) both.0 ∙ both.1))
 
 pub none_from : (class : List ℕ) (xs : List ClassCount) (i : ℕ) → Err i ≡ place_in class xs
-    → (i ≡ place_of class xs) × (false ≡ is_standing class (slice_get xs i))
+    → (i ≡ class_place class xs) × (false ≡ is_standing class (slice_get xs i))
 none_from class xs i e =
-    let both : (i ≡ place_of class xs)
-    × (is_standing class (slice_get xs (place_of class xs)) ≡ false) =
-    err_from i (place_of class xs) (is_standing class (slice_get xs (place_of class xs))) e in
+    let both : (i ≡ class_place class xs)
+    × (is_standing class (slice_get xs (class_place class xs)) ≡ false) =
+    err_from i (class_place class xs) (is_standing class (slice_get xs (class_place class xs))) e in
     (both.0, sym (ap (λ p. is_standing class (slice_get xs p)) both.0 ∙ both.1))
 
 -- a class that was found stands within the list
@@ -350,7 +355,7 @@ pub count_found_is : (class : List ℕ) (xs ys zs : List ClassCount) (r : Result
     → IsTrue (are_counts xs) → ys ≡ xs → zs ≡ xs → r ≡ place_in class ys → n ≡ count_found r zs
     → n ≡ count_of class xs
 count_found_is class xs ys zs r n h same same' at tested =
-    let place : ℕ = place_of class xs in
+    let place : ℕ = class_place class xs in
     tested ∙ ap (count_found r) same' ∙ ap (λ p. count_found p xs) (at ∙ ap (place_in class) same)
     ∙ count_found_at class xs place (slice_get xs place) refl
     ∙ sym (count_is class xs (counts_are xs h).ordered)
@@ -384,12 +389,12 @@ says_is own total cases n xs class path t ws a few b e h =
 
 -- the number of cases after one report more
 pub cases_after : (class : List ℕ) (xs : List ClassCount) (n : ℕ) → IsTrue (is_ordered xs)
-    → n ≡ count_of class xs → cases_of xs + ((n + 1) / 3 - n / 3) ≡ cases_of (counted class xs)
+    → n ≡ count_of class xs → cases_of xs + ((n + 1) / 3 - n / 3) ≡ cases_of (plus_one class xs)
 cases_after class xs n h e =
-    let whole : cases_of (counted class xs) + count_of class xs / 3
+    let whole : cases_of (plus_one class xs) + count_of class xs / 3
     ≡ cases_of xs + (count_of class xs + 1) / 3 = cases_counted class xs h in
     let same : cases_of xs + ((count_of class xs + 1) / 3 - count_of class xs / 3)
-    ≡ cases_of (counted class xs) = omega arith in
+    ≡ cases_of (plus_one class xs) = omega arith in
     ap (λ m. cases_of xs + ((m + 1) / 3 - m / 3)) e ∙ same
 
 -- and there is room for it
@@ -397,11 +402,11 @@ pub cases_after_fit : (class : List ℕ) (xs : List ClassCount) (cases n : ℕ) 
     → cases ≡ cases_of xs → n ≡ count_of class xs → total_of xs < 2 ^ 46
     → cases + ((n + 1) / 3 - n / 3) < 2 ^ 64
 cases_after_fit class xs cases n h a e few =
-    let after : cases_of xs + ((n + 1) / 3 - n / 3) ≡ cases_of (counted class xs) =
+    let after : cases_of xs + ((n + 1) / 3 - n / 3) ≡ cases_of (plus_one class xs) =
     cases_after class xs n h e in
-    let most : cases_of (counted class xs) ≤ total_of (counted class xs) =
-    cases_fit (counted class xs) in
-    let total : total_of (counted class xs) ≡ total_of xs + 1 = total_counted class xs in
+    let most : cases_of (plus_one class xs) ≤ total_of (plus_one class xs) =
+    cases_fit (plus_one class xs) in
+    let total : total_of (plus_one class xs) ≡ total_of xs + 1 = total_counted class xs in
     let same : cases + ((n + 1) / 3 - n / 3) ≡ cases_of xs + ((n + 1) / 3 - n / 3) =
     ap (λ k. k + ((n + 1) / 3 - n / 3)) a in
     omega arith
@@ -409,13 +414,13 @@ cases_after_fit class xs cases n h a e few =
 -- what a counter holds, after one report more
 pub holds_after : (class : List ℕ) (xs ys : List ClassCount) (total cases n : ℕ)
     → IsTrue (is_ereport class) → IsTrue (are_counts xs) → total ≡ total_of xs → total < 2 ^ 46
-    → cases ≡ cases_of xs → n ≡ count_of class xs → ys ≡ counted class xs
+    → cases ≡ cases_of xs → n ≡ count_of class xs → ys ≡ plus_one class xs
     → IsTrue (are_counts ys) × (total + 1 ≡ total_of ys)
     × (cases + ((n + 1) / 3 - n / 3) ≡ cases_of ys)
 holds_after class xs ys total cases n a h t few k e made =
     let room : total_of xs < 2 ^ 46 = omega arith in
-    let was : Counts xs = counts_are xs h in
-    let more : total_of (counted class xs) ≡ total_of xs + 1 = total_counted class xs in
+    let was : AreLawfulCounts xs = counts_are xs h in
+    let more : total_of (plus_one class xs) ≡ total_of xs + 1 = total_counted class xs in
     subst (λ zs. IsTrue (are_counts zs) × (total + 1 ≡ total_of zs)
     × (cases + ((n + 1) / 3 - n / 3) ≡ cases_of zs)) (sym made) (
       counts_counted class xs a h room,

@@ -32,6 +32,6 @@ pub record KnowsMore (m longer : Meaning) : Type 0 where
       → NamesKnown m.known e → says_of longer s n e ≡ says_of m s n e
 
 -- both come along the entries to the same state, and say the same
-pub record AreAlike (m longer : Meaning) (s : State) (n : ℕ) (es : List Entry) : Type 0 where
+pub record AgreeAlong (m longer : Meaning) (s : State) (n : ℕ) (es : List Entry) : Type 0 where
   pub state_same : state_along longer s n es ≡ state_along m s n es
   pub words_same : words_along longer s n es ≡ words_along m s n es

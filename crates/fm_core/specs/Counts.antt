@@ -25,9 +25,9 @@ one_more Equal class x xs more = record x { count = x.count + 1 } ∷ xs
 one_more Greater class x xs more = record { class = class; count = 1 } ∷ x ∷ xs
 
 -- the counts with one report more of a class, in byte order of classes
-abbrev pub counted : List ℕ → List ClassCount → List ClassCount
-counted class [] = record { class = class; count = 1 } ∷ []
-counted class (x ∷ xs) = one_more (order x class) class x xs (counted class xs)
+abbrev pub plus_one : List ℕ → List ClassCount → List ClassCount
+plus_one class [] = record { class = class; count = 1 } ∷ []
+plus_one class (x ∷ xs) = one_more (order x class) class x xs (plus_one class xs)
 
 abbrev pub count_or : Ordering → ClassCount → ℕ → ℕ
 count_or Less x more = more
@@ -70,7 +70,7 @@ are_counts xs = is_ordered xs && (list_all is_count xs && nat_le (total_of xs) (
 
 -- the counts after a report of a class
 abbrev pub report_counts : List ClassCount → List ℕ → List ClassCount
-report_counts xs class = if nat_lt (total_of xs) (2 ^ 46) then counted class xs else xs
+report_counts xs class = if nat_lt (total_of xs) (2 ^ 46) then plus_one class xs else xs
 
 -- the counts after an entry: a report is counted as long as no more than 2^46 would be
 abbrev pub counts_after : List ClassCount → Entry → List ClassCount

@@ -20,10 +20,10 @@ use Rattle.fm_entry.specs.declared.entry.Entry.TheVariants.{Report, Tick, Repair
 use Rattle.fm_entry.specs.declared.entry.Entry.TheVariants.{Acquit, Reload}
 use Rattle.fm_core.specs.declared.class_count.ClassCount.{ClassCount}
 use Rattle.fm_name.specs.Category.{is_ereport}
-use Rattle.fm_core.specs.Counts.{order, one_more, counted, total_of, cases_of}
+use Rattle.fm_core.specs.Counts.{order, one_more, plus_one, total_of, cases_of}
 use Rattle.fm_core.specs.Counts.{is_count, is_past, is_ordered, are_counts}
 use Rattle.fm_core.specs.Counts.{counts_after, third, is_third, counter_words}
-use Rattle.fm_core.specs.CountsOnce.{both_true, Counts, counts_are}
+use Rattle.fm_core.specs.CountsOnce.{both_true, AreLawfulCounts, counts_are}
 
 -- the order of texts
 abbrev pub cmp : List ℕ → List ℕ → Ordering
@@ -47,8 +47,8 @@ pub both : (a b : Bool) → IsTrue a → IsTrue b → IsTrue (a && b)
 both true b h k = k
 both false b h k = h
 
-abbrev pub one : List ℕ → ClassCount
-one class = record { class = class; count = 1 }
+abbrev pub one_count : List ℕ → ClassCount
+one_count class = record { class = class; count = 1 }
 
 pub past_greater : (class : List ℕ) (x : ClassCount) (xs : List ClassCount)
     → order x class ≡ Greater → IsTrue (is_ordered (x ∷ xs)) → IsTrue (is_past class (x ∷ xs))
@@ -57,27 +57,27 @@ past_greater class x xs e h =
     (is_less (cmp class x.class) (turned x.class class Greater e)) h
 
 total_step : (class : List ℕ) (x : ClassCount) (xs : List ClassCount) (r : Ordering)
-    → total_of (counted class xs) ≡ total_of xs + 1
-    → total_of (one_more r class x xs (counted class xs)) ≡ x.count + total_of xs + 1
+    → total_of (plus_one class xs) ≡ total_of xs + 1
+    → total_of (one_more r class x xs (plus_one class xs)) ≡ x.count + total_of xs + 1
 total_step class x xs Less h = omega arith
 total_step class x xs Equal h = omega arith
 total_step class x xs Greater h = omega arith
 
 -- one more is counted
 pub total_counted : (class : List ℕ) (xs : List ClassCount)
-    → total_of (counted class xs) ≡ total_of xs + 1
+    → total_of (plus_one class xs) ≡ total_of xs + 1
 total_counted class [] = refl
 total_counted class (x ∷ xs) = total_step class x xs (order x class) (total_counted class xs)
 
 past_step : (a class : List ℕ) (x : ClassCount) (xs : List ClassCount) (r : Ordering)
     → order x class ≡ r → cmp a class ≡ Less → IsTrue (is_past a (x ∷ xs))
     → (IsTrue (is_past x.class xs) → cmp x.class class ≡ Less
-    → IsTrue (is_past x.class (counted class xs)))
-    → IsTrue (is_past a (one_more r class x xs (counted class xs)))
+    → IsTrue (is_past x.class (plus_one class xs)))
+    → IsTrue (is_past a (one_more r class x xs (plus_one class xs)))
 past_step a class x xs Less e p h more =
     let parts : IsTrue (is_lt (cmp a x.class)) × IsTrue (is_past x.class xs) =
     both_true (is_lt (cmp a x.class)) (is_past x.class xs) h in
-    both (is_lt (cmp a x.class)) (is_past x.class (counted class xs)) parts.0 (more parts.1 e)
+    both (is_lt (cmp a x.class)) (is_past x.class (plus_one class xs)) parts.0 (more parts.1 e)
 past_step a class x xs Equal e p h more = h
 past_step a class x xs Greater e p h more =
     let parts : IsTrue (is_lt (cmp a x.class)) × IsTrue (is_past x.class xs) =
@@ -86,20 +86,20 @@ past_step a class x xs Greater e p h more =
     (past_greater class x xs e parts.1)
 
 past_counted : (a class : List ℕ) (xs : List ClassCount) → cmp a class ≡ Less
-    → IsTrue (is_past a xs) → IsTrue (is_past a (counted class xs))
+    → IsTrue (is_past a xs) → IsTrue (is_past a (plus_one class xs))
 past_counted a class [] p h = both (is_lt (cmp a class)) true (is_less (cmp a class) p) refl
 past_counted a class (x ∷ xs) p h =
     past_step a class x xs (order x class) refl p h (λ k q. past_counted x.class class xs q k)
 
 ordered_step : (class : List ℕ) (x : ClassCount) (xs : List ClassCount) (r : Ordering)
     → order x class ≡ r → IsTrue (is_ordered (x ∷ xs))
-    → IsTrue (is_ordered (one_more r class x xs (counted class xs)))
+    → IsTrue (is_ordered (one_more r class x xs (plus_one class xs)))
 ordered_step class x xs Less e h = past_counted x.class class xs e h
 ordered_step class x xs Equal e h = h
 ordered_step class x xs Greater e h = past_greater class x xs e h
 
 pub ordered_counted : (class : List ℕ) (xs : List ClassCount) → IsTrue (is_ordered xs)
-    → IsTrue (is_ordered (counted class xs))
+    → IsTrue (is_ordered (plus_one class xs))
 ordered_counted class [] h = refl
 ordered_counted class (x ∷ xs) h = ordered_step class x xs (order x class) refl h
 
@@ -114,10 +114,10 @@ more_is_count x h =
 
 each_step : (class : List ℕ) (x : ClassCount) (xs : List ClassCount) (r : Ordering)
     → IsTrue (is_ereport class) → IsTrue (list_all is_count (x ∷ xs))
-    → IsTrue (list_all is_count (counted class xs))
-    → IsTrue (list_all is_count (one_more r class x xs (counted class xs)))
+    → IsTrue (list_all is_count (plus_one class xs))
+    → IsTrue (list_all is_count (one_more r class x xs (plus_one class xs)))
 each_step class x xs Less e h more =
-    both (is_count x) (list_all is_count (counted class xs))
+    both (is_count x) (list_all is_count (plus_one class xs))
     (both_true (is_count x) (list_all is_count xs) h).0 more
 each_step class x xs Equal e h more =
     let parts : IsTrue (is_count x) × IsTrue (list_all is_count xs) =
@@ -125,28 +125,29 @@ each_step class x xs Equal e h more =
     both (is_count (record x { count = x.count + 1 })) (list_all is_count xs)
     (more_is_count x parts.0) parts.1
 each_step class x xs Greater e h more =
-    both (is_count (one class)) (list_all is_count (x ∷ xs)) (both (is_ereport class) true e refl) h
+    both (is_count (one_count class)) (list_all is_count (x ∷ xs))
+    (both (is_ereport class) true e refl) h
 
 pub each_counted : (class : List ℕ) (xs : List ClassCount) → IsTrue (is_ereport class)
-    → IsTrue (list_all is_count xs) → IsTrue (list_all is_count (counted class xs))
+    → IsTrue (list_all is_count xs) → IsTrue (list_all is_count (plus_one class xs))
 each_counted class [] e h =
-    both (is_count (one class)) true (both (is_ereport class) true e refl) refl
+    both (is_count (one_count class)) true (both (is_ereport class) true e refl) refl
 each_counted class (x ∷ xs) e h =
     each_step class x xs (order x class) e h
     (each_counted class xs e (both_true (is_count x) (list_all is_count xs) h).1)
 
 -- counts stay lawful as long as no more than 2^46 were counted
 pub counts_counted : (class : List ℕ) (xs : List ClassCount) → IsTrue (is_ereport class)
-    → IsTrue (are_counts xs) → total_of xs < 2 ^ 46 → IsTrue (are_counts (counted class xs))
+    → IsTrue (are_counts xs) → total_of xs < 2 ^ 46 → IsTrue (are_counts (plus_one class xs))
 counts_counted class xs e h room =
-    let was : Counts xs = counts_are xs h in
-    let total : total_of (counted class xs) ≡ total_of xs + 1 = total_counted class xs in
-    let fits : IsTrue (nat_le (total_of (counted class xs)) (2 ^ 46)) =
-    (let l : total_of (counted class xs) ≤ 2 ^ 46 = omega arith in grind (arith, nat_tests)) in
-    both (is_ordered (counted class xs))
-    (list_all is_count (counted class xs) && nat_le (total_of (counted class xs)) (2 ^ 46))
+    let was : AreLawfulCounts xs = counts_are xs h in
+    let total : total_of (plus_one class xs) ≡ total_of xs + 1 = total_counted class xs in
+    let fits : IsTrue (nat_le (total_of (plus_one class xs)) (2 ^ 46)) =
+    (let l : total_of (plus_one class xs) ≤ 2 ^ 46 = omega arith in grind (arith, nat_tests)) in
+    both (is_ordered (plus_one class xs))
+    (list_all is_count (plus_one class xs) && nat_le (total_of (plus_one class xs)) (2 ^ 46))
     (ordered_counted class xs was.ordered)
-    (both (list_all is_count (counted class xs)) (nat_le (total_of (counted class xs)) (2 ^ 46))
+    (both (list_all is_count (plus_one class xs)) (nat_le (total_of (plus_one class xs)) (2 ^ 46))
     (each_counted class xs e was.counted) fits)
 
 -- the number of the next case is below 2^63
@@ -184,7 +185,7 @@ events_are own cases class path t false a b h k = All-from_recursion (IsWordOf o
 
 report_kept : (class : List ℕ) (xs : List ClassCount) (room : Bool) → IsTrue (is_ereport class)
     → IsTrue (are_counts xs) → nat_lt (total_of xs) (2 ^ 46) ≡ room
-    → IsTrue (are_counts (cond room (counted class xs) xs))
+    → IsTrue (are_counts (cond room (plus_one class xs) xs))
 report_kept class xs true a h e = let low : total_of xs < 2 ^ 46 = grind (arith, nat_tests) in
     counts_counted class xs a h low
 report_kept class xs false a h e = h

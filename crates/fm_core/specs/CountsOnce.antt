@@ -112,14 +112,14 @@ length-le-total_of (x ∷ xs) h =
     omega (arith, length-le-total_of xs (both_true (is_count x) (list_all is_count xs) h).1)
 
 -- what lawful counts are
-pub record Counts (xs : List ClassCount) : Type 0 where
+pub record AreLawfulCounts (xs : List ClassCount) : Type 0 where
   pub ordered : IsTrue (is_ordered xs)
   pub counted : IsTrue (list_all is_count xs)
   pub total_fits : total_of xs ≤ 2 ^ 46
   pub short : AllByRecursion IsShort xs
   pub few : length xs ≤ 2 ^ 46
 
-pub counts_are : (xs : List ClassCount) → IsTrue (are_counts xs) → Counts xs
+pub counts_are : (xs : List ClassCount) → IsTrue (are_counts xs) → AreLawfulCounts xs
 counts_are xs h =
     let first : IsTrue (is_ordered xs)
     × IsTrue (list_all is_count xs && nat_le (total_of xs) (2 ^ 46)) =
@@ -140,8 +140,8 @@ counts_are xs h =
 pub counts_once : (xs ys : List ClassCount) → IsTrue (are_counts xs) → IsTrue (are_counts ys)
     → counts_bytes xs ≡ counts_bytes ys → xs ≡ ys
 counts_once xs ys a b e =
-    let p : Counts xs = counts_are xs a in
-    let q : Counts ys = counts_are ys b in
+    let p : AreLawfulCounts xs = counts_are xs a in
+    let q : AreLawfulCounts ys = counts_are ys b in
     let few : IsTrue (is_unsigned (length xs)) =
     fits_long (length xs) (omega (arith, p.few)) in
     let few' : IsTrue (is_unsigned (length ys)) =

@@ -11,9 +11,9 @@ place_step true more = suc more
 place_step false more = 0
 
 -- how many of the first counts are of classes before a class
-abbrev pub place_of : List ℕ → List ClassCount → ℕ
-place_of class [] = 0
-place_of class (x ∷ xs) = place_step (is_lt (order x class)) (place_of class xs)
+abbrev pub class_place : List ℕ → List ClassCount → ℕ
+class_place class [] = 0
+class_place class (x ∷ xs) = place_step (is_lt (order x class)) (class_place class xs)
 
 -- whether a count is of a class
 abbrev pub is_of : List ℕ → ClassCount → Bool
@@ -30,8 +30,8 @@ standing_count class (Some x) = cond (is_of class x) x.count 0
 
 -- where a class stands, or else would stand
 abbrev pub place_in : List ℕ → List ClassCount → Result ℕ ℕ
-place_in class xs = cond (is_standing class (slice_get xs (place_of class xs)))
-    (Ok (place_of class xs)) (Err (place_of class xs))
+place_in class xs = cond (is_standing class (slice_get xs (class_place class xs)))
+    (Ok (class_place class xs)) (Err (class_place class xs))
 
 abbrev pub count_or_none : Option ClassCount → ℕ
 count_or_none None = 0

@@ -1,7 +1,7 @@
 ghost use Rattle.std.specs.Prelude.{◌≡◌, ◌<◌, ◌≤◌, ◌+◌, ◌%◌, ◌^◌, ◌==◌, [], ◌∷◌, length, slice_get};
 ghost use Rattle.std.specs.Prelude.{IsTrue, IfOk, OnOk, OnErr, if◌then◌else◌};
-ghost use Rattle.fm_core.specs.Counts.{is_ordered, total_of, counted, third};
-ghost use Rattle.fm_core.specs.Places.{place_of, is_standing, place_in, count_found};
+ghost use Rattle.fm_core.specs.Counts.{is_ordered, total_of, plus_one, third};
+ghost use Rattle.fm_core.specs.Places.{class_place, is_standing, place_in, count_found};
 
 use crate::class_count::ClassCount;
 use fm_bytes::NoMemory;
@@ -28,7 +28,7 @@ pub(crate) fn find_class(counts: &[ClassCount], guess: usize, class: &Class) -> 
 // how many counts are of classes before the class
 fn find_place(counts: &[ClassCount], class: &Class) -> usize
     requires { IsTrue (is_ordered counts.now) }
-    ensures { result ≡ place_of class.now counts.now }
+    ensures { result ≡ class_place class.now counts.now }
 {
     counts.partition_point(|x| x.class < *class)
 }
@@ -62,7 +62,7 @@ pub(crate) fn count_in(
 ) -> Result<(), NoMemory>
     requires place { place ≡ place_in class.now counts.old.items }
     requires fits { total_of counts.old.items < 2 ^ 46 }
-    ensures ok { OnOk result (counts.new.items ≡ counted class.now counts.old.items) }
+    ensures ok { OnOk result (counts.new.items ≡ plus_one class.now counts.old.items) }
     ensures err { OnErr result (counts.new.items ≡ counts.old.items) }
 {
     match place {

@@ -5,7 +5,7 @@ ghost use Rattle.fm_entry.specs.declared.entry.Entry.{Entry};
 ghost use Rattle.fm_entry.specs.Entries.{IsSpelled};
 ghost use Rattle.fm_core.specs.Meaning.{Meaning, State, holds_of, conf_of};
 ghost use Rattle.fm_core.specs.Configurations.{conf_along, IsKnown, NamesKnown, KnowsMore};
-ghost use Rattle.fm_core.specs.Configurations.{AreAlike};
+ghost use Rattle.fm_core.specs.Configurations.{AgreeAlong};
 ghost use Rattle.fm_core.specs.Hands.{Shown};
 ghost use Rattle.fm_core.specs.Folds.{state_along, StaysLawful};
 ghost use Rattle.fm_core.specs.Book.{Book, Move, IsLawful};
@@ -49,5 +49,5 @@ pub fn configurations_follow_reloads()
 /// the same states and words, from a state and along entries that know no others.
 pub fn longer_lists_agree()
     ensures { (m longer : Meaning) (s : State) (n : ℕ) (es : List Entry) → KnowsMore m longer
-        → IsKnown m.known (conf_of m s) → All (NamesKnown m.known) es → AreAlike m longer s n es }
+        → IsKnown m.known (conf_of m s) → All (NamesKnown m.known) es → AgreeAlong m longer s n es }
 {}

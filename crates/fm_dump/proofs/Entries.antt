@@ -6,23 +6,23 @@ use Rattle.std.proofs.lemmas.List.{at_drop_all, at_drop_more}
 use Rattle.fm_entry.specs.declared.entry.Entry.{Entry}
 use Rattle.fm_dump.specs.declared.options.DumpOptions.{DumpOptions}
 use Rattle.fm_dump.specs.Errors.{errors_text, kept_entry}
-use Rattle.fm_dump.specs.Kept.{Extends}
+use Rattle.fm_dump.specs.Kept.{IsTextFront}
 
 -- a text begins with itself
-pub extends_self : (text : List ℕ) → Extends text text
+pub extends_self : (text : List ℕ) → IsTextFront text text
 extends_self text = ([], sym (append-nil text))
 
 -- and with what it began with before it grew
-pub extends_more : (old now more new : List ℕ) → Extends old now → new ≡ now ++ more
-    → Extends old new
+pub extends_more : (old now more new : List ℕ) → IsTextFront old now → new ≡ now ++ more
+    → IsTextFront old new
 extends_more old now more new e grown =
     (e.0 ++ more, grown ∙ (ap (λ text. text ++ more) e.1 ∙ append_assoc old e.0 more))
 
 -- after an error a text that is as it was begins with what it began with
-pub extends_still : {T E : Type 0} (r : Result T E) (old now new : List ℕ) → Extends old now
-    → new ≡ now → OnErr r (Extends old new)
+pub extends_still : {T E : Type 0} (r : Result T E) (old now new : List ℕ) → IsTextFront old now
+    → new ≡ now → OnErr r (IsTextFront old new)
 extends_still (Ok value) old now new e same = tt
-extends_still (Err fault) old now new e same = subst (Extends old) (sym same) e
+extends_still (Err fault) old now new e same = subst (IsTextFront old) (sym same) e
 
 -- what is left of the entries at one of them
 pub left_is : (options : DumpOptions) (first at : ℕ) (entries : List Entry) (entry : Entry)

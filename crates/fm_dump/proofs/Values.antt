@@ -9,7 +9,7 @@ use Rattle.clap.proofs.WalkLemmas.{first_value-rows}
 use Rattle.fm_text.specs.Time.{time_of}
 use Rattle.fm_dump.specs.Command.{are_taken, found_rows}
 use Rattle.fm_dump.specs.Options.{allowed, dump_options, is_true, options_in}
-use Rattle.fm_dump.specs.Options.{options_with, pattern_of, value_by}
+use Rattle.fm_dump.specs.Options.{options_with, pattern_text, value_by}
 
 -- what a getter reads is the first value in the rows
 pub found_text : (found : Found) (id : Text) (text : Option Text) → text ≡ first_value found id
@@ -76,7 +76,7 @@ pub ruleset unread = (no_class, no_case, no_from, no_to)
 pub all_read : (rows : List Row) (errors full : Bool) (class : Option (List ℕ))
     (case : Option (List ℕ)) (from to : Option ℕ)
     → errors ≡ is_true (first_of (codes "e") rows) → full ≡ is_true (first_of (codes "V") rows)
-    → value_by pattern_of (first_of (codes "c") rows) ≡ Some class
+    → value_by pattern_text (first_of (codes "c") rows) ≡ Some class
     → value_by parsed (first_of (codes "u") rows) ≡ Some case
     → value_by time_of (first_of (codes "t") rows) ≡ Some from
     → value_by time_of (first_of (codes "T") rows) ≡ Some to

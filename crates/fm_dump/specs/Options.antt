@@ -21,16 +21,16 @@ value_by meaning None = Some None
 value_by meaning (Some text) = option_map Some (meaning text)
 
 -- the pattern that a text is
-abbrev pub pattern_of : Text → Option (List ℕ)
-pattern_of text = if is_pattern text then Some text else None
+abbrev pub pattern_text : Text → Option (List ℕ)
+pattern_text text = if is_pattern text then Some text else None
 
 -- a case is asked for only among words, and not among entries
-abbrev pub is_allowed : DumpOptions → Bool
-is_allowed options = not (options.errors && is_some options.case)
+abbrev pub is_allowed_dump : DumpOptions → Bool
+is_allowed_dump options = not (options.errors && is_some options.case)
 
 -- options, where they are allowed
 abbrev pub allowed : DumpOptions → Option DumpOptions
-allowed options = if is_allowed options then Some options else None
+allowed options = if is_allowed_dump options then Some options else None
 
 -- options of these values, where each of them can be read
 unfoldable pub options_with : Bool → Bool → Option (Option Text) → Option (Option (List ℕ))
@@ -50,7 +50,7 @@ options_with errors full class case from to =
 abbrev pub options_in : List Row → Option DumpOptions
 options_in rows = options_with
     (is_true (first_of (codes "e") rows)) (is_true (first_of (codes "V") rows))
-    (value_by pattern_of (first_of (codes "c") rows))
+    (value_by pattern_text (first_of (codes "c") rows))
     (value_by parsed (first_of (codes "u") rows))
     (value_by time_of (first_of (codes "t") rows))
     (value_by time_of (first_of (codes "T") rows))

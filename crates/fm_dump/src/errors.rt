@@ -4,7 +4,7 @@ ghost use Rattle.std.specs.Prelude.{◌≡◌, ◌≤◌, ◌<◌, ◌+◌, ◌^
 ghost use Rattle.fm_dump.specs.Errors.{has_class, keeps_entry, entry_words, entry_line};
 ghost use Rattle.fm_dump.specs.Errors.{payload_line};
 ghost use Rattle.fm_dump.specs.Errors.{entry_lines, errors_text, kept_entry};
-ghost use Rattle.fm_dump.specs.Kept.{Extends};
+ghost use Rattle.fm_dump.specs.Kept.{IsTextFront};
 
 use crate::kept::is_between;
 use crate::options::DumpOptions;
@@ -135,7 +135,7 @@ fn put_entries(
     requires { first + length entries.now ≤ 2 ^ 64 }
     ensures ok { OnOk result
         (out.new.items ≡ out.old.items ++ errors_text options.now first entries.now) }
-    ensures err { OnErr result (Extends out.old.items out.new.items) }
+    ensures err { OnErr result (IsTextFront out.old.items out.new.items) }
 {
     let mut lines = Vec::with_capacity(alloc, USUAL_LINE)?;
     'entries: for (at, entry) in entries.iter().enumerate() {

@@ -4,7 +4,7 @@ ghost use Rattle.std.specs.Prelude.{◌≡◌, ◌++◌, flat_map, IfOk, OnOk, O
 ghost use Rattle.fm_dump.specs.Faults.{kind_class, matches_kind, is_about, keeps_word, word_line};
 ghost use Rattle.fm_dump.specs.Faults.{observed_line, word_parts, word_lines, kept_lines};
 ghost use Rattle.fm_dump.specs.Faults.{spoken_text, faults_text, uuid_part, case_part};
-ghost use Rattle.fm_dump.specs.Kept.{Extends};
+ghost use Rattle.fm_dump.specs.Kept.{IsTextFront};
 
 use crate::kept::is_between;
 use crate::options::DumpOptions;
@@ -198,7 +198,7 @@ fn put_records(
 ) -> Result<(), NoMemory>
     ensures ok { OnOk result
         (out.new.items ≡ out.old.items ++ faults_text options.now namespace.now records.now) }
-    ensures err { OnErr result (Extends out.old.items out.new.items) }
+    ensures err { OnErr result (IsTextFront out.old.items out.new.items) }
 {
     'records: for spoken in records {
         put_spoken(alloc, spoken, namespace, options, out)?;

@@ -5,7 +5,7 @@ ghost use Rattle.uuid.specs.Text.{parsed};
 ghost use Rattle.clap.specs.Matches.{found_of};
 ghost use Rattle.clap.specs.Walk.{first_of, rows_of};
 ghost use Rattle.fm_text.specs.Time.{time_of};
-ghost use Rattle.fm_dump.specs.Options.{dump_options, options_in, value_by, pattern_of, is_true};
+ghost use Rattle.fm_dump.specs.Options.{dump_options, options_in, value_by, pattern_text, is_true};
 ghost use Rattle.fm_dump.specs.Options.{allowed};
 
 use crate::command::find_options;
@@ -78,9 +78,9 @@ fn is_true(text: Option<&str>) -> bool
 /// The pattern that the value of an option is.
 fn pattern_in(alloc: Global, text: Option<&str>) -> Result<Option<Pattern>, DumpFault>
     ensures ok { IfOk result
-        (λ v. value_by pattern_of (option_map (λ s. s.now) text.entry) ≡ Some v) }
+        (λ v. value_by pattern_text (option_map (λ s. s.now) text.entry) ≡ Some v) }
     ensures usage { IfErr result (λ f. f ≡ DumpFault.Usage
-        → value_by pattern_of (option_map (λ s. s.now) text.entry) ≡ None) }
+        → value_by pattern_text (option_map (λ s. s.now) text.entry) ≡ None) }
 {
     let Some(text) = text else {
         return Ok(None);

@@ -148,7 +148,8 @@ tagged_sound n bytes t all h =
       | inr other ↦ elim (choice_split (n == 2) (made Tick (moment_from bytes)) _ (Some t)
           other.1) [
             | inl is ↦ kind_entry 2 Tick small u64_bytes moment_from moment_reader
-                (λ m k. record { moment_fits = ltb-true m (2 ^ 62) k; body = tt }) (λ m. refl) n bytes t
+                (λ m k. record { moment_fits = ltb-true m (2 ^ 62) k; body = tt }) (λ m. refl) n
+                bytes t
                 (eqb-true n 2 is.0) all is.1
             | inr other ↦ elim (choice_split (n == 3)
                 (made (λ f. Repaired f.0 f.1) (both_from path_from moment_from bytes)) _ (Some t)
@@ -159,7 +160,8 @@ tagged_sound n bytes t all h =
                       record { moment_fits = ltb-true f.1 (2 ^ 62) parts.1; body = parts.0 })
                       (λ f. refl) n bytes t (eqb-true n 3 is.0) all is.1
                   | inr other ↦ elim (choice_split (n == 4)
-                      (made (λ f. Replaced f.0 f.1) (both_from path_from moment_from bytes)) _ (Some t)
+                      (made (λ f. Replaced f.0 f.1) (both_from path_from moment_from bytes)) _
+                      (Some t)
                       other.1) [
                         | inl is ↦ kind_entry 4 (λ f. Replaced f.0 f.1) place_fits place_bytes
                             (both_from path_from moment_from) place_reader

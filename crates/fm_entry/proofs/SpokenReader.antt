@@ -31,7 +31,7 @@ use Rattle.fm_entry.specs.Words.{word_fits}
 use Rattle.fm_entry.specs.WordBytes.{kind_byte, head_byte, mark_byte, event_bytes, suspect_bytes}
 use Rattle.fm_entry.specs.WordBytes.{link_bytes, has_links, broken_bytes, word_bytes, spoken_bytes}
 use Rattle.fm_entry.specs.Reading.{class_from, path_from, moment_from, module_from, case_from}
-use Rattle.fm_entry.specs.WordReading.{kind_of, head_of, mark_of, record_number_from}
+use Rattle.fm_entry.specs.WordReading.{list_kind_of, head_of, mark_of, record_number_from}
 use Rattle.fm_entry.specs.WordReading.{certainty_from}
 use Rattle.fm_entry.specs.WordReading.{own_from, head_from, mark_from, event_from, suspect_from}
 use Rattle.fm_entry.specs.WordReading.{link_from}
@@ -45,7 +45,7 @@ use Rattle.fm_entry.proofs.PartReaders.{case_reader, record_number_reader, certa
 use Rattle.fm_entry.proofs.PartReaders.{own_reader}
 
 -- the kinds and the marks by their numbers
-kind_means : (k : ListKind) → kind_of (kind_byte k) ≡ Some k
+kind_means : (k : ListKind) → list_kind_of (kind_byte k) ≡ Some k
 kind_means SuspectKind = refl
 kind_means Undiagnosable = refl
 kind_means Upset = refl
@@ -59,7 +59,7 @@ kind_small Upset = omega arith
 kind_small Updated = omega arith
 kind_small RepairedKind = omega arith
 
-kind_codes : (n : ℕ) (k : ListKind) → kind_of n ≡ Some k → n ≡ kind_byte k
+kind_codes : (n : ℕ) (k : ListKind) → list_kind_of n ≡ Some k → n ≡ kind_byte k
 kind_codes n k h =
     elim (choice_split (n == 1) (Some SuspectKind) _ (Some k) h) [
       | inl is ↦ eqb-true n 1 is.0 ∙ ap kind_byte (some_same SuspectKind k is.1)
@@ -103,15 +103,16 @@ paired b (Some k) h e =
 
 head_codes : (n : ℕ) (h : ListKind × Bool) → head_of n ≡ Some h → n ≡ head_byte h.0 h.1
 head_codes n h e =
-    elim (choice_split (nat_lt 8 n) (option_map (λ k. (k, true)) (kind_of (n - 8))) _ (Some h) e) [
+    elim (choice_split (nat_lt 8 n) (option_map (λ k. (k, true)) (list_kind_of (n - 8))) _ (Some
+    h) e) [
       | inl is ↦
-          let parts = paired true (kind_of (n - 8)) h is.1 in
+          let parts = paired true (list_kind_of (n - 8)) h is.1 in
           let kind = kind_codes (n - 8) h.0 parts.0 in
           let past = ltb-true 8 n is.0 in
           let all : n ≡ 8 + kind_byte h.0 = omega arith in
           all ∙ ap (head_byte h.0) parts.1
       | inr other ↦
-          let parts = paired false (kind_of n) h other.1 in
+          let parts = paired false (list_kind_of n) h other.1 in
           kind_codes n h.0 parts.0 ∙ ap (head_byte h.0) parts.1
     ]
 

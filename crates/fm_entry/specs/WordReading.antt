@@ -26,8 +26,8 @@ then_from first second bytes =
     after (first bytes) (λ x rest. after (second x rest) (λ y more. Some ((x, y), more)))
 
 -- the kind that a number stands for
-abbrev pub kind_of : ℕ → Option ListKind
-kind_of n =
+abbrev pub list_kind_of : ℕ → Option ListKind
+list_kind_of n =
     if n == 1 then Some SuspectKind
     else (if n == 2 then Some Undiagnosable
     else (if n == 3 then Some Upset
@@ -47,8 +47,8 @@ mark_of n =
 -- the kind that the first byte of a word stands for, and whether broken links follow
 abbrev pub head_of : ℕ → Option (ListKind × Bool)
 head_of n =
-    if nat_lt 8 n then option_map (λ kind. (kind, true)) (kind_of (n - 8))
-    else option_map (λ kind. (kind, false)) (kind_of n)
+    if nat_lt 8 n then option_map (λ kind. (kind, true)) (list_kind_of (n - 8))
+    else option_map (λ kind. (kind, false)) (list_kind_of n)
 
 -- the first byte of a word
 unfoldable pub head_from : List ℕ → Read (ListKind × Bool)

@@ -7,7 +7,8 @@ ghost use Rattle.fm_bytes.specs.Reading.{IsMisspelled, items_from, counted_from}
 ghost use Rattle.fm_entry.specs.Words.{IsWordOf};
 ghost use Rattle.fm_entry.specs.WordBytes.{event_bytes, suspect_bytes, broken_bytes};
 ghost use Rattle.fm_entry.specs.WordBytes.{kind_byte, head_byte, word_bytes};
-ghost use Rattle.fm_entry.specs.WordReading.{kind_of, head_of, head_from, own_from, event_from};
+ghost use Rattle.fm_entry.specs.WordReading.{list_kind_of, head_of, head_from};
+ghost use Rattle.fm_entry.specs.WordReading.{own_from, event_from};
 ghost use Rattle.fm_entry.specs.WordReading.{suspect_from, broken_from, word_body_from, word_from};
 ghost use Rattle.fm_entry.specs.WordReading.{words_from};
 
@@ -145,7 +146,7 @@ fn head_of(number: u8) -> Option<(ListKind, bool)>
 
 /// The kind of this number.
 fn kind_of(number: u8) -> Option<ListKind>
-    ensures { result ≡ kind_of number }
+    ensures { result ≡ list_kind_of number }
 {
     match number {
         1 => Some(ListKind::Suspect),

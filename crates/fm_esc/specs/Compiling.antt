@@ -27,9 +27,9 @@ AreGraphs topo (file ∷ files) (made ∷ mades) =
 AreGraphs _ _ _ = ⊥
 
 -- what a rule file comes to is past the limit
-abbrev pub IsPast : GraphLimit → CheckedFile → Topology → Type 0
-IsPast Nodes checked topo = IsInstFault checked topo inst.Nodes
-IsPast Links checked topo = IsInstFault checked topo inst.Links
+abbrev pub IsPastLimit : GraphLimit → CheckedFile → Topology → Type 0
+IsPastLimit Nodes checked topo = IsInstFault checked topo inst.Nodes
+IsPastLimit Links checked topo = IsInstFault checked topo inst.Links
 
 -- The rule file at a place is the first that comes to more than a limit: those before it come to
 -- graphs.
@@ -39,7 +39,7 @@ pub record IsFirstPast (topo : Topology) (files : List RuleFile) (at : ℕ) (lim
   pub graphs : AreGraphs topo (take at files) before
   pub file : RuleFile
   pub there : slice_get files at ≡ Some file
-  pub past : IsPast limit file.checked topo
+  pub past : IsPastLimit limit file.checked topo
 
 -- what one is told by
 abbrev pub part_in : GraphForm → ℕ → Made → List ℕ
@@ -53,7 +53,7 @@ text_in Compiled mades = files_bytes mades
 
 -- why the rule file of a number comes to nothing
 abbrev pub GraphCause : ℕ → CheckedFile → Topology → CompileFault → Type 0
-GraphCause number checked topo (Graph file limit) = (file ≡ number) × IsPast limit checked topo
+GraphCause number checked topo (Graph file limit) = (file ≡ number) × IsPastLimit limit checked topo
 GraphCause number checked topo NoMemory = Unit {0}
 GraphCause _ _ _ _ = ⊥
 

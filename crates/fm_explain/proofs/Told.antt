@@ -6,7 +6,7 @@ use Rattle.std.proofs.lemmas.List.{append_assoc, append-nil}
 use Rattle.fm_entry.specs.declared.suspect.Suspect.{Suspect}
 use Rattle.ev_graph.specs.Lawful.{GraphValue}
 use Rattle.ev_graph.specs.declared.instances.Link.{Link}
-use Rattle.fm_explain.specs.Explained.{IsSuspectTold, AreTold}
+use Rattle.fm_explain.specs.Explained.{IsSuspectTold, AreSuspectsTold}
 
 -- one more of each
 zip_push : {A B : Type 0} (R : A → B → Type 0) (xs : List A) (ys : List B) (x : A) (y : B)
@@ -24,12 +24,12 @@ texts_push (u ∷ us) t =
     ap (λ (z : List ℕ). u ++ z) (texts_push us t) ∙ sym (append_assoc u (flat_map (λ t. t) us) t)
 
 module _ (g : GraphValue) (less : List Link) (reports : List ℕ) where
-  pub told_none : AreTold g less reports [] []
+  pub told_none : AreSuspectsTold g less reports [] []
   told_none = record { texts = []; each = tt; text_is = refl }
 
   pub told_push : (suspects : List Suspect) (s : Suspect) (text t : List ℕ)
-      → AreTold g less reports suspects text → IsSuspectTold g less reports s t
-      → AreTold g less reports (suspects ++ s ∷ []) (text ++ t)
+      → AreSuspectsTold g less reports suspects text → IsSuspectTold g less reports s t
+      → AreSuspectsTold g less reports (suspects ++ s ∷ []) (text ++ t)
   told_push suspects s text t h one = record {
     texts = h.texts ++ t ∷ [];
     each = zip_push (IsSuspectTold g less reports) suspects h.texts s t h.each one;

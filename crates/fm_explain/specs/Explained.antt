@@ -19,8 +19,8 @@ use Rattle.dx_story.specs.Greatest.{IsGreatestStory}
 use Rattle.dx_explain.specs.Explaining.{AreMembers, IsPossible}
 
 -- a link as the graph has it
-abbrev pub link_of : Broken → Link
-link_of b = record { instance = b.instance; effect = b.effect }
+abbrev pub broken_link : Broken → Link
+broken_link b = record { instance = b.instance; effect = b.effect }
 
 -- the events of the first so many of these names that the graph has, in some order
 pub record AreFound (nodes : List Node) (names : List EventName) (count : ℕ) (xs : List ℕ) : Type 0
@@ -82,7 +82,7 @@ pub record IsSuspectTold (g : GraphValue) (less : List Link) (reports : List ℕ
   pub text_is : text ≡ suspect_head suspect ++ account
 
 -- the texts of suspects, one after another
-pub record AreTold (g : GraphValue) (less : List Link) (reports : List ℕ)
+pub record AreSuspectsTold (g : GraphValue) (less : List Link) (reports : List ℕ)
     (suspects : List Suspect) (text : List ℕ) : Type 0 where
   pub texts : List (List ℕ)
   pub each : AllZip (IsSuspectTold g less reports) suspects texts
@@ -90,7 +90,7 @@ pub record AreTold (g : GraphValue) (less : List Link) (reports : List ℕ)
 
 -- the row's broken links as links of a graph
 abbrev pub links_of_row : ListEvent → List Link
-links_of_row row = map link_of row.broken
+links_of_row row = map broken_link row.broken
 
 -- the texts of a row's suspects, in the graph less the row's broken links, with no report but those
 -- that were observed
@@ -98,7 +98,7 @@ pub record IsRowTold (g : GraphValue) (row : ListEvent) (text : List ℕ) : Type
   pub links : AreLinks (wiring g.instances) (links_of_row row)
   pub reports : List ℕ
   pub named : AreNamed g.nodes row.observed reports
-  pub told : AreTold g (links_of_row row) reports row.suspects text
+  pub told : AreSuspectsTold g (links_of_row row) reports row.suspects text
 
 -- the head lines of a row's suspects, whose broken links are not all of the graph
 pub record IsRowForeign (g : GraphValue) (row : ListEvent) (text : List ℕ) : Type 0 where

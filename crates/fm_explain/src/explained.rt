@@ -9,7 +9,8 @@ ghost use Rattle.ev_graph.specs.Cutting.{AreLinks, is_cut};
 ghost use Rattle.dx_explain.specs.Explaining.{AreMembers, FitsGraph, set_of};
 ghost use Rattle.fm_explain.specs.Explained.{event_line, node_line, node_lines, suspect_head};
 ghost use Rattle.fm_explain.specs.Explained.{IsStoryTold};
-ghost use Rattle.fm_explain.specs.Explained.{IsSuspectTold, AreTold, IsRowTold, IsRowForeign};
+ghost use Rattle.fm_explain.specs.Explained.{IsSuspectTold, AreSuspectsTold};
+ghost use Rattle.fm_explain.specs.Explained.{IsRowTold, IsRowForeign};
 ghost use Rattle.fm_explain.specs.Explained.{IsExplained};
 
 use crate::story::{links_of, reports_named, root_of};
@@ -149,8 +150,9 @@ fn put_suspects(
 ) -> Result<(), NoMemory>
     requires links { AreLinks (wiring ground.now.graph.now.instances) ground.now.less.items }
     requires ascend { ascends ground.now.reports.items ≡ true }
-    ensures { OnOk result ((text : List ℕ) × AreTold ground.now.graph.now ground.now.less.items
-        ground.now.reports.items suspects.now text × (out.new.items ≡ out.old.items ++ text)) }
+    ensures { OnOk result ((text : List ℕ) × AreSuspectsTold ground.now.graph.now
+        ground.now.less.items ground.now.reports.items suspects.now text
+        × (out.new.items ≡ out.old.items ++ text)) }
 {
     'suspects: for suspect in suspects {
         put_suspect(alloc, ground, suspect, out)?;

@@ -2,7 +2,7 @@
 
 ghost use Rattle.std.specs.Prelude.{◌≡◌, map, IfOk};
 ghost use Rattle.ev_graph.specs.Lawful.{IsNodeNamed};
-ghost use Rattle.fm_explain.specs.Explained.{AreNamed, link_of, suspect_name};
+ghost use Rattle.fm_explain.specs.Explained.{AreNamed, broken_link, suspect_name};
 
 use ev_graph::{Graph, Link, NoMemory};
 use fm_entry::{Broken, Suspect};
@@ -42,7 +42,7 @@ pub(crate) fn root_of(graph: &Graph, suspect: &Suspect) -> Result<Option<u32>, N
 
 /// Broken links as links of a graph.
 pub(crate) fn links_of(alloc: Global, broken: &[Broken]) -> Result<Vec<Link>, NoMemory>
-    ensures { IfOk result (λ links. links.items ≡ map link_of broken.now) }
+    ensures { IfOk result (λ links. links.items ≡ map broken_link broken.now) }
 {
     let mut links = Vec::new(alloc);
     'links: for link in broken {

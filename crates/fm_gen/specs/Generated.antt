@@ -50,8 +50,8 @@ abbrev pub generated : ℕ → ℕ → List EventName → List Entry
 generated seed start reports = entries_from reports (turns_of reports) seed start
 
 -- events that detectors report
-abbrev pub are_reports : List EventName → Bool
-are_reports reports = list_all (λ event. is_ereport event.class) reports
+abbrev pub are_ereports : List EventName → Bool
+are_ereports reports = list_all (λ event. is_ereport event.class) reports
 
 -- moments that do not fall, from one moment on
 abbrev pub rises_from : ℕ → List Entry → Bool

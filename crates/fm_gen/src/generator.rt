@@ -4,7 +4,7 @@ ghost use Rattle.std.specs.Prelude.{◌≡◌, ◌<◌, ◌≤◌, ◌^◌, ◌+
 ghost use Rattle.std.specs.Prelude.{IfNone, OnErr, option_to_list, Some, false};
 ghost use Rattle.fm_nv.specs.Data.{no_pairs};
 ghost use Rattle.fm_entry.specs.Entries.{IsReport, IsSpelled, is_reload};
-ghost use Rattle.fm_gen.specs.Generated.{generated, are_reports, picked};
+ghost use Rattle.fm_gen.specs.Generated.{generated, are_ereports, picked};
 
 use crate::draws::TurnDraws;
 use fm_bytes::NoMemory;
@@ -42,7 +42,7 @@ impl Model for Gen {
     ghost use Rattle.std.specs.Coded.{codes};
     ghost use Rattle.fm_entry.specs.contracts.entry.Entry as entry;
     ghost use Rattle.fm_entry.specs.declared.entry.Entry.{Entry};
-    ghost use Rattle.fm_gen.specs.Generated.{entries_from, are_reports};
+    ghost use Rattle.fm_gen.specs.Generated.{entries_from, are_ereports};
 
     ghost Value = { List Entry };
 
@@ -50,7 +50,7 @@ impl Model for Gen {
 
     ghost view = { λ g. cond g.ended [] (entries_from g.reports.items g.turns g.state g.moment) };
 
-    ghost invariant = { λ g. IsTrue (are_reports g.reports.items)
+    ghost invariant = { λ g. IsTrue (are_ereports g.reports.items)
         × (g.moment + g.turns * 2000000000 < 2 ^ 61 + 1200 * 2000000000)
         × (1 ≤ g.turns → 1 ≤ length g.reports.items) };
 }
@@ -60,7 +60,7 @@ impl Gen {
     /// `start` on, which is below 2^61.
     pub fn new(alloc: Global, seed: u64, start: u64, reports: Vec<EventName>) -> Gen
         requires early { start < 2 ^ 61 }
-        requires reports { IsTrue (are_reports reports.items) }
+        requires reports { IsTrue (are_ereports reports.items) }
         ensures { result ≡ generated seed start reports.items }
     {
         let turns = if reports.is_empty() { 0 } else { TURNS };
@@ -110,7 +110,7 @@ impl Gen {
 /// The event that a number picks.
 fn pick(reports: &[EventName], number: u64) -> Result<EventName, NoMemory>
     requires some { 1 ≤ length reports.now }
-    requires reports { IsTrue (are_reports reports.now) }
+    requires reports { IsTrue (are_ereports reports.now) }
     ensures picked { IfOk result (λ event. picked reports.now number ≡ Some event) }
     ensures report { IfOk result (λ event. IsReport event.class event.path no_pairs) }
 {

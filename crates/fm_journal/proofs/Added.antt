@@ -11,7 +11,7 @@ use Rattle.fm_outer.proofs.Moments.{leaves-weaker}
 use Rattle.fm_journal.specs.Format.{framed, IsWithin, IsJournal}
 use Rattle.fm_journal.specs.Crash.{IsOldOrNew}
 use Rattle.fm_journal.specs.Causes.{refused}
-use Rattle.fm_journal.specs.JournalOf.{JournalOf, IsSound}
+use Rattle.fm_journal.specs.JournalOf.{JournalOf, IsLawfulJournal}
 use Rattle.fm_journal.specs.Keeps.{Keeps}
 use Rattle.fm_journal.proofs.Records.{length-framed, end_of_push, within_push}
 use Rattle.fm_journal.proofs.Torn.{added, written_gate}
@@ -32,7 +32,7 @@ has_room first count end size free = record {
 }
 
 module _ {D : Type 0} (g : Ghosts D) (old : JournalOf D) (payloads : List (List ℕ))
-    (payload : List ℕ) (keeps : Keeps g old payloads) (sound : IsSound g old)
+    (payload : List ℕ) (keeps : Keeps g old payloads) (sound : IsLawfulJournal g old)
     (short : length payload ≤ 2 ^ 28) (bytes : List ℕ) (is : bytes ≡ framed payload)
     (free : refused old.closed old.first old.count old.end (length bytes) ≡ None) where
   room : HasRoom old.first old.count old.end (length bytes)

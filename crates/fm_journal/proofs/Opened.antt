@@ -7,7 +7,7 @@ use Rattle.fm_outer.specs.Bytes.{written}
 use Rattle.fm_outer.specs.Moments.{IsSettled}
 use Rattle.fm_outer.specs.declared.disk.Disk.{Ghosts}
 use Rattle.fm_journal.specs.Format.{header, end_of, IsJournal}
-use Rattle.fm_journal.specs.JournalOf.{JournalOf, IsSound}
+use Rattle.fm_journal.specs.JournalOf.{JournalOf, IsLawfulJournal}
 use Rattle.fm_journal.specs.Keeps.{Keeps}
 use Rattle.fm_journal.specs.Look.{IsFound, IsBounded}
 use Rattle.fm_journal.proofs.Records.{length-header, end_of_nil}
@@ -87,7 +87,7 @@ module _ {D : Type 0} (g : Ghosts D) (journal : JournalOf D) (unlocked : journal
 
   pub sound_found : IsBounded journal.first journal.count journal.end
       → ((bytes : List ℕ) → g.seen journal.disk ≡ Some bytes
-      → IsFound bytes journal.first journal.count journal.end) → IsSound g journal
+      → IsFound bytes journal.first journal.count journal.end) → IsLawfulJournal g journal
   sound_found bounded found = record {
     first_fits = bounded.first_fits;
     counted = bounded.counted;
@@ -106,7 +106,7 @@ module _ {D : Type 0} (g : Ghosts D) (journal : JournalOf D) (unlocked : journal
 
   pub sound_none : (old : Option (List ℕ))
       → g.seen journal.disk ≡ option_map (λ _. header journal.first ++ 0 ∷ []) old
-      → journal.first < 2 ^ 46 → journal.count ≡ 0 → journal.end ≡ 16 → IsSound g journal
+      → journal.first < 2 ^ 46 → journal.count ≡ 0 → journal.end ≡ 16 → IsLawfulJournal g journal
   sound_none old blank fits none ends = record {
     first_fits = fits;
     counted = omega arith;

@@ -4,7 +4,7 @@ use Rattle.std.proofs.Common.{None, Result, Ok, Err, OnOk, OnErr, refl, sym, ◌
 use Rattle.std.proofs.Common.{length-append}
 use Rattle.std.specs.Option.{option_map}
 use Rattle.std.proofs.lemmas.List.{take_all}
-use Rattle.fm_outer.specs.Crash.{TornFrom, Shorter, Follows, NoMore}
+use Rattle.fm_outer.specs.Crash.{TornFrom, Shorter, StepsFrom, NoMore}
 use Rattle.fm_outer.specs.Moments.{LeavesOnly}
 use Rattle.fm_outer.specs.declared.disk.Disk.{Ghosts}
 use Rattle.fm_outer.proofs.Moments.{Goes, OnlyNow, leaves-call, leaves-still, leaves-weaker}
@@ -48,23 +48,25 @@ torn_empty (Some xs) mid n c is short torn =
     short_is_empty c (omega (arith, ap length none))
 
 module _ {D : Type 0} (g : Ghosts D) (only_now : OnlyNow g) (old cut : D)
-    (shorter : Follows (Shorter 0) (g.images old) (g.images cut)) (cut_time : Goes g old cut) where
-  whole_is_front : (c : List ℕ) → g.images old c → IsFrontOf (g.images old) c
-  whole_is_front c now = (c, now, take_all (length c) c (omega arith))
+    (shorter : StepsFrom (Shorter 0) (g.images old) (g.images cut)) (cut_time : Goes g old cut)
+  where
+    whole_is_front : (c : List ℕ) → g.images old c → IsFrontOf (g.images old) c
+    whole_is_front c now = (c, now, take_all (length c) c (omega arith))
 
-  cut_is_front : (c : List ℕ) → g.images cut c → IsFrontOf (g.images old) c
-  cut_is_front c now = let from = shorter c now in (from.0, from.1, from.2.front)
+    cut_is_front : (c : List ℕ) → g.images cut c → IsFrontOf (g.images old) c
+    cut_is_front c now = let from = shorter c now in (from.0, from.1, from.2.front)
 
-  -- after a cut
-  pub cut_leaves : LeavesOnly g old cut (IsFrontOf (g.images old))
-  cut_leaves = leaves-call g old old cut (IsFrontOf (g.images old))
-      (leaves-still g only_now old (IsFrontOf (g.images old)) whole_is_front) cut_time cut_is_front
+    -- after a cut
+    pub cut_leaves : LeavesOnly g old cut (IsFrontOf (g.images old))
+    cut_leaves = leaves-call g old old cut (IsFrontOf (g.images old))
+        (leaves-still g only_now old (IsFrontOf (g.images old)) whole_is_front) cut_time
+        cut_is_front
 
-  -- and after a sync
-  pub emptied_leaves : (synced : D) → NoMore (g.images cut) (g.images synced)
-      → Goes g cut synced → LeavesOnly g old synced (IsFrontOf (g.images old))
-  emptied_leaves synced same time = leaves-call g old cut synced (IsFrontOf (g.images old))
-      cut_leaves time (λ c now. cut_is_front c (same c now))
+    -- and after a sync
+    pub emptied_leaves : (synced : D) → NoMore (g.images cut) (g.images synced)
+        → Goes g cut synced → LeavesOnly g old synced (IsFrontOf (g.images old))
+    emptied_leaves synced same time = leaves-call g old cut synced (IsFrontOf (g.images old))
+        cut_leaves time (λ c now. cut_is_front c (same c now))
 
 module _ {D : Type 0} (g : Ghosts D) where
   -- the two parts

@@ -21,7 +21,7 @@ journal_of disk first count end closed =
 
 -- The numbers are within the limits. While the journal is open the gate lies inside the disk, and
 -- all of the disk is synced.
-pub record IsSound {D : Type 0} (g : Ghosts D) (journal : JournalOf D) : Type 0 where
+pub record IsLawfulJournal {D : Type 0} (g : Ghosts D) (journal : JournalOf D) : Type 0 where
   pub first_fits : journal.first < 2 ^ 46
   pub counted : journal.count < 2 ^ 32
   pub numbered : journal.first + journal.count ≤ 2 ^ 46

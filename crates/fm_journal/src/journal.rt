@@ -37,13 +37,13 @@ pub struct Journal<D: Disk> {
 }
 
 impl<D: Disk> Model for Journal<D> {
-    ghost use Rattle.fm_journal.specs.JournalOf.{JournalOf, IsSound, journal_of};
+    ghost use Rattle.fm_journal.specs.JournalOf.{JournalOf, IsLawfulJournal, journal_of};
 
     ghost Value = { JournalOf D };
 
     ghost view = { λ j. journal_of j.disk j.first j.count j.end j.closed };
 
-    ghost invariant = { λ j. IsSound D.Disk
+    ghost invariant = { λ j. IsLawfulJournal D.Disk
         (journal_of j.disk j.first j.count j.end j.closed) };
 }
 

@@ -4,7 +4,7 @@ ghost use Rattle.std.specs.Option.{option_map};
 ghost use Rattle.std.specs.declared.option.Option.{Option};
 ghost use Rattle.fm_outer.specs.Failures.{HasCause};
 ghost use Rattle.fm_outer.specs.Bytes.{range, written, Inside, InsideRange};
-ghost use Rattle.fm_outer.specs.Crash.{Torn, Shorter, Follows, NoMore, OnlySeen, Elapses};
+ghost use Rattle.fm_outer.specs.Crash.{Torn, Shorter, StepsFrom, NoMore, OnlySeen, Elapses};
 
 use fm_outer::{Disk, Failed};
 

@@ -9,7 +9,7 @@ use Rattle.std.proofs.lemmas.Bool.{le-leb, lt-leb, leb-false}
 use Rattle.std.proofs.lemmas.List.Elements.{All-append, All-head, All-cons}
 use Rattle.std.proofs.lemmas.Bool.Decides.{nat_tests}
 use Rattle.fm_line.proofs.Places.{fails_before, passes_at, parts_at}
-use Rattle.fm_line.specs.Lines.{line_limit, is_newline, HasNoNewline, kept, lines_of_parts}
+use Rattle.fm_line.specs.Lines.{line_limit, is_newline, HasNoNewline, kept_line, lines_of_parts}
 use Rattle.fm_line.specs.Lines.{lines_of, lines_from, grown}
 
 pub positive_eqb : (n : ℕ) → 0 < n → (n == 0) ≡ false
@@ -22,28 +22,28 @@ lines_of_parts_cons x (y ∷ more) h = refl
 
 -- a line that ends in a newline stands before the lines of what follows
 pub lines_of_ended : (line more : List ℕ) (b : ℕ) → HasNoNewline line → is_newline b ≡ true
-    → lines_of (line ++ b ∷ more) ≡ kept line ∷ lines_of more
+    → lines_of (line ++ b ∷ more) ≡ kept_line line ∷ lines_of more
 unfolding lines_of
 lines_of_ended line more b free ends =
     let split : slice_split is_newline (line ++ b ∷ more) ≡ line ∷ slice_split is_newline more =
     slice_split_at is_newline line b more free ends in
     let some : 0 < length (slice_split is_newline more) =
     omega (arith, length-slice_split is_newline more) in
-    ap (λ parts. map kept (lines_of_parts parts)) split
-    ∙ ap (map kept) (lines_of_parts_cons line (slice_split is_newline more) some)
+    ap (λ parts. map kept_line (lines_of_parts parts)) split
+    ∙ ap (map kept_line) (lines_of_parts_cons line (slice_split is_newline more) some)
 
 -- a last line without a newline, where it has bytes
 pub lines_of_last : (line : List ℕ) → HasNoNewline line → 0 < length line
-    → lines_of line ≡ kept line ∷ []
+    → lines_of line ≡ kept_line line ∷ []
 unfolding lines_of
 lines_of_last line free some =
-    ap (λ parts. map kept (lines_of_parts parts)) (slice_split_none is_newline line free)
-    ∙ ap (λ t. map kept (cond t [] (line ∷ []))) (positive_eqb (length line) some)
+    ap (λ parts. map kept_line (lines_of_parts parts)) (slice_split_none is_newline line free)
+    ∙ ap (λ t. map kept_line (cond t [] (line ∷ []))) (positive_eqb (length line) some)
 
-pub kept_long : (line : List ℕ) → line_limit < length line → kept line ≡ None
+pub kept_long : (line : List ℕ) → line_limit < length line → kept_line line ≡ None
 kept_long line long = ap (λ b. cond b (Some line) None) (lt-leb (length line) line_limit long)
 
-pub kept_short : (line : List ℕ) → length line ≤ line_limit → kept line ≡ Some line
+pub kept_short : (line : List ℕ) → length line ≤ line_limit → kept_line line ≡ Some line
 kept_short line short = ap (λ b. cond b (Some line) None) (le-leb (length line) line_limit short)
 
 pub free_append : (xs ys : List ℕ) → HasNoNewline xs → HasNoNewline ys → HasNoNewline (xs ++ ys)
@@ -113,7 +113,7 @@ IsInProgress (Some front) = HasNoNewline front × (length front ≤ line_limit)
 IsInProgress None = Unit {0}
 
 kept_cases : (line more : List ℕ) → HasNoNewline line
-    → lines_of (line ++ more) ≡ lines_from (kept line) more
+    → lines_of (line ++ more) ≡ lines_from (kept_line line) more
 unfolding lines_from
 kept_cases line more free =
     elim (nat_le (length line) line_limit) as (λ t. nat_le (length line) line_limit ≡ t

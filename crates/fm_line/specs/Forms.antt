@@ -189,13 +189,13 @@ abbrev pub is_inked : ℕ → Bool
 is_inked b = not (is_blank b)
 
 -- the byte opens an object
-abbrev pub opens : Option ℕ → Bool
-opens None = false
-opens (Some b) = b == 123
+abbrev pub opens_object : Option ℕ → Bool
+opens_object None = false
+opens_object (Some b) = b == 123
 
 -- the JSON form begins with an object, blanks before it aside
 unfoldable pub is_json : List ℕ → Bool
-is_json line = opens (find is_inked line)
+is_json line = opens_object (find is_inked line)
 
 unfoldable pub content_entry : List ℕ → Result Entry LineFault
 content_entry line = if is_json line then json_entry line else words_entry (words line)

@@ -18,8 +18,8 @@ abbrev pub HasNoNewline : List ℕ → Type 0
 HasNoNewline bytes = All (λ b. is_newline b ≡ false) bytes
 
 -- what is kept of a line: its bytes, or none of one that is too long
-abbrev pub kept : List ℕ → Option (List ℕ)
-kept line = if nat_le (length line) line_limit then Some line else None
+abbrev pub kept_line : List ℕ → Option (List ℕ)
+kept_line line = if nat_le (length line) line_limit then Some line else None
 
 -- the lines in the parts between newlines: an empty last part is no line
 abbrev pub lines_of_parts : List (List ℕ) → List (List ℕ)
@@ -29,7 +29,7 @@ lines_of_parts (x ∷ y ∷ more) = x ∷ lines_of_parts (y ∷ more)
 
 -- the lines of a stream, each as it is kept
 unfoldable pub lines_of : List ℕ → List (Option (List ℕ))
-lines_of bytes = map kept (lines_of_parts (slice_split is_newline bytes))
+lines_of bytes = map kept_line (lines_of_parts (slice_split is_newline bytes))
 
 -- the lines of a stream whose first bytes, all of one line, were already read and kept
 unfoldable pub lines_from : Option (List ℕ) → List ℕ → List (Option (List ℕ))
@@ -38,7 +38,7 @@ lines_from None bytes = None ∷ lines_of (after_first is_newline bytes)
 
 -- what is kept of the line in progress once further bytes of it are read
 abbrev pub grown : Option (List ℕ) → List ℕ → Option (List ℕ)
-grown (Some front) piece = kept (front ++ piece)
+grown (Some front) piece = kept_line (front ++ piece)
 grown None _ = None
 
 -- a line that has ended, by how it ended and the bytes that are handed out

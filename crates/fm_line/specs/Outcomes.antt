@@ -8,9 +8,9 @@ use Rattle.fm_line.specs.declared.fault.LineFault.TheVariants.{TooLong}
 
 -- what comes of a line as it is kept: the fault of one that is too long, nothing of a blank one,
 -- and else its entry or its first fault
-abbrev pub outcome : Option (List ℕ) → Option (Result Entry LineFault)
-outcome None = Some (Err TooLong)
-outcome (Some line) = if is_blank_line line then None else Some (line_entry line)
+abbrev pub line_outcome : Option (List ℕ) → Option (Result Entry LineFault)
+line_outcome None = Some (Err TooLong)
+line_outcome (Some line) = if is_blank_line line then None else Some (line_entry line)
 
 -- the entry of an outcome, if it has one
 abbrev pub entry_of : Result Entry LineFault → List Entry

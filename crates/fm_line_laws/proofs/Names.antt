@@ -13,7 +13,7 @@ use Rattle.fm_line.specs.Forms.{line_entry}
 use Rattle.fm_line.specs.Payload.{number_value, array_value, unsigneds_of, texts_of, added}
 use Rattle.fm_line.specs.Payload.{value_of, lists_from}
 use Rattle.fm_line.specs.Payload.{list_of, pairs_onto}
-use Rattle.fm_line_laws.specs.Names.{IsBefore, IsBeforeNames, NamesAscend, ValueAscends}
+use Rattle.fm_line_laws.specs.Names.{IsNameBefore, IsBeforeNames, NamesAscend, ValueAscends}
 use Rattle.fm_line_laws.specs.Names.{ListsAscend, PayloadAscends}
 use Rattle.fm_line_laws.proofs.Reading.{IsBeforeAll, IsRead, ItemsRead, MembersRead}
 use Rattle.fm_line_laws.proofs.PayloadBack.{then_some, map_some, joined_some, added_some}
@@ -25,7 +25,7 @@ abbrev AreFoundBefore : nv.Pairs → Members → Type 0
 AreFoundBefore nv.no_pairs ms = Unit {0}
 AreFoundBefore (nv.pair k d ps) ms = IsBeforeAll k ms × AreFoundBefore ps ms
 
-before_added : (l k : List ℕ) (v : nv.Data) (ps : nv.Pairs) → IsBeforeNames l ps → IsBefore l k
+before_added : (l k : List ℕ) (v : nv.Data) (ps : nv.Pairs) → IsBeforeNames l ps → IsNameBefore l k
     → IsBeforeNames l (nv.add k v ps)
 before_added l k v nv.no_pairs h is = (is, tt)
 before_added l k v (nv.pair j e ps) h is = (h.0, before_added l k v ps h.1 is)

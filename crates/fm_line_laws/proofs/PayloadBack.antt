@@ -10,7 +10,7 @@ use Rattle.serde_json.specs.Data.{member, put}
 use Rattle.serde_json.specs.Find.{as_str}
 use Rattle.fm_nv.specs.Data as nv
 use Rattle.fm_nv.specs.Refusal.{refusal}
-use Rattle.fm_line_laws.specs.Names.{IsBefore}
+use Rattle.fm_line_laws.specs.Names.{IsNameBefore}
 use Rattle.fm_line_laws.proofs.Reading.{IsBeforeAll, IsReadNumber, IsRead, ItemsRead, MembersRead}
 use Rattle.fm_line.specs.Payload.{joined, unsigned_in, unsigneds_of, texts_of, number_value}
 use Rattle.fm_line.specs.Payload.{array_value, added, value_of, lists_from, list_of, pairs_onto}
@@ -52,7 +52,7 @@ joined_members (member k d ms) ns = member k d (joined_members ms ns)
 -- all names of an object stand before a name
 abbrev AreBefore : Members → List ℕ → Type 0
 AreBefore no_members k = Unit {0}
-AreBefore (member l e ms) k = IsBefore l k × AreBefore ms k
+AreBefore (member l e ms) k = IsNameBefore l k × AreBefore ms k
 
 -- all names of an object stand before all names of another
 abbrev AreBeforeAll : Members → Members → Type 0
@@ -63,7 +63,7 @@ none_before : (ns : Members) → AreBeforeAll no_members ns
 none_before no_members = tt
 none_before (member k d ns) = (tt, none_before ns)
 
-before_with : (ms : Members) (k q : List ℕ) (d : Data) → AreBefore ms q → IsBefore k q
+before_with : (ms : Members) (k q : List ℕ) (d : Data) → AreBefore ms q → IsNameBefore k q
     → AreBefore (joined_members ms (member k d no_members)) q
 before_with no_members k q d h hk = (hk, tt)
 before_with (member l e ms) k q d h hk = (h.0, before_with ms k q d h.1 hk)
@@ -74,7 +74,7 @@ all_before_with ms no_members k d h hk = tt
 all_before_with ms (member q e ns) k d h hk =
     (before_with ms k q d h.0 hk.0, all_before_with ms ns k d h.1 hk.1)
 
-behind_first : (k l : List ℕ) → IsBefore l k → slice_cmp nat_cmp k l ≡ Greater
+behind_first : (k l : List ℕ) → IsNameBefore l k → slice_cmp nat_cmp k l ≡ Greater
 behind_first k l h = nat_list_cmp_total.antisymm k l ∙ ap ordering_reverse h
 
 -- a name behind all others goes last

@@ -18,12 +18,12 @@ use Rattle.std.specs.Float.{binary64}
 use Rattle.std.proofs.lemmas.Bool.{ltb-true}
 use Rattle.fast_float.specs.Text.{minus, Parts, scan, digits_of, nearest, with_sign}
 use Rattle.fm_bytes.proofs.Booleans.{and_parts}
-use Rattle.fm_line_laws.specs.Names.{IsBefore}
+use Rattle.fm_line_laws.specs.Names.{IsNameBefore}
 
 -- a name stands before all that an object has
 abbrev pub IsBeforeAll : List ℕ → Members → Type 0
 IsBeforeAll k no_members = Unit {0}
-IsBeforeAll k (member l e ms) = IsBefore k l × IsBeforeAll k ms
+IsBeforeAll k (member l e ms) = IsNameBefore k l × IsBeforeAll k ms
 
 abbrev pub IsReadNumber : Num → Type 0
 IsReadNumber (unsigned n) = Unit {0}
@@ -48,7 +48,8 @@ abbrev mutual
   MembersRead no_members = Unit {0}
   MembersRead (member k d ms) = IsRead d × IsBeforeAll k ms × MembersRead ms
 
-before_later : (k l : List ℕ) (ms : Members) → IsBefore k l → IsBeforeAll l ms → IsBeforeAll k ms
+before_later : (k l : List ℕ) (ms : Members) → IsNameBefore k l → IsBeforeAll l ms
+    → IsBeforeAll k ms
 before_later k l no_members h hs = tt
 before_later k l (member m e ms) h hs =
     (nat_list_cmp_total.trans k l m h hs.0, before_later k l ms h hs.1)
@@ -59,7 +60,7 @@ chosen_before j Less a b c p q r = p
 chosen_before j Equal a b c p q r = q
 chosen_before j Greater a b c p q r = r
 
-before_put : (j k : List ℕ) (d : Data) (ms : Members) → IsBefore j k → IsBeforeAll j ms
+before_put : (j k : List ℕ) (d : Data) (ms : Members) → IsNameBefore j k → IsBeforeAll j ms
     → IsBeforeAll j (put k d ms)
 before_put j k d no_members h hs = (h, tt)
 before_put j k d (member l e ms) h hs =
@@ -67,7 +68,7 @@ before_put j k d (member l e ms) h hs =
     (member l e (put k d ms))
     (h, hs) hs (hs.0, before_put j k d ms h hs.1)
 
-flipped : (k l : List ℕ) → slice_cmp nat_cmp k l ≡ Greater → IsBefore l k
+flipped : (k l : List ℕ) → slice_cmp nat_cmp k l ≡ Greater → IsNameBefore l k
 flipped k l h = nat_list_cmp_total.antisymm l k ∙ ap ordering_reverse h
 
 put_read_at : (o : Ordering) (k l : List ℕ) (d e : Data) (ms : Members) → slice_cmp nat_cmp k l ≡ o

@@ -9,13 +9,13 @@ use Rattle.fm_entry.specs.declared.entry.Entry.{Entry}
 use Rattle.fm_entry.specs.declared.entry.Entry.TheVariants.{Report}
 
 -- a name stands before another in byte order
-abbrev pub IsBefore : List ℕ → List ℕ → Type 0
-IsBefore k l = slice_cmp nat_cmp k l ≡ Less
+abbrev pub IsNameBefore : List ℕ → List ℕ → Type 0
+IsNameBefore k l = slice_cmp nat_cmp k l ≡ Less
 
 -- a name stands before all names of some pairs
 abbrev pub IsBeforeNames : List ℕ → Pairs → Type 0
 IsBeforeNames k no_pairs = Unit {0}
-IsBeforeNames k (pair l d ps) = IsBefore k l × IsBeforeNames k ps
+IsBeforeNames k (pair l d ps) = IsNameBefore k l × IsBeforeNames k ps
 
 -- Each name stands before all that follow it, in a list and in each list in it.
 abbrev mutual

@@ -8,7 +8,7 @@ use Rattle.fm_outer.specs.declared.disk.Disk.{Ghosts}
 use Rattle.fm_saved.specs.declared.checkpoint.Checkpoint.{Checkpoint}
 use Rattle.fm_slots.specs.Format.{SlotOf, IsSlot, IsDamagedSlot}
 use Rattle.fm_slots.specs.InForce.{in_force}
-use Rattle.fm_slots.specs.Pair.{AreKept}
+use Rattle.fm_slots.specs.Pair.{NoCallFailed}
 use Rattle.fm_slots.specs.declared.fault.SlotFault.{SlotFault}
 use Rattle.fm_slots.specs.declared.fault.SlotFault.TheVariants.{Disk as SlotFailed}
 use Rattle.fm_slots.specs.declared.fault.SlotFault.TheVariants.{Damaged as SlotDamaged}
@@ -38,7 +38,7 @@ pub record SlotsKept (x y : List ℕ) (known : ℕ) (newest : Option (Bool × �
 pub record AreSlotsRead {D : Type 0} (g : Ghosts D) (a b new_a new_b : D) : Type 0 where
   pub settled_a : IsSettled g new_a
   pub settled_b : IsSettled g new_b
-  pub kept : AreKept g a b new_a new_b
+  pub kept : NoCallFailed g a b new_a new_b
 
 -- the slot in force says no checkpoint
 abbrev pub SaysNone : ℕ → Option (Bool × SlotOf) → DiskName → ℕ → Type 0

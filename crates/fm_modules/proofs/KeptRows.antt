@@ -5,7 +5,7 @@ use Rattle.std.proofs.Common.{Some, refl, sym, ap, ◌∙◌, subst, slice_get, 
 use Rattle.std.proofs.lemmas.List.{map-append, take_all, take_more}
 use Rattle.std.proofs.lemmas.Option.{slice_get_read}
 use Rattle.fm_saved.specs.declared.conf.Conf.{Conf}
-use Rattle.fm_topo.specs.Fault.{IsClean}
+use Rattle.fm_topo.specs.Fault.{IsFaultless}
 use Rattle.fm_topo.specs.Topology.{Topology, topology_of}
 use Rattle.fm_modules.specs.KeptTexts.{AreRefusedTexts, ConfMakes, EachHas, IsFirstRefused}
 use Rattle.fm_modules.specs.KeptTexts.{IsRefusedConf, IsRefusedText, IsTopologyText, KeptCause}
@@ -63,7 +63,7 @@ text_refused topo texts i text kept.NoMemory low is cause = tt
 
 -- and the configuration is refused, of which these are the rule files and the topology
 pub conf_refused : (conf : Conf) (topo : Topology) (texts : List (List ℕ)) (topo_text : List ℕ)
-    (fault : KeptFault) → texts ≡ conf.rules → topo_text ≡ conf.topo → IsClean topo_text
+    (fault : KeptFault) → texts ≡ conf.rules → topo_text ≡ conf.topo → IsFaultless topo_text
     → topo ≡ topology_of topo_text → KeptCause (AreRefusedTexts topo texts) fault
     → KeptCause (IsRefusedConf conf) fault
 conf_refused conf topo texts topo_text kept.Refused same same_topo clean is cause =

@@ -2,7 +2,7 @@
 -- which of them are refused.
 use Rattle.std.specs.Prelude.{◌≡◌, ◌⊎◌, ℕ, List, [], ◌∷◌, map, slice_get, take, Some}
 use Rattle.fm_saved.specs.declared.conf.Conf.{Conf}
-use Rattle.fm_topo.specs.Fault.{IsClean, IsFirstFault}
+use Rattle.fm_topo.specs.Fault.{IsFaultless, IsFirstFault}
 use Rattle.fm_topo.specs.Topology.{Topology, topology_of}
 use Rattle.fm_topo.specs.declared.faults.TopoFault.TheVariants.{At}
 use Rattle.fm_topo.specs.declared.faults.TopoKind.{TopoKind}
@@ -30,7 +30,7 @@ EachHas has _ _ = ⊥
 
 -- the text is that of this topology
 pub record IsTopologyText (text : List ℕ) (topo : Topology) : Type 0 where
-  pub clean : IsClean text
+  pub clean : IsFaultless text
   pub topology_is : topo ≡ topology_of text
 
 -- a checked rule file, which has this graph over the topology, says this of payloads: just the

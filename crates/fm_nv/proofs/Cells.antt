@@ -12,7 +12,7 @@ use Rattle.fm_nv.specs.Ascending.{LastIsGreatest, IsPast}
 use Rattle.fm_nv.specs.Data.{Pairs, Data, no_pairs, pair, count, depth, data_depth, name_at}
 use Rattle.fm_nv.specs.Data.{value_at, add}
 use Rattle.fm_nv.specs.Spelled.{is_pair_name, names_fit}
-use Rattle.fm_nv.specs.View.{datum, between, begins, pairs_in, AreEnds, IsContent}
+use Rattle.fm_nv.specs.View.{datum, bytes_between, begins, pairs_in, AreEnds, IsContent}
 use Rattle.fm_nv.specs.declared.nv.Cell.{Cell}
 use Rattle.fm_bytes.proofs.Booleans.{and_parts, and_true}
 use Rattle.fm_nv.proofs.Adding.{depth_add}
@@ -32,7 +32,7 @@ begins_next b (x ∷ cs) (suc n) c h e = begins_next x.end cs n c (omega arith) 
 
 -- the name at a place is what stands between its beginning and the next
 pub name_in : (names : List ℕ) (b : ℕ) (cs : List Cell) (n : ℕ) → n < length cs
-    → between (begins b cs n) (begins b cs (suc n)) names ≡ name_at n (pairs_in names b cs)
+    → bytes_between (begins b cs n) (begins b cs (suc n)) names ≡ name_at n (pairs_in names b cs)
 name_in names b [] n h = absurd (omega arith)
 name_in names b (c ∷ cs) zero h = refl
 name_in names b (c ∷ cs) (suc n) h = name_in names c.end cs n (omega arith)
@@ -75,14 +75,14 @@ length_drop (suc b) (x ∷ xs) = omega (arith, length_drop b xs)
 
 -- what stands between two places stays where bytes are added
 between_front : (b e : ℕ) (xs ys : List ℕ) → b ≤ e → e ≤ length xs
-    → between b e (xs ++ ys) ≡ between b e xs
+    → bytes_between b e (xs ++ ys) ≡ bytes_between b e xs
 between_front b e xs ys h k =
     ap (take (e - b)) (drop_front b xs ys (omega arith))
     ∙ take-append-le (e - b) (drop b xs) ys (omega (arith, length_drop b xs))
 
 -- what was added stands between the end before and the new one
 between_back : (xs ys : List ℕ) (e : ℕ) → e ≡ length xs + length ys
-    → between (length xs) e (xs ++ ys) ≡ ys
+    → bytes_between (length xs) e (xs ++ ys) ≡ ys
 between_back xs ys e h = ap (take (e - length xs)) (drop-append_seam xs ys)
     ∙ take_all (e - length xs) ys (omega arith)
 
@@ -91,11 +91,11 @@ pairs_push : (names k : List ℕ) (b : ℕ) (cs : List Cell) (c : Cell) → AreE
     → pairs_in (names ++ k) b (cs ++ c ∷ []) ≡ add k (datum c.value) (pairs_in names b cs)
 pairs_push names k b [] c h e =
     ap (λ (n : List ℕ). pair n (datum c.value) no_pairs)
-    (ap (λ (n : ℕ). between n c.end (names ++ k)) h ∙ between_back names k c.end e)
+    (ap (λ (n : ℕ). bytes_between n c.end (names ++ k)) h ∙ between_back names k c.end e)
 pairs_push names k b (x ∷ cs) c h e =
     ap (λ (n : List ℕ). pair n (datum x.value) (pairs_in (names ++ k) x.end (cs ++ c ∷ [])))
     (between_front b x.end names k h.0 (ends_within (length names) x.end cs h.1))
-    ∙ ap (pair (between b x.end names) (datum x.value)) (pairs_push names k x.end cs c h.1 e)
+    ∙ ap (pair (bytes_between b x.end names) (datum x.value)) (pairs_push names k x.end cs c h.1 e)
 
 -- a name more is one
 names_fit_add : (k : List ℕ) (d : Data) (ps : Pairs) → IsTrue (is_pair_name k)
@@ -123,10 +123,10 @@ content_pairs names k more cs all c deep ascending h e named_by held_by =
 
 -- the same at the next place, as code names it
 pub name_found : (names : List ℕ) (cs : List Cell) (n : ℕ) → n < length cs
-    → between (begins 0 cs n) (begins 0 cs (n + 1)) names ≡ name_at n (pairs_in names 0 cs)
+    → bytes_between (begins 0 cs n) (begins 0 cs (n + 1)) names ≡ name_at n (pairs_in names 0 cs)
 name_found names cs n h =
     let e : suc n ≡ n + 1 = omega arith in
-    subst (λ (m : ℕ). between (begins 0 cs n) (begins 0 cs m) names
+    subst (λ (m : ℕ). bytes_between (begins 0 cs n) (begins 0 cs m) names
     ≡ name_at n (pairs_in names 0 cs)) e (name_in names 0 cs n h)
 
 pub ends_found : (size : ℕ) (cs : List Cell) (n : ℕ) → AreEnds size 0 cs → n < length cs

@@ -24,14 +24,14 @@ datum (Texts ts) = texts ts
 datum (Lists ls) = lists (lists_of ls)
 
 -- the bytes between two places
-abbrev pub between : ℕ → ℕ → List ℕ → List ℕ
-between begin end names = take (end - begin) (drop begin names)
+abbrev pub bytes_between : ℕ → ℕ → List ℕ → List ℕ
+bytes_between begin end names = take (end - begin) (drop begin names)
 
 -- the pairs of the cells, whose names stand one behind the other from a place on
 abbrev pub pairs_in : List ℕ → ℕ → List Cell → Pairs
 pairs_in names begin [] = no_pairs
 pairs_in names begin (c ∷ cs) =
-    pair (between begin c.end names) (datum c.value) (pairs_in names c.end cs)
+    pair (bytes_between begin c.end names) (datum c.value) (pairs_in names c.end cs)
 
 -- where the name at a place begins, counted from 0: where the one before it ends
 abbrev pub begins : ℕ → List Cell → ℕ → ℕ

@@ -6,7 +6,7 @@ ghost use Rattle.fm_nv.specs.Data.{value_at};
 ghost use Rattle.fm_nv.specs.Spelled.{is_pair_name};
 ghost use Rattle.std.specs.Bool.{OnTrue};
 ghost use Rattle.fm_nv.specs.Ascending.{IsPast};
-ghost use Rattle.fm_nv.specs.View.{AreEnds, begins, between, datum, pairs_in};
+ghost use Rattle.fm_nv.specs.View.{AreEnds, begins, bytes_between, datum, pairs_in};
 
 use crate::nv::{Cell, Content, Value};
 use fm_bytes::NoMemory;
@@ -118,7 +118,7 @@ fn name_in<'a>(names: &'a [u8], cells: &[Cell], at: usize) -> &'a [u8]
 fn piece(names: &[u8], begin: usize, end: usize) -> &[u8]
     requires order { begin ≤ end }
     requires within { end ≤ length names.now }
-    ensures { result.now ≡ between begin end names.now }
+    ensures { result.now ≡ bytes_between begin end names.now }
 {
     &names[begin..end]
 }

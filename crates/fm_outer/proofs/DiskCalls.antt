@@ -8,10 +8,10 @@ use Rattle.std.proofs.lemmas.Bool.{leb-true, leb-false, le-leb}
 use Rattle.std.proofs.lemmas.List.{take-append-le, take_all}
 use Rattle.fm_outer.specs.Bytes.{written}
 use Rattle.fm_outer.specs.FailPlan.{is_due}
-use Rattle.fm_outer.specs.Crash.{Torn, Shorter, Follows, NoMore, OnlySeen, Elapses}
+use Rattle.fm_outer.specs.Crash.{Torn, Shorter, StepsFrom, NoMore, OnlySeen, Elapses}
 use Rattle.fm_outer.specs.Record.{Op, Wrote, CutTo, Synced, read_after, content_after, Left}
 use Rattle.fm_outer.specs.Record.{LeftAfter, IsImage, places}
-use Rattle.fm_outer.specs.Tape.{Tape, noted, has_place}
+use Rattle.fm_outer.specs.Tape.{Tape, recorded, has_place}
 use Rattle.fm_outer.specs.MemDisk.{DiskState, does, does_write}
 use Rattle.fm_outer.specs.MemDiskLaws.{left_after-read}
 use Rattle.fm_outer.specs.Steps.{torn-none, shorter-none}
@@ -101,7 +101,7 @@ module _ (base : List ℕ) (old new : Tape) where
   abbrev Was : List ℕ → Type 0
   Was c = IsImage old.ops base c
 
-  pub called-time : (op : Op) → new ≡ noted op old
+  pub called-time : (op : Op) → new ≡ recorded op old
       → Elapses (length old.ops) (length new.ops) (Since base old.ops) (Since base new.ops)
       (λ c. IsImage new.ops base c)
   called-time op is = subst
@@ -115,33 +115,33 @@ module _ (base : List ℕ) (old new : Tape) where
       go false = time-same base old.ops
 
   -- a step that a crash may leave after the call may leave nothing done, too
-  pub called-follows : (op : Op) (step : List ℕ → List ℕ → Type 0) → new ≡ noted op old
+  pub called-follows : (op : Op) (step : List ℕ → List ℕ → Type 0) → new ≡ recorded op old
       → ((xs : List ℕ) (before : List ℕ → Type 0) (c : List ℕ) → Left op xs before c → (d : List ℕ)
       × before d × step d c)
-      → ((c : List ℕ) → step c c) → Follows step Was (λ c. IsImage new.ops base c)
+      → ((c : List ℕ) → step c c) → StepsFrom step Was (λ c. IsImage new.ops base c)
   called-follows op step is by none =
-      subst (λ (t : Tape). Follows step Was (λ c. IsImage t.ops base c)) (sym is)
+      subst (λ (t : Tape). StepsFrom step Was (λ c. IsImage t.ops base c)) (sym is)
       (go (has_place (places op) old))
     where
-      go : (test : Bool) → Follows step Was (λ c. IsImage (after op old test).ops base c)
+      go : (test : Bool) → StepsFrom step Was (λ c. IsImage (after op old test).ops base c)
       go true = λ c left. by (content_after old.ops base) Was c
           (left_after-snoc old.ops op base (λ d. base ≡ d) c left)
       go false = λ c left. (c, left, none c)
 
   pub write-follows : (at : ℕ) (bytes : List ℕ) (done : Bool)
-      → new ≡ noted (Wrote at bytes done) old
-      → Follows (Torn at (length bytes)) Was (λ c. IsImage new.ops base c)
+      → new ≡ recorded (Wrote at bytes done) old
+      → StepsFrom (Torn at (length bytes)) Was (λ c. IsImage new.ops base c)
   write-follows at bytes done is =
       called-follows (Wrote at bytes done) (Torn at (length bytes)) is (λ xs before c left. left)
       (torn-none at (length bytes))
 
-  pub cut-follows : (len : ℕ) (done : Bool) → new ≡ noted (CutTo len done) old
-      → Follows (Shorter len) Was (λ c. IsImage new.ops base c)
+  pub cut-follows : (len : ℕ) (done : Bool) → new ≡ recorded (CutTo len done) old
+      → StepsFrom (Shorter len) Was (λ c. IsImage new.ops base c)
   cut-follows len done is =
       called-follows (CutTo len done) (Shorter len) is (λ xs before c left. left) (shorter-none len)
 
   -- a sync leaves no new image
-  pub sync-no_more : (done : Bool) → new ≡ noted (Synced done) old
+  pub sync-no_more : (done : Bool) → new ≡ recorded (Synced done) old
       → NoMore Was (λ c. IsImage new.ops base c)
   sync-no_more done is =
       subst (λ (t : Tape). NoMore Was (λ c. IsImage t.ops base c)) (sym is)
@@ -156,7 +156,7 @@ module _ (base : List ℕ) (old new : Tape) where
       go false false = λ c left. left
 
   -- after one that was done there is only what a read gives
-  pub sync-durable : (done : Bool) → new ≡ noted (Synced done) old
+  pub sync-durable : (done : Bool) → new ≡ recorded (Synced done) old
       → (has_place 1 old ≡ false → done ≡ false) → done ≡ true
       → OnlySeen (Some (content_after old.ops base)) (λ c. IsImage new.ops base c)
   sync-durable done is full did =
@@ -174,7 +174,7 @@ module _ (base : List ℕ) (old new : Tape) where
       go false false was so = absurd (cc was)
 
   -- what a read gives after a call that is done only where the record has room for it
-  pub called-content : (op : Op) (done : Bool) → new ≡ noted op old
+  pub called-content : (op : Op) (done : Bool) → new ≡ recorded op old
       → (has_place (places op) old ≡ false → done ≡ false)
       → (done ≡ false → read_after op (content_after old.ops base) ≡ content_after old.ops base)
       → content_after new.ops base ≡ read_after op (content_after old.ops base)
@@ -187,7 +187,7 @@ module _ (base : List ℕ) (old new : Tape) where
       go false so = sym (same (so refl))
 
   pub write-content : (at : ℕ) (bytes : List ℕ) (done : Bool)
-      → new ≡ noted (Wrote at bytes done) old
+      → new ≡ recorded (Wrote at bytes done) old
       → (has_place (1 + length bytes) old ≡ false → done ≡ false)
       → at ≤ length (content_after old.ops base)
       → content_after new.ops base
@@ -207,7 +207,7 @@ module _ (base : List ℕ) (old new : Tape) where
       idle true is = absurd (cc is)
       idle false is = refl
 
-  pub cut-content : (len : ℕ) (done : Bool) → new ≡ noted (CutTo len done) old
+  pub cut-content : (len : ℕ) (done : Bool) → new ≡ recorded (CutTo len done) old
       → (has_place 1 old ≡ false → done ≡ false)
       → content_after new.ops base
       ≡ (if done then take len (content_after old.ops base) else content_after old.ops base)
@@ -218,6 +218,6 @@ module _ (base : List ℕ) (old new : Tape) where
       idle true is = absurd (cc is)
       idle false is = refl
 
-  pub sync-content : (done : Bool) → new ≡ noted (Synced done) old
+  pub sync-content : (done : Bool) → new ≡ recorded (Synced done) old
       → content_after new.ops base ≡ content_after old.ops base
   sync-content done is = called-content (Synced done) false is (λ full. refl) (λ same. refl)

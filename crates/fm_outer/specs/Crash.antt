@@ -21,8 +21,8 @@ pub record Shorter (n : ℕ) (old new : List ℕ) : Type 0 where
   pub no_shorter : min n (length old) ≤ length new
 
 -- each new image is an old image after such a step
-abbrev pub Follows : (List ℕ → List ℕ → Type 0) → (List ℕ → Type 0) → (List ℕ → Type 0) → Type 0
-Follows step old new = (c : List ℕ) → new c → (d : List ℕ) × old d × step d c
+abbrev pub StepsFrom : (List ℕ → List ℕ → Type 0) → (List ℕ → Type 0) → (List ℕ → Type 0) → Type 0
+StepsFrom step old new = (c : List ℕ) → new c → (d : List ℕ) × old d × step d c
 
 -- there is no new image
 abbrev pub NoMore : (List ℕ → Type 0) → (List ℕ → Type 0) → Type 0

@@ -2,7 +2,7 @@
 use Rattle.std.specs.Prelude.{ℕ, ◌+◌, ◌≤◌, List, [], Bool, not, ◌&&◌, nat_le, length, take}
 use Rattle.fm_outer.specs.FailPlan.{Plan, is_due, after_call, fresh_plan}
 use Rattle.fm_outer.specs.Record.{Op, content_after, IsImage}
-use Rattle.fm_outer.specs.Tape.{Tape, noted, has_place}
+use Rattle.fm_outer.specs.Tape.{Tape, recorded, has_place}
 
 -- what it had when it was made, the record of its writing calls, how many bytes it may have, and
 -- which calls fail
@@ -55,4 +55,4 @@ asked done disk = record disk { plan = after_call done disk.plan }
 
 -- after a writing call, which is on the record where that has room
 abbrev pub called : Op → Bool → DiskState → DiskState
-called op done disk = record disk { tape = noted op disk.tape; plan = after_call done disk.plan }
+called op done disk = record disk { tape = recorded op disk.tape; plan = after_call done disk.plan }

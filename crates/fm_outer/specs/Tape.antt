@@ -16,8 +16,8 @@ abbrev pub has_place : ℕ → Tape → Bool
 has_place n tape = nat_le (places_of tape.ops + n) tape.size
 
 -- the call on the record, where it has room
-abbrev pub noted : Op → Tape → Tape
-noted op tape = if has_place (places op) tape then record tape { ops = tape.ops ++ op ∷ [] }
+abbrev pub recorded : Op → Tape → Tape
+recorded op tape = if has_place (places op) tape then record tape { ops = tape.ops ++ op ∷ [] }
     else tape
 
 -- how many bytes the call wrote

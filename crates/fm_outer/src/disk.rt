@@ -4,7 +4,7 @@ ghost use Rattle.std.specs.Option.{option_map};
 ghost use Rattle.std.specs.declared.option.Option.{Option};
 ghost use Rattle.fm_outer.specs.Failures.{HasCause};
 ghost use Rattle.fm_outer.specs.Bytes.{range, written, Inside, InsideRange};
-ghost use Rattle.fm_outer.specs.Crash.{Torn, Shorter, Follows, NoMore, OnlySeen, Elapses};
+ghost use Rattle.fm_outer.specs.Crash.{Torn, Shorter, StepsFrom, NoMore, OnlySeen, Elapses};
 
 use crate::Failed;
 
@@ -60,7 +60,7 @@ pub trait Disk {
         requires { Inside at (seen self.old) }
         ensures written { OnOk result
             (seen self.new ≡ option_map (written at bytes.now) (seen self.old)) }
-        ensures crash { Follows (Torn at (length bytes.now)) (images self.old) (images self.new) }
+        ensures crash { StepsFrom (Torn at (length bytes.now)) (images self.old) (images self.new) }
         ensures time { Elapses (moment self.old) (moment self.new) (left_since self.old)
             (left_since self.new) (images self.new) }
         ensures same_disk { name self.new ≡ name self.old }
@@ -70,7 +70,7 @@ pub trait Disk {
     fn cut(&mut self, len: u64) -> Result<(), Failed>
         requires { Inside len (seen self.old) }
         ensures shorter { OnOk result (seen self.new ≡ option_map (take len) (seen self.old)) }
-        ensures crash { Follows (Shorter len) (images self.old) (images self.new) }
+        ensures crash { StepsFrom (Shorter len) (images self.old) (images self.new) }
         ensures time { Elapses (moment self.old) (moment self.new) (left_since self.old)
             (left_since self.new) (images self.new) }
         ensures same_disk { name self.new ≡ name self.old }

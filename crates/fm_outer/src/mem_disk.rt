@@ -4,7 +4,7 @@ ghost use Rattle.std.specs.Prelude.{OnOk, IfOk, IfErr, IfSome, [], vec_capacity,
 ghost use Rattle.std.specs.Option.{option_map};
 ghost use Rattle.fm_outer.specs.Failures.{HasCause};
 ghost use Rattle.fm_outer.specs.Bytes.{range, written, Inside, InsideRange};
-ghost use Rattle.fm_outer.specs.Crash.{Torn, Shorter, Follows, NoMore, OnlySeen, Elapses};
+ghost use Rattle.fm_outer.specs.Crash.{Torn, Shorter, StepsFrom, NoMore, OnlySeen, Elapses};
 ghost use Rattle.fm_outer.specs.FailPlan.{is_due};
 ghost use Rattle.fm_outer.specs.Record.{Wrote, CutTo, Synced};
 ghost use Rattle.fm_outer.specs.Image.{image_of};
@@ -217,7 +217,7 @@ impl Disk for MemDisk {
         ensures written { OnOk result
             (Some (content self.new)
             ≡ option_map (written at bytes.now) (Some (content self.old))) }
-        ensures crash { Follows (Torn at (length bytes.now)) (Images self.old) (Images self.new) }
+        ensures crash { StepsFrom (Torn at (length bytes.now)) (Images self.old) (Images self.new) }
         ensures time { Elapses (length self.old.tape.ops) (length self.new.tape.ops)
             (LeftSince self.old) (LeftSince self.new) (Images self.new) }
         ensures same_disk { disk_name self.new ≡ disk_name self.old }
@@ -236,7 +236,7 @@ impl Disk for MemDisk {
         requires { Inside len (Some (content self.old)) }
         ensures shorter { OnOk result
             (Some (content self.new) ≡ option_map (take len) (Some (content self.old))) }
-        ensures crash { Follows (Shorter len) (Images self.old) (Images self.new) }
+        ensures crash { StepsFrom (Shorter len) (Images self.old) (Images self.new) }
         ensures time { Elapses (length self.old.tape.ops) (length self.new.tape.ops)
             (LeftSince self.old) (LeftSince self.new) (Images self.new) }
         ensures same_disk { disk_name self.new ≡ disk_name self.old }

@@ -3,7 +3,7 @@ ghost use Rattle.std.specs.Prelude.{◌≡◌, ◌≤◌, ◌+◌, ℕ, List, []
 ghost use Rattle.std.specs.Prelude.{IfOk, OnOk, if◌then◌else◌};
 ghost use Rattle.fm_outer.specs.Record.{Wrote, CutTo, Synced, read_after};
 ghost use Rattle.fm_outer.specs.Image.{laid_by, cut_by, image_after, image_of};
-ghost use Rattle.fm_outer.specs.Tape.{bytes_in, all_bytes, op_of, ops_of, noted, has_place};
+ghost use Rattle.fm_outer.specs.Tape.{bytes_in, all_bytes, op_of, ops_of, recorded, has_place};
 
 use crate::bytes::{append, cut_if, lay};
 use crate::{Image, NoMemory};
@@ -95,7 +95,7 @@ impl Record {
 
     /// Notes a write, where there is a place.
     pub fn note_write(&mut self, at: u64, bytes: &[u8], done: bool)
-        ensures { self.new ≡ noted (Wrote at bytes.now done) self.old }
+        ensures { self.new ≡ recorded (Wrote at bytes.now done) self.old }
     {
         if self.has_place(1 + bytes.len()) {
             let count = bytes.len();
@@ -105,7 +105,7 @@ impl Record {
 
     /// Notes a cut, where there is a place.
     pub fn note_cut(&mut self, len: u64, done: bool)
-        ensures { self.new ≡ noted (CutTo len done) self.old }
+        ensures { self.new ≡ recorded (CutTo len done) self.old }
     {
         if self.has_place(1) {
             self.put_call(Call::Cut { len, done }, &[]);
@@ -114,7 +114,7 @@ impl Record {
 
     /// Notes a sync, where there is a place.
     pub fn note_sync(&mut self, done: bool)
-        ensures { self.new ≡ noted (Synced done) self.old }
+        ensures { self.new ≡ recorded (Synced done) self.old }
     {
         if self.has_place(1) {
             self.put_call(Call::Sync { done }, &[]);

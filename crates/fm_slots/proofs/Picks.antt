@@ -6,7 +6,7 @@ use Rattle.std.proofs.lemmas.Option.{same_Some}
 use Rattle.fm_outer.specs.Bytes.{range}
 use Rattle.fm_slots.specs.Format.{SlotOf, IsSlot}
 use Rattle.fm_slots.specs.InForce.{in_force, InForce, IsDamagedPair}
-use Rattle.fm_slots.specs.Pair.{slot_in, IsUndamaged, pick_at, later_pick, StandsAt, which}
+use Rattle.fm_slots.specs.Pair.{slot_in, IsUndamaged, pick_at, later_pick, IsPicked, which}
 use Rattle.fm_slots.specs.Pair.{picked_slot}
 use Rattle.fm_slots.specs.Standing.{TellsSlot}
 use Rattle.fm_slots.specs.declared.pair.Pick.{Pick}
@@ -51,27 +51,27 @@ picked_in_force x y Bad Bad = refl
 -- what is picked stands on the disk that it names
 one_stands : (s t n m : ℕ) (test : Bool) (pick : Pick)
     → (if test then at_pick true t m else at_pick false s n) ≡ Some pick
-    → StandsAt pick.second (Open s n) (Open t m) pick
+    → IsPicked pick.second (Open s n) (Open t m) pick
 one_stands s t n m true pick is =
-    subst (λ (p : Pick). StandsAt p.second (Open s n) (Open t m) p) (same_Some _ pick is) refl
+    subst (λ (p : Pick). IsPicked p.second (Open s n) (Open t m) p) (same_Some _ pick is) refl
 one_stands s t n m false pick is =
-    subst (λ (p : Pick). StandsAt p.second (Open s n) (Open t m) p) (same_Some _ pick is) refl
+    subst (λ (p : Pick). IsPicked p.second (Open s n) (Open t m) p) (same_Some _ pick is) refl
 
 none_picked : (pick : Pick) → None ≡ Some pick → ⊥
 none_picked pick is = cc is
 
 pub picked_stands : (first second : Standing) (pick : Pick)
     → later_pick (pick_at false first) (pick_at true second) ≡ Some pick
-    → StandsAt pick.second first second pick
+    → IsPicked pick.second first second pick
 picked_stands (Open s n) (Open t m) pick is = one_stands s t n m (nat_lt s t) pick is
 picked_stands (Open s n) Closed pick is =
-    subst (λ (p : Pick). StandsAt p.second (Open s n) Closed p) (same_Some _ pick is) refl
+    subst (λ (p : Pick). IsPicked p.second (Open s n) Closed p) (same_Some _ pick is) refl
 picked_stands (Open s n) Bad pick is =
-    subst (λ (p : Pick). StandsAt p.second (Open s n) Bad p) (same_Some _ pick is) refl
+    subst (λ (p : Pick). IsPicked p.second (Open s n) Bad p) (same_Some _ pick is) refl
 picked_stands Closed (Open t m) pick is =
-    subst (λ (p : Pick). StandsAt p.second Closed (Open t m) p) (same_Some _ pick is) refl
+    subst (λ (p : Pick). IsPicked p.second Closed (Open t m) p) (same_Some _ pick is) refl
 picked_stands Bad (Open t m) pick is =
-    subst (λ (p : Pick). StandsAt p.second Bad (Open t m) p) (same_Some _ pick is) refl
+    subst (λ (p : Pick). IsPicked p.second Bad (Open t m) p) (same_Some _ pick is) refl
 picked_stands Closed Closed pick is = absurd (none_picked pick is)
 picked_stands Closed Bad pick is = absurd (none_picked pick is)
 picked_stands Bad Closed pick is = absurd (none_picked pick is)
@@ -86,7 +86,7 @@ pub picked_inside : {D : Type 0} (seen : D → Option (List ℕ)) (a b : D) (fir
 picked_inside seen a b first second pick one other is bytes told =
     go pick.second (picked_stands first second pick is) told
   where
-    go : (at : Bool) → StandsAt at first second pick → seen (which at a b) ≡ Some bytes
+    go : (at : Bool) → IsPicked at first second pick → seen (which at a b) ≡ Some bytes
         → 13 + pick.count ≤ length bytes
     go true stands told =
         (subst (λ (s : Standing). TellsSlot bytes s) stands (other bytes told)).0

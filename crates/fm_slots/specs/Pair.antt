@@ -41,9 +41,9 @@ later_pick (Some s) None = Some s
 later_pick (Some s) (Some t) = if nat_lt s.sequence t.sequence then Some t else Some s
 
 -- what was picked stands on the disk that it names
-abbrev pub StandsAt : Bool → Standing → Standing → Pick → Type 0
-StandsAt false first second pick = first ≡ Open pick.sequence pick.count
-StandsAt true first second pick = second ≡ Open pick.sequence pick.count
+abbrev pub IsPicked : Bool → Standing → Standing → Pick → Type 0
+IsPicked false first second pick = first ≡ Open pick.sequence pick.count
+IsPicked true first second pick = second ≡ Open pick.sequence pick.count
 
 -- one of two, the second where it is so
 abbrev pub which : {X : Type 0} → Bool → X → X → X
@@ -64,8 +64,8 @@ found_slot (Some found) =
     Some (found.second, record { sequence = found.sequence; payload = found.payload.items })
 
 -- no call failed
-abbrev pub AreKept : {D : Type 0} → Ghosts D → D → D → D → D → Type 0
-AreKept g a b new_a new_b =
+abbrev pub NoCallFailed : {D : Type 0} → Ghosts D → D → D → D → D → Type 0
+NoCallFailed g a b new_a new_b =
     (g.failures new_a ≡ g.failures a) × (g.failures new_b ≡ g.failures b)
 
 -- Of the reading of a payload: `Disk` only where the disk's count rose, and else want of memory.
@@ -78,7 +78,7 @@ ReadCause before now (Damaged second place) = ⊥
 abbrev pub PickCause : {D : Type 0} → Ghosts D → D → D → D → D → SlotFault → Type 0
 PickCause g a b new_a new_b Disk =
     Rose (g.failures a) (g.failures new_a) ⊎ Rose (g.failures b) (g.failures new_b)
-PickCause g a b new_a new_b NoMemory = AreKept g a b new_a new_b
+PickCause g a b new_a new_b NoMemory = NoCallFailed g a b new_a new_b
 PickCause g a b new_a new_b (Damaged second place) = ⊥
 
 -- Of `newest`: `Disk` only where the count of one of the disks rose; `Damaged` at 0 only where both
@@ -86,8 +86,8 @@ PickCause g a b new_a new_b (Damaged second place) = ⊥
 -- want of memory.
 abbrev pub NewestCause : {D : Type 0} → Ghosts D → D → D → D → D → SlotFault → Type 0
 NewestCause g a b new_a new_b (Damaged second place) =
-    (place ≡ 0) × AreKept g a b new_a new_b × (IsSettled g new_a × IsSettled g new_b)
+    (place ≡ 0) × NoCallFailed g a b new_a new_b × (IsSettled g new_a × IsSettled g new_b)
     × ((x y : List ℕ) → g.seen a ≡ Some x → g.seen b ≡ Some y → IsDamagedPair second x y)
 NewestCause g a b new_a new_b Disk =
     Rose (g.failures a) (g.failures new_a) ⊎ Rose (g.failures b) (g.failures new_b)
-NewestCause g a b new_a new_b NoMemory = AreKept g a b new_a new_b
+NewestCause g a b new_a new_b NoMemory = NoCallFailed g a b new_a new_b

@@ -4,7 +4,8 @@ ghost use Rattle.std.specs.Prelude.{IfSome};
 ghost use Rattle.fm_outer.specs.Bytes.{range, InsideRange};
 ghost use Rattle.fm_outer.specs.Moments.{IsSettled, OnlyRead};
 ghost use Rattle.fm_slots.specs.InForce.{InForce};
-ghost use Rattle.fm_slots.specs.Pair.{IsUndamaged, pick_at, later_pick, which, found_slot, AreKept};
+ghost use Rattle.fm_slots.specs.Pair.{IsUndamaged, pick_at, later_pick, which};
+ghost use Rattle.fm_slots.specs.Pair.{found_slot, NoCallFailed};
 ghost use Rattle.fm_slots.specs.Pair.{ReadCause, PickCause, NewestCause};
 ghost use Rattle.fm_slots.specs.declared.fault.SlotFault.TheVariants.{Damaged as IsDamagedAt};
 ghost use Rattle.fm_slots.specs.declared.standing.Standing.TheVariants.{Bad as IsBad};
@@ -92,7 +93,7 @@ fn picked_payload<D: Disk>(
     ensures still_a { OnlyRead D.Disk a.old a.new }
     ensures still_b { OnlyRead D.Disk b.old b.new }
     ensures cause { IfErr result (PickCause D.Disk a.old b.old a.new b.new) }
-    ensures count_kept { OnOk result (AreKept D.Disk a.old b.old a.new b.new) }
+    ensures count_kept { OnOk result (NoCallFailed D.Disk a.old b.old a.new b.new) }
 {
     if pick.second {
         payload_of(alloc, b, pick.count)
@@ -110,7 +111,7 @@ pub fn newest<D: Disk>(alloc: Global, a: &mut D, b: &mut D) -> Result<Option<Fou
     ensures still_a { OnlyRead D.Disk a.old a.new }
     ensures still_b { OnlyRead D.Disk b.old b.new }
     ensures cause { IfErr result (NewestCause D.Disk a.old b.old a.new b.new) }
-    ensures count_kept { OnOk result (AreKept D.Disk a.old b.old a.new b.new) }
+    ensures count_kept { OnOk result (NoCallFailed D.Disk a.old b.old a.new b.new) }
 {
     let first = peek(a)?;
     let second = peek(b)?;

@@ -2,7 +2,7 @@
 use Rattle.std.specs.Prelude.{◌≡◌, ◌⊎◌, ℕ, zero, suc, List, [], ◌∷◌, Result, Ok, Err}
 use Rattle.fm_outer.specs.Failures.{Rose}
 use Rattle.fm_outer.specs.declared.source.Source.{Ghosts}
-use Rattle.fm_topo.specs.Fault.{IsClean, IsFirstFault}
+use Rattle.fm_topo.specs.Fault.{IsFaultless, IsFirstFault}
 use Rattle.fm_topo.specs.Lawful.{IsTopology}
 use Rattle.fm_topo.specs.Topology.{Topology, topology_of}
 use Rattle.fm_topo.specs.declared.faults.TopoFault.TheVariants.{At}
@@ -22,7 +22,7 @@ pub record GaveRules {S : Type 0} (g : Ghosts S) (old new : S) (file : RuleFile)
 pub record GaveTopology {S : Type 0} (g : Ghosts S) (old new : S) (text : List ℕ)
     (topo : Topology) : Type 0 where
   pub gave : GaveText g 16777216 old new text
-  pub clean : IsClean text
+  pub clean : IsFaultless text
   pub topology_is : topo ≡ topology_of text
   pub lawful : IsTopology topo
 

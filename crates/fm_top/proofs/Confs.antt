@@ -20,7 +20,7 @@ use Rattle.fm_sources.specs.declared.files.RuleFile.{RuleFile}
 use Rattle.fm_sources.specs.declared.sources.Sources.{Sources}
 use Rattle.fm_topo.specs.Line.{topology_lines, line_end, content_of, is_clean_byte}
 use Rattle.fm_topo.specs.Topology.{Topology, lines_topology}
-use Rattle.fm_topo.specs.Fault.{line_fault, fault_at, IsClean}
+use Rattle.fm_topo.specs.Fault.{line_fault, fault_at, IsFaultless}
 use Rattle.fm_topo.specs.declared.faults.TopoKind.{TopoKind}
 use Rattle.fm_topo.specs.declared.faults.TopoKind.TheVariants.{Length, Bytes}
 use Rattle.fm_top.specs.Init.{conf_with}
@@ -69,7 +69,7 @@ ends_within found last line none =
     let long = if_none (nat_lt 4096 (length line) || nat_lt 16777216 last) Length _ bytes.1 in
     not_past (nat_lt 4096 (length line)) last long.0
 
-topology_within : (text : List ℕ) → IsClean text → length text ≤ 16777216
+topology_within : (text : List ℕ) → IsFaultless text → length text ≤ 16777216
 unfolding fault_at line_end
 topology_within text clean =
     let n = length (topology_lines text) - 1 in

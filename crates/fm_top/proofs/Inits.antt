@@ -21,7 +21,7 @@ use Rattle.fm_logs.specs.declared.disks.Disks.{Disks}
 use Rattle.fm_top.specs.Calls.{IsCaused, Does, WorksOn, handed}
 use Rattle.fm_top.specs.Init.{InitEnds, MakingEnds, AreUnwritten}
 use Rattle.fm_top.specs.Init.{HasNoStore, conf_with}
-use Rattle.fm_top.specs.Order.{Goes, Passes, at_rules, at_topology, at_graphs, at_no_store}
+use Rattle.fm_top.specs.Order.{Goes, LookPasses, at_rules, at_topology, at_graphs, at_no_store}
 use Rattle.fm_top.specs.Order.{looks, world_of}
 use Rattle.fm_top.specs.Outside.{Outside, DisksAt, Tells, Leaves, standing}
 use Rattle.fm_top.specs.Outside.{given_of, counts_of}
@@ -34,8 +34,8 @@ use Rattle.fm_top.proofs.Standing.{reads_standing}
 
 made_goes : (before after : Outside) (namespace : List ℕ) (conf : Conf)
     (ran : Result (Unit {0}) Stop)
-    → Passes (world_of before after) at_rules → Passes (world_of before after) at_topology
-    → Passes (world_of before after) at_graphs → MakingEnds before.disks after.disks conf ran
+    → LookPasses (world_of before after) at_rules → LookPasses (world_of before after) at_topology
+    → LookPasses (world_of before after) at_graphs → MakingEnds before.disks after.disks conf ran
     → Goes (world_of before after) (looks (Init namespace)) ran
 made_goes before after namespace conf (Ok done) files topology graphs made =
     (files, (topology, (graphs, (made.was_none, tt))))

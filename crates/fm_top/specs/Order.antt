@@ -124,34 +124,34 @@ Finds w at_early stop =
 -- looked at as files. Whether something is marked, or a case has a UUID, is looked at in the
 -- drained book, and a limit may be reached on the way there: what stands then is said by what the
 -- command did.
-abbrev pub Passes : World → Look → Type 0
-Passes w at_rules =
+abbrev pub LookPasses : World → Look → Type 0
+LookPasses w at_rules =
     (files : List RuleFile) × FilesGave standing w.sources.rules w.sources_now.rules files
-Passes w at_topology = (text : List ℕ) × (parts : PartSet)
+LookPasses w at_topology = (text : List ℕ) × (parts : PartSet)
     × GaveTopology standing w.sources.topo w.sources_now.topo text parts
-Passes w at_graphs =
+LookPasses w at_graphs =
     (got : Sources) × ReadsSources standing w.sources w.sources_now (Ok got)
     × ((mades : List Made) × AreGraphs got.topo got.files.items mades)
-Passes w at_files =
+LookPasses w at_files =
     ((text : List ℕ) × IsListed standing w.input w.input_now text None)
     ⊎ InputCause standing w.input w.input_now inputs.Full
-Passes w at_no_store = IfSome (w.disks Conf) IsEmptyOrNone
-Passes w at_store = (told : Contents) → AreContents w told → BookAt told
-Passes w at_same =
+LookPasses w at_no_store = IfSome (w.disks Conf) IsEmptyOrNone
+LookPasses w at_store = (told : Contents) → AreContents w told → BookAt told
+LookPasses w at_same =
     (got : Sources) × ReadsSources standing w.sources w.sources_now (Ok got)
     × ((told : Contents) → AreContents w told → KeepsAsRead told got)
-Passes w (at_marked asked) = Unit {0}
-Passes w (at_row uuid) = Unit {0}
-Passes w at_early = (told : Contents) → AreContents w told → BeginsEarly told
+LookPasses w (at_marked asked) = Unit {0}
+LookPasses w (at_row uuid) = Unit {0}
+LookPasses w at_early = (told : Contents) → AreContents w told → BeginsEarly told
 
 -- the first look that ends the command ends it so
 abbrev pub FirstFinds : World → List Look → Stop → Type 0
 FirstFinds w [] stop = ⊥
-FirstFinds w (look ∷ more) stop = Finds w look stop ⊎ (Passes w look × FirstFinds w more stop)
+FirstFinds w (look ∷ more) stop = Finds w look stop ⊎ (LookPasses w look × FirstFinds w more stop)
 
 abbrev pub AllPass : World → List Look → Type 0
 AllPass w [] = Unit {0}
-AllPass w (look ∷ more) = Passes w look × AllPass w more
+AllPass w (look ∷ more) = LookPasses w look × AllPass w more
 
 -- a fault of the outside, or want of memory, which may come anywhere
 abbrev pub IsOutsideFault : Stop → Type 0

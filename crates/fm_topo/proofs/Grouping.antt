@@ -9,28 +9,29 @@ use Rattle.std.specs.Cmp.Lexicographic.{slice_cmp}
 use Rattle.std.proofs.Math.Seq.{take-suc}
 use Rattle.std.proofs.lemmas.Slice.Eq.{bytes_eq-Decides}
 use Rattle.std.proofs.lemmas.Map.Text.{is_eq-slice_cmp}
-use Rattle.fm_topo.specs.Groups.{numbers_at, places_of}
+use Rattle.fm_topo.specs.Groups.{numbers_at, text_places}
 
 -- a list with one text more
 pub places_push : (q : List ℕ) (at : ℕ) (ts : List (List ℕ)) (t : List ℕ)
-    → places_of q at (ts ++ t ∷ [])
-    ≡ (if bytes_eq t q then places_of q at ts ++ (at + length ts) ∷ [] else places_of q at ts)
+    → text_places q at (ts ++ t ∷ [])
+    ≡ (if bytes_eq t q then text_places q at ts ++ (at + length ts) ∷ [] else text_places q at ts)
 places_push q at [] t = at_end (bytes_eq t q) where
   at_end : (b : Bool) → (if b then at ∷ [] else []) ≡ (if b then (at + 0) ∷ [] else [])
   at_end true = ap (λ (n : ℕ). n ∷ []) (omega arith)
   at_end false = refl
 places_push q at (x ∷ ts) t =
-    step (bytes_eq x q) (bytes_eq t q) (places_of q (suc at) ts) (places_push q (suc at) ts t) where
-      step : (b c : Bool) (ps : List ℕ) {qs : List ℕ}
-          → qs ≡ (if c then ps ++ (suc at + length ts) ∷ [] else ps)
-          → (if b then at ∷ qs else qs)
-          ≡ (if c then (if b then at ∷ ps else ps)
-          ++ (at + suc (length ts)) ∷ [] else (if b then at ∷ ps else ps))
-      step true true ps e =
-          ap (λ (xs : List ℕ). at ∷ xs) (e ∙ ap (λ (n : ℕ). ps ++ n ∷ []) (omega arith))
-      step true false ps e = ap (λ (xs : List ℕ). at ∷ xs) e
-      step false true ps e = e ∙ ap (λ (n : ℕ). ps ++ n ∷ []) (omega arith)
-      step false false ps e = e
+    step (bytes_eq x q) (bytes_eq t q) (text_places q (suc at) ts) (places_push q (suc at) ts t)
+  where
+    step : (b c : Bool) (ps : List ℕ) {qs : List ℕ}
+        → qs ≡ (if c then ps ++ (suc at + length ts) ∷ [] else ps)
+        → (if b then at ∷ qs else qs)
+        ≡ (if c then (if b then at ∷ ps else ps)
+        ++ (at + suc (length ts)) ∷ [] else (if b then at ∷ ps else ps))
+    step true true ps e =
+        ap (λ (xs : List ℕ). at ∷ xs) (e ∙ ap (λ (n : ℕ). ps ++ n ∷ []) (omega arith))
+    step true false ps e = ap (λ (xs : List ℕ). at ∷ xs) e
+    step false true ps e = e ∙ ap (λ (n : ℕ). ps ++ n ∷ []) (omega arith)
+    step false false ps e = e
 
 -- what an update leaves at a text
 pub updated : (text q : List ℕ) (w o n : Option (List ℕ))
@@ -63,8 +64,9 @@ one_more text q old at xs ys mid new put pushed taken found =
 
 -- one text more is grouped
 pub grouped_more : (q : List ℕ) (ts : List (List ℕ)) (at : ℕ) (t d : List ℕ) (old new : List ℕ)
-    → at < length ts → t ≡ get_or ts at d → old ≡ places_of q 0 (take at ts)
-    → new ≡ (if bytes_eq t q then old ++ at ∷ [] else old) → new ≡ places_of q 0 (take (at + 1) ts)
+    → at < length ts → t ≡ get_or ts at d → old ≡ text_places q 0 (take at ts)
+    → new ≡ (if bytes_eq t q then old ++ at ∷ [] else old)
+    → new ≡ text_places q 0 (take (at + 1) ts)
 grouped_more q ts at t d old new below is before put =
     let size : 0 + length (take at ts) ≡ at = omega (arith, length-take-le at ts (omega arith)) in
     let one : at + 1 ≡ suc at = omega arith in
@@ -72,9 +74,9 @@ grouped_more q ts at t d old new below is before put =
     ap (λ (n : ℕ). take n ts) one ∙ take-suc ts at d below
     ∙ ap (λ (x : List ℕ). take at ts ++ x ∷ []) (sym is) in
     put ∙ ap (λ (ps : List ℕ). if bytes_eq t q then ps ++ at ∷ [] else ps) before
-    ∙ ap (λ (n : ℕ). if bytes_eq t q then places_of q 0 (take at ts)
-    ++ n ∷ [] else places_of q 0 (take at ts)) (sym size)
-    ∙ sym (places_push q 0 (take at ts) t) ∙ ap (places_of q 0) (sym more)
+    ∙ ap (λ (n : ℕ). if bytes_eq t q then text_places q 0 (take at ts)
+    ++ n ∷ [] else text_places q 0 (take at ts)) (sym size)
+    ∙ sym (places_push q 0 (take at ts) t) ∙ ap (text_places q 0) (sym more)
 
 joined_behind : {A : Type 0} (f : A → List ℕ) (sep : List ℕ) (xs : List A)
     → flat_map (λ y. sep ++ f y) xs ≡ flat_map (λ y. sep ++ y) (map f xs)

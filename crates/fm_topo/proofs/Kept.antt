@@ -18,11 +18,11 @@ use Rattle.fm_name.specs.Order.{path_cmp}
 use Rattle.fm_name.specs.OrderLaws.{path_cmp_total, path_tie}
 use Rattle.fm_name.proofs.Cutting.{some_text}
 use Rattle.fm_topo.specs.Line.{topology_lines, line_end, content_of, is_skipped, is_clean_byte}
-use Rattle.fm_topo.specs.Line.{words_from, path_of, words_of}
-use Rattle.fm_topo.specs.Property.{Properties, is_property, name_of, has_twin, properties_of}
+use Rattle.fm_topo.specs.Line.{parted_words, path_of, words_of}
+use Rattle.fm_topo.specs.Property.{Properties, is_property, property_name, has_twin, properties_of}
 use Rattle.fm_topo.specs.Topology.{Topology, has_path, with_line, lines_topology, topology_of}
 use Rattle.fm_topo.specs.Fault.{parent_of, lacks_parent, set_fault, entry_fault, line_fault}
-use Rattle.fm_topo.specs.Fault.{fault_at, IsCleanBefore, IsClean}
+use Rattle.fm_topo.specs.Fault.{fault_at, IsCleanBefore, IsFaultless}
 use Rattle.fm_topo.specs.Printed.{properties_text, place_line, topology_text}
 use Rattle.fm_topo.specs.Lawful.{IsPlace, IsTopology, ReadsAs}
 use Rattle.fm_topo.specs.declared.faults.TopoKind.{TopoKind}
@@ -54,11 +54,11 @@ words_at : (x : ℕ) (xs : List ℕ) (t : Bool) (on next : List (List ℕ))
 words_at x xs true on next e f = omega (arith, f)
 words_at x xs false on next e f = omega (arith, e, onto_total x on (omega (arith, e)))
 
-words_total : (q : Bool) (xs : List ℕ) → total line_size (words_from q xs) ≡ length xs + 1
+words_total : (q : Bool) (xs : List ℕ) → total line_size (parted_words q xs) ≡ length xs + 1
 words_total q [] = refl
 words_total q (x ∷ xs) =
-    words_at x xs (x == 32 && not q) (words_from (if x == 34 then not q else q) xs)
-    (words_from false xs)
+    words_at x xs (x == 32 && not q) (parted_words (if x == 34 then not q else q) xs)
+    (parted_words false xs)
     (words_total (if x == 34 then not q else q) xs) (words_total false xs)
 
 lines_total : (xs : List ℕ) → total line_size (topology_lines xs) ≡ length xs + 1
@@ -112,7 +112,7 @@ unfolding entry_fault set_fault
 entry_good found path words e =
     let a = if_none (not (is_path path)) Path _ e in
     let b = if_none (not (list_all is_property words)) Property _ a.1 in
-    let c = if_none (has_path found path || has_twin (map name_of words)) Twice _ b.1 in
+    let c = if_none (has_path found path || has_twin (map property_name words)) Twice _ b.1 in
     let d = if_none (lacks_parent found path) Parent _ c.1 in
     let f = if_none (nat_le 65536 (length found)) Count None d.1 in
     let n = f.0 in
@@ -305,7 +305,7 @@ sum_total (x ∷ xs) = sum_by-cons (λ line. length line + 1) x xs
     ∙ ap (λ n. length x + 1 + n) (sum_total xs)
 
 -- a text without a fault is within its limit
-within : (text : List ℕ) → IsClean text → length text ≤ 16777216
+within : (text : List ℕ) → IsFaultless text → length text ≤ 16777216
 unfolding fault_at line_end
 within text c =
     let n = length (topology_lines text) - 1 in
@@ -321,7 +321,7 @@ within text c =
     (unwrap_or (slice_get (topology_lines text) n) []) (c n (omega (arith, some)))).1 in
     omega (arith, l, s)
 
-pub topology_from : (text : List ℕ) → IsClean text → IsTopology (topology_of text)
+pub topology_from : (text : List ℕ) → IsFaultless text → IsTopology (topology_of text)
     × (length (topology_text (topology_of text)) ≤ length text)
 topology_from text c =
     let all : take (length (topology_lines text)) (topology_lines text) ≡ topology_lines text =
@@ -350,6 +350,6 @@ pub shortest : (topology : Topology) (text : List ℕ) → ReadsAs text topology
 shortest topology text r =
     subst (λ z. length (topology_text z) ≤ length text) r.1 (topology_from text r.0).1
 
-pub lawful : (topology : Topology) (text : List ℕ) → IsClean text → topology ≡ topology_of text
+pub lawful : (topology : Topology) (text : List ℕ) → IsFaultless text → topology ≡ topology_of text
     → IsTopology topology
 lawful topology text c e = subst IsTopology (sym e) (topology_from text c).0

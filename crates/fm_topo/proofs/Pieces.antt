@@ -9,7 +9,7 @@ use Rattle.std.proofs.lemmas.Grind.{common_steps}
 use Rattle.std.proofs.lemmas.Str.{IsUtf8-from_ascii}
 use Rattle.std.proofs.lemmas.Str.Ascii.{IsAscii-nil, IsAscii-cons}
 use Rattle.std.proofs.Math.Seq.{take-length}
-use Rattle.fm_topo.specs.Line.{is_clean_byte, words_from, path_of, words_of}
+use Rattle.fm_topo.specs.Line.{is_clean_byte, parted_words, path_of, words_of}
 use Rattle.fm_topo.specs.Word.{word_end}
 use Rattle.fm_topo.specs.Fault.{parent_of}
 
@@ -73,7 +73,7 @@ no_space (b ∷ bs) h = grind (arith, common_steps, no_space bs)
 
 pub words_some : (content rest : List ℕ) → rest ≡ after_first (λ x. x == 32) content
     → position_or_len (λ x. x == 32) content < length content
-    → words_from false rest ≡ words_of content
+    → parted_words false rest ≡ words_of content
 unfolding words_of
 words_some content rest r h = rw (space_inside content h, r) refl
 
@@ -104,14 +104,14 @@ word_end_le q (x ∷ xs) =
 
 word_cut_at : (q : Bool) (x : ℕ) (xs : List ℕ) (t : Bool)
     → (word_end (if x == 34 then not q else q) xs < length xs
-    → words_from (if x == 34 then not q else q) xs
-    ≡ take (word_end (if x == 34 then not q else q) xs) xs ∷ words_from false
+    → parted_words (if x == 34 then not q else q) xs
+    ≡ take (word_end (if x == 34 then not q else q) xs) xs ∷ parted_words false
     (drop (word_end (if x == 34 then not q else q) xs + 1) xs))
     → cond t 0 (1 + word_end (if x == 34 then not q else q) xs) < length (x ∷ xs)
-    → cond t ([] ∷ words_from false xs)
-    (onto_first x (words_from (if x == 34 then not q else q) xs))
+    → cond t ([] ∷ parted_words false xs)
+    (onto_first x (parted_words (if x == 34 then not q else q) xs))
     ≡ take (cond t 0 (1 + word_end (if x == 34 then not q else q) xs)) (x ∷ xs)
-    ∷ words_from false (drop (cond t 0 (1 + word_end (if x == 34 then not q else q) xs) + 1)
+    ∷ parted_words false (drop (cond t 0 (1 + word_end (if x == 34 then not q else q) xs) + 1)
     (x ∷ xs))
 word_cut_at q x xs true more h = refl
 word_cut_at q x xs false more h =
@@ -121,21 +121,21 @@ word_cut_at q x xs false more h =
 
 -- a text is its first word, and the words behind the space
 pub word_cut : (q : Bool) (xs : List ℕ) → word_end q xs < length xs
-    → words_from q xs ≡ take (word_end q xs) xs ∷ words_from false (drop (word_end q xs + 1) xs)
+    → parted_words q xs ≡ take (word_end q xs) xs ∷ parted_words false (drop (word_end q xs + 1) xs)
 word_cut q [] h = absurd (omega arith)
 word_cut q (x ∷ xs) h =
     word_cut_at q x xs (x == 32 && not q) (word_cut (if x == 34 then not q else q) xs) h
 
 word_all_at : (q : Bool) (x : ℕ) (xs : List ℕ) (t : Bool)
     → (word_end (if x == 34 then not q else q) xs ≡ length xs
-    → words_from (if x == 34 then not q else q) xs ≡ xs ∷ [])
+    → parted_words (if x == 34 then not q else q) xs ≡ xs ∷ [])
     → cond t 0 (1 + word_end (if x == 34 then not q else q) xs) ≡ length (x ∷ xs)
-    → cond t ([] ∷ words_from false xs)
-    (onto_first x (words_from (if x == 34 then not q else q) xs)) ≡ (x ∷ xs) ∷ []
+    → cond t ([] ∷ parted_words false xs)
+    (onto_first x (parted_words (if x == 34 then not q else q) xs)) ≡ (x ∷ xs) ∷ []
 word_all_at q x xs true more h = absurd (omega arith)
 word_all_at q x xs false more h = rw (more (omega (arith, h))) refl
 
-pub word_all : (q : Bool) (xs : List ℕ) → word_end q xs ≡ length xs → words_from q xs ≡ xs ∷ []
+pub word_all : (q : Bool) (xs : List ℕ) → word_end q xs ≡ length xs → parted_words q xs ≡ xs ∷ []
 word_all q [] h = refl
 word_all q (x ∷ xs) h =
     word_all_at q x xs (x == 32 && not q) (word_all (if x == 34 then not q else q) xs) h

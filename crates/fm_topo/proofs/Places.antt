@@ -16,8 +16,9 @@ use Rattle.std.proofs.lemmas.Grind.{common_steps}
 use Rattle.fm_name.specs.Path.{is_name, is_path}
 use Rattle.fm_name.specs.Order.{path_cmp}
 use Rattle.fm_name.proofs.Cutting.{count_map}
-use Rattle.fm_topo.specs.Line.{content_of, is_clean_byte, is_skipped, words_from, path_of, words_of}
-use Rattle.fm_topo.specs.Property.{Properties, is_text_byte, name_of, has_twin, properties_of}
+use Rattle.fm_topo.specs.Line.{content_of, is_clean_byte, is_skipped, parted_words}
+use Rattle.fm_topo.specs.Line.{path_of, words_of}
+use Rattle.fm_topo.specs.Property.{Properties, is_text_byte, property_name, has_twin, properties_of}
 use Rattle.fm_topo.specs.Topology.{Topology, has_path, with_line}
 use Rattle.fm_topo.specs.Fault.{lacks_parent, set_fault, entry_fault, line_fault}
 use Rattle.fm_topo.specs.Printed.{value_text, properties_text, place_line}
@@ -58,7 +59,7 @@ and_no true = refl
 and_no false = refl
 
 calm_run : (xs rest : List ℕ) → list_all is_calm_byte xs ≡ true
-    → words_from false (xs ++ rest) ≡ onto xs (words_from false rest)
+    → parted_words false (xs ++ rest) ≡ onto xs (parted_words false rest)
 calm_run [] rest h = refl
 calm_run (x ∷ xs) rest h =
     let t = all_parts is_calm_byte x xs h in
@@ -66,7 +67,7 @@ calm_run (x ∷ xs) rest h =
     rw (not_so (x == 32) u.0, not_so (x == 34) u.1) (ap (onto_first x) (calm_run xs rest t.1))
 
 quoted_run : (xs rest : List ℕ) → list_all is_text_byte xs ≡ true
-    → words_from true (xs ++ rest) ≡ onto xs (words_from true rest)
+    → parted_words true (xs ++ rest) ≡ onto xs (parted_words true rest)
 quoted_run [] rest h = refl
 quoted_run (x ∷ xs) rest h =
     let t = all_parts is_text_byte x xs h in
@@ -80,28 +81,29 @@ name_calm : (x : ℕ) → is_name_byte x ≡ true → is_calm_byte x ≡ true
 name_calm x h = grind (arith, common_steps)
 
 value_run : (value : TopoValue) (rest : List ℕ) → is_value value ≡ true
-    → words_from false (value_text value ++ rest) ≡ onto (value_text value) (words_from false rest)
+    → parted_words false (value_text value ++ rest) ≡ onto (value_text value)
+    (parted_words false rest)
 value_run (Number n) rest h =
     let k : n < 2 ^ 64 = grind (arith, common_steps) in
     calm_run (decimal n) rest
     (all_weaker is_ascii_digit is_calm_byte digit_calm (decimal n) (decimal_digits n k))
 value_run (Text text) rest h =
-    ap (λ z. onto_first 34 (words_from true z)) (append_assoc text (34 ∷ []) rest)
+    ap (λ z. onto_first 34 (parted_words true z)) (append_assoc text (34 ∷ []) rest)
     ∙ (ap (onto_first 34) (quoted_run text (34 ∷ rest) h)
-    ∙ ap (onto_first 34) (sym (onto_joined text (34 ∷ []) (words_from false rest))))
+    ∙ ap (onto_first 34) (sym (onto_joined text (34 ∷ []) (parted_words false rest))))
 
 pair_run : (p : List ℕ × TopoValue) (rest : List ℕ) → is_pair p ≡ true
-    → words_from false (pair_text p ++ rest) ≡ onto (pair_text p) (words_from false rest)
+    → parted_words false (pair_text p ++ rest) ≡ onto (pair_text p) (parted_words false rest)
 pair_run p rest h =
     let t = and_both (is_name p.0) (is_value p.1) h in
-    ap (words_from false) (append_assoc p.0 (61 ∷ value_text p.1) rest)
+    ap (parted_words false) (append_assoc p.0 (61 ∷ value_text p.1) rest)
     ∙ (calm_run p.0 (61 ∷ (value_text p.1 ++ rest))
     (all_weaker is_name_byte is_calm_byte name_calm p.0 (name_bytes p.0 t.0))
     ∙ (ap (λ z. onto p.0 (onto_first 61 z)) (value_run p.1 rest t.1)
-    ∙ sym (onto_joined p.0 (61 ∷ value_text p.1) (words_from false rest))))
+    ∙ sym (onto_joined p.0 (61 ∷ value_text p.1) (parted_words false rest))))
 
 words_text : (p : List ℕ × TopoValue) (ps : Properties) → list_all is_pair (p ∷ ps) ≡ true
-    → words_from false (pair_text p ++ properties_text ps) ≡ pair_text p ∷ map pair_text ps
+    → parted_words false (pair_text p ++ properties_text ps) ≡ pair_text p ∷ map pair_text ps
 words_text p [] h =
     pair_run p [] (all_parts is_pair p [] h).0
     ∙ (onto_cons (pair_text p) [] [] ∙ ap (λ z. z ∷ []) (append-nil (pair_text p)))
@@ -216,7 +218,7 @@ words_line path (p ∷ ps) h k =
     let at = position_at (λ b. b == 32) path rest 32 (no_spaces path h) refl in
     let n : list_any (λ x. x == 32) (path ++ (32 ∷ rest)) ≡ true =
     space_inside (path ++ (32 ∷ rest)) (omega (arith, l, at)) in
-    rw n (ap (words_from false) (after_at (λ b. b == 32) path rest 32 (no_spaces path h) refl)
+    rw n (ap (parted_words false) (after_at (λ b. b == 32) path rest 32 (no_spaces path h) refl)
     ∙ words_text p ps k)
 
 -- a place is what its line says
@@ -239,7 +241,7 @@ place_back found place h =
 -- ---- a line has no fault
 no_twin : (ps : Properties) → list_all is_pair ps ≡ true
     → IsStrictlySortedBy (slice_cmp nat_cmp) (keys_of ps)
-    → has_twin (map name_of (map pair_text ps)) ≡ false
+    → has_twin (map property_name (map pair_text ps)) ≡ false
 no_twin ps h s =
     let k : nat_lt (length ps) (length (map pair_text ps)) ≡ false =
     (let e = count_map pair_text ps in grind (arith, common_steps)) in
@@ -259,7 +261,7 @@ entry_back : (found : Topology) (place : List ℕ × Properties) → IsPlace pla
     → entry_fault found place.0 (map pair_text place.1) ≡ None
 unfolding entry_fault
 entry_back found place p h l n =
-    let s : set_fault found place.0 (has_twin (map name_of (map pair_text place.1))) ≡ None =
+    let s : set_fault found place.0 (has_twin (map property_name (map pair_text place.1))) ≡ None =
     ap (set_fault found place.0) (no_twin place.1 p.pairs p.names) ∙ set_back found place.0 h l n in
     let a : is_path place.0 ≡ true = p.path in
     rw (a, words_back place.1 p.pairs) s

@@ -15,7 +15,7 @@ use Rattle.fm_name.proofs.Cutting.{split_none, count_map}
 use Rattle.fm_topo.specs.Line.{topology_lines, line_end, content_of, is_skipped}
 use Rattle.fm_topo.specs.Property.{Properties}
 use Rattle.fm_topo.specs.Topology.{Topology, has_path, with_line, lines_topology}
-use Rattle.fm_topo.specs.Fault.{parent_of, lacks_parent, line_fault, fault_at, IsClean}
+use Rattle.fm_topo.specs.Fault.{parent_of, lacks_parent, line_fault, fault_at, IsFaultless}
 use Rattle.fm_topo.specs.Printed.{place_line, topology_text}
 use Rattle.fm_topo.specs.Lawful.{IsPlace, IsTopology, ReadsAs}
 use Rattle.fm_topo.proofs.Maps.{all_map, all_front, all_middle, sorted_front, sorted_cut}
@@ -116,7 +116,7 @@ fault_at_cut text pre post e l t small =
     absent parent (omega (arith, n, c)))
 
 clean_back : (p : List ℕ × Properties) (ps : Topology) → IsTopology (p ∷ ps)
-    → IsClean (topology_text (p ∷ ps))
+    → IsFaultless (topology_text (p ∷ ps))
 clean_back p ps t k h =
     let l = lines_back p ps t.places in
     let n : length (topology_lines (topology_text (p ∷ ps))) ≡ length (p ∷ ps) = ap length l

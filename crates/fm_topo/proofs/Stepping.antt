@@ -12,7 +12,7 @@ use Rattle.std.proofs.lemmas.List.{length-take-le}
 use Rattle.fm_name.proofs.Cutting.{split_none, cut_some}
 use Rattle.fm_topo.specs.Line.{topology_lines, content_of, line_end, is_clean_byte}
 use Rattle.fm_topo.specs.Topology.{Topology, with_line, lines_topology, topology_of}
-use Rattle.fm_topo.specs.Fault.{line_fault, fault_at, IsCleanBefore, IsClean, IsFirstFault}
+use Rattle.fm_topo.specs.Fault.{line_fault, fault_at, IsCleanBefore, IsFaultless, IsFirstFault}
 use Rattle.fm_topo.specs.Reading.{IsAt}
 use Rattle.fm_topo.specs.declared.faults.TopoKind.{TopoKind}
 use Rattle.fm_topo.specs.declared.faults.TopoKind.TheVariants.{Bytes, Length}
@@ -179,7 +179,7 @@ pub at_end : (text rest : List ℕ) (number at last : ℕ) (found new : Topology
     → at ≤ length rest
     → last ≡ min (length text - length rest + at + 1) (length text)
     → line_fault found last (take at rest) ≡ None → new ≡ with_line found (take at rest)
-    → IsClean text × (new ≡ topology_of text)
+    → IsFaultless text × (new ≡ topology_of text)
 at_end text rest number at last found new a p h k l f w =
     let len : length (take at rest) ≡ at = length-take-le at rest k in
     let l2 : last ≡ min (length text - length rest + length (take at rest) + 1) (length text) = l

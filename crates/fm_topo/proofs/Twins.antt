@@ -12,7 +12,7 @@ use Rattle.std.specs.Map.{keys_of}
 use Rattle.std.specs.BTreeMap.{insert_entry}
 use Rattle.std.proofs.lemmas.Grind.{common_steps}
 use Rattle.fm_name.specs.OrderLaws.{bytes_tie}
-use Rattle.fm_topo.specs.Property.{Properties, name_of, has_twin, value_of, with_word}
+use Rattle.fm_topo.specs.Property.{Properties, property_name, has_twin, value_of, with_word}
 use Rattle.fm_topo.specs.Property.{properties_of}
 use Rattle.fm_topo.specs.declared.values.TopoValue.{TopoValue}
 use Rattle.fm_topo.proofs.Maps.{all_map, all_keys, sorted_insert}
@@ -115,8 +115,8 @@ most_words found [] s = omega arith
 most_words found (word ∷ words) s =
     let new = with_word found word in
     let more = most_words new words
-    (sorted_insert nat_list_cmp_total bytes_tie found (name_of word) _ s) in
-    let size = size_put found (name_of word) (value_of (after_first (λ b. b == 61) word)) s in
+    (sorted_insert nat_list_cmp_total bytes_tie found (property_name word) _ s) in
+    let size = size_put found (property_name word) (value_of (after_first (λ b. b == 61) word)) s in
     omega (arith, more, size)
 
 -- one more word: its name is there, or it is new
@@ -131,13 +131,13 @@ word_at kept before after words all false more one size most h =
 words_counted : (found : Properties) (words : List (List ℕ))
     → IsStrictlySortedBy name_cmp (keys_of found)
     → nat_lt (length (fold with_word found words)) (length found + length words)
-    ≡ (have_one found (map name_of words) || has_twin (map name_of words))
+    ≡ (have_one found (map property_name words) || has_twin (map property_name words))
 unfolding with_word
 words_counted found [] s = grind (arith, common_steps)
 words_counted found (word ∷ words) s =
-    let name = name_of word in
+    let name = property_name word in
     let value = value_of (after_first (λ b. b == 61) word) in
-    let names = map name_of words in
+    let names = map property_name words in
     let new = insert_entry name_cmp found name value in
     let ascend = sorted_insert nat_list_cmp_total bytes_tie found name value s in
     let more = words_counted new words ascend
@@ -151,12 +151,12 @@ words_counted found (word ∷ words) s =
 
 -- the map keeps fewer names than there are words just where a name stands twice
 pub twins_counted : (words : List (List ℕ))
-    → nat_lt (length (properties_of words)) (length words) ≡ has_twin (map name_of words)
+    → nat_lt (length (properties_of words)) (length words) ≡ has_twin (map property_name words)
 unfolding properties_of IsStrictlySortedBy
 twins_counted words =
     let same : length words ≡ 0 + length words = omega arith in
     ap (nat_lt (length (properties_of words))) same ∙ words_counted [] words tt
-    ∙ ap (λ b. b || has_twin (map name_of words)) (nobody (map name_of words))
+    ∙ ap (λ b. b || has_twin (map property_name words)) (nobody (map property_name words))
   where
     nobody : (names : List (List ℕ)) → have_one [] names ≡ false
     nobody [] = refl

@@ -7,7 +7,7 @@ use Rattle.std.specs.Prelude.{◌==◌}
 use Rattle.fm_name.specs.Path.{is_path, parts_of}
 use Rattle.fm_topo.specs.Line.{topology_lines, content_of, line_end, is_clean_byte, is_skipped}
 use Rattle.fm_topo.specs.Line.{path_of, words_of}
-use Rattle.fm_topo.specs.Property.{is_property, name_of, has_twin}
+use Rattle.fm_topo.specs.Property.{is_property, property_name, has_twin}
 use Rattle.fm_topo.specs.Topology.{Topology, has_path, lines_topology}
 use Rattle.fm_topo.specs.declared.faults.TopoKind.{TopoKind}
 use Rattle.fm_topo.specs.declared.faults.TopoKind.TheVariants.{Path, Property, Twice, Parent}
@@ -39,7 +39,7 @@ unfoldable pub entry_fault : Topology → List ℕ → List (List ℕ) → Optio
 entry_fault found path words =
     if not (is_path path) then Some Path else
     if not (list_all is_property words) then Some Property else
-    set_fault found path (has_twin (map name_of words))
+    set_fault found path (has_twin (map property_name words))
 
 -- the first fault of a line, with which so many bytes of the text end
 unfoldable pub line_fault : Topology → ℕ → List ℕ → Option TopoKind
@@ -60,8 +60,8 @@ abbrev pub IsCleanBefore : List ℕ → ℕ → Type 0
 IsCleanBefore text number = (k : ℕ) → k < number → fault_at text k ≡ None
 
 -- a text has no fault
-abbrev pub IsClean : List ℕ → Type 0
-IsClean text = IsCleanBefore text (length (topology_lines text))
+abbrev pub IsFaultless : List ℕ → Type 0
+IsFaultless text = IsCleanBefore text (length (topology_lines text))
 
 -- the answer is the first fault of the text; lines count from 1
 abbrev pub IsFirstFault : List ℕ → TopoFault → Type 0

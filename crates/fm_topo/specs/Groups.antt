@@ -10,10 +10,10 @@ use Rattle.std.specs.BTreeMap.{is_at}
 use Rattle.std.specs.Map.{lookup}
 
 -- the places of a list at which a text stands, where the first of the list has a number
-abbrev pub places_of : List ℕ → ℕ → List (List ℕ) → List ℕ
-places_of text at [] = []
-places_of text at (t ∷ ts) =
-    if bytes_eq t text then at ∷ places_of text (suc at) ts else places_of text (suc at) ts
+abbrev pub text_places : List ℕ → ℕ → List (List ℕ) → List ℕ
+text_places text at [] = []
+text_places text at (t ∷ ts) =
+    if bytes_eq t text then at ∷ text_places text (suc at) ts else text_places text (suc at) ts
 
 -- the numbers that groups keep for a text
 abbrev pub numbers_at : List (List ℕ × List ℕ) → List ℕ → List ℕ
@@ -25,7 +25,7 @@ names_text path = join_by (λ name. name) (codes "/") (names_of path)
 
 -- the numbers of the paths of a topology whose names joined by slashes are the text, ascending
 abbrev pub group_of : List ℕ → Topology → List ℕ
-group_of text topology = places_of text 0 (map (λ place. names_text place.0) topology)
+group_of text topology = text_places text 0 (map (λ place. names_text place.0) topology)
 
 -- for each text the numbers of the paths with these names are kept
 abbrev pub IsGrouped : Topology → List (List ℕ × List ℕ) → Type 0

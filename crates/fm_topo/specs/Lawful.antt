@@ -9,7 +9,7 @@ use Rattle.fm_name.specs.Path.{is_path, is_name}
 use Rattle.fm_name.specs.Order.{path_cmp}
 use Rattle.fm_topo.specs.Property.{Properties, is_text_byte}
 use Rattle.fm_topo.specs.Topology.{Topology, topology_of}
-use Rattle.fm_topo.specs.Fault.{lacks_parent, IsClean}
+use Rattle.fm_topo.specs.Fault.{lacks_parent, IsFaultless}
 use Rattle.fm_topo.specs.Printed.{place_line, topology_text}
 use Rattle.fm_topo.specs.declared.values.TopoValue.{TopoValue}
 use Rattle.fm_topo.specs.declared.values.TopoValue.TheVariants.{Number, Text}
@@ -41,4 +41,4 @@ pub record IsTopology (topology : Topology) : Type 0 where
 
 -- a text without a fault that means the topology
 abbrev pub ReadsAs : List ℕ → Topology → Type 0
-ReadsAs text topology = IsClean text × (topology_of text ≡ topology)
+ReadsAs text topology = IsFaultless text × (topology_of text ≡ topology)

@@ -31,11 +31,11 @@ unfoldable pub is_skipped : List ℕ → Bool
 is_skipped content = list_all is_blank_byte content || slice_index content 0 == 35
 
 -- the words of a text, which is parted at its spaces; those between two quotes do not part it
-abbrev pub words_from : Bool → List ℕ → List (List ℕ)
-words_from quoted [] = [] ∷ []
-words_from quoted (b ∷ bytes) =
-    if (b == 32 && not quoted) then [] ∷ words_from false bytes
-    else onto_first b (words_from (if b == 34 then not quoted else quoted) bytes)
+abbrev pub parted_words : Bool → List ℕ → List (List ℕ)
+parted_words quoted [] = [] ∷ []
+parted_words quoted (b ∷ bytes) =
+    if (b == 32 && not quoted) then [] ∷ parted_words false bytes
+    else onto_first b (parted_words (if b == 34 then not quoted else quoted) bytes)
 
 -- the path of a line: what stands before its first space
 unfoldable pub path_of : List ℕ → List ℕ
@@ -43,5 +43,5 @@ path_of content = before_first (λ b. b == 32) content
 
 -- the words of a line behind its path, of which there are none where there is no space
 unfoldable pub words_of : List ℕ → List (List ℕ)
-words_of content = if list_any (λ b. b == 32) content then words_from false
+words_of content = if list_any (λ b. b == 32) content then parted_words false
     (after_first (λ b. b == 32) content) else []

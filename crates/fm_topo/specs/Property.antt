@@ -35,13 +35,13 @@ unfoldable pub value_of : List ℕ → TopoValue
 value_of bytes = if is_number bytes then Number (number_of bytes) else Text (inner_of bytes)
 
 -- the name in a word: what stands before its first `=`
-abbrev pub name_of : List ℕ → List ℕ
-name_of word = before_first (λ b. b == 61) word
+abbrev pub property_name : List ℕ → List ℕ
+property_name word = before_first (λ b. b == 61) word
 
 -- a word that is a property
 unfoldable pub is_property : List ℕ → Bool
 is_property word =
-    is_name (name_of word)
+    is_name (property_name word)
     && (is_number (after_first (λ b. b == 61) word) || is_quoted (after_first (λ b. b == 61) word))
 
 -- what the text behind `=` means, where it is a value
@@ -57,7 +57,7 @@ pair_read name value =
 -- what a word means, where it is a property
 unfoldable pub property_read : List ℕ → Option (List ℕ × TopoValue)
 property_read word = if is_property word then Some
-    (name_of word, value_of (after_first (λ b. b == 61) word)) else None
+    (property_name word, value_of (after_first (λ b. b == 61) word)) else None
 
 -- the properties of a path: a finite map from names to values, as the list of its pairs in byte
 -- order of the names
@@ -67,7 +67,7 @@ Properties = List (List ℕ × TopoValue)
 -- the properties with that of one more word
 unfoldable pub with_word : Properties → List ℕ → Properties
 with_word found word =
-    insert_entry (slice_cmp nat_cmp) found (name_of word)
+    insert_entry (slice_cmp nat_cmp) found (property_name word)
     (value_of (after_first (λ b. b == 61) word))
 
 -- the properties that words mean

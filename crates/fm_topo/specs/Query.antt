@@ -16,10 +16,10 @@ lies_under path above =
     is_under path above && nat_lt (length (parts_of above)) (length (parts_of path))
 
 -- the value of a name among properties
-abbrev pub value_at : Properties → List ℕ → Option TopoValue
-value_at properties name = lookup (is_at (slice_cmp nat_cmp name)) properties
+abbrev pub property_value : Properties → List ℕ → Option TopoValue
+property_value properties name = lookup (is_at (slice_cmp nat_cmp name)) properties
 
 -- the value of a name at a path
 unfoldable pub property_at : Topology → List ℕ → List ℕ → Option TopoValue
 property_at topology path name =
-    option_and_then (λ properties. value_at properties name) (properties_at topology path)
+    option_and_then (λ properties. property_value properties name) (properties_at topology path)

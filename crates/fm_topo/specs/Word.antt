@@ -1,7 +1,7 @@
 -- What is left of a text that is read word by word.
 use Rattle.std.specs.Prelude.{ℕ, Bool, false, not, ◌&&◌, ◌==◌, ◌+◌, List, [], ◌∷◌, Option, Some}
 use Rattle.std.specs.Prelude.{None, if◌then◌else◌}
-use Rattle.fm_topo.specs.Line.{words_from}
+use Rattle.fm_topo.specs.Line.{parted_words}
 
 -- where the first word ends: at the first space outside quotes, or at the end
 abbrev pub word_end : Bool → List ℕ → ℕ
@@ -13,4 +13,4 @@ word_end quoted (b ∷ bytes) =
 -- the words of what is left, of which there are none where nothing is left
 abbrev pub words_left : Option (List ℕ) → List (List ℕ)
 words_left None = []
-words_left (Some rest) = words_from false rest
+words_left (Some rest) = parted_words false rest

@@ -3,7 +3,7 @@ ghost use Rattle.std.specs.Prelude.{false, slice_index, length, take, option_map
 ghost use Rattle.std.specs.List.{list_all, position_or_len, before_first, after_first};
 ghost use Rattle.fm_topo.specs.Fault.{parent_of};
 ghost use Rattle.fm_topo.specs.Line.{content_of, is_clean_byte, is_blank_byte, is_skipped};
-ghost use Rattle.fm_topo.specs.Line.{words_from, path_of, words_of};
+ghost use Rattle.fm_topo.specs.Line.{parted_words, path_of, words_of};
 ghost use Rattle.fm_topo.specs.Word.{word_end, words_left};
 
 /// Where a byte stands first, or the length where it does not stand.
@@ -131,7 +131,7 @@ fn first_word_end(text: &[u8]) -> usize
 #[tactic(auto, using(crate::proofs::Pieces::cut_words))]
 pub fn cut_word(text: &[u8]) -> (&[u8], Option<&[u8]>)
     requires { IsTrue (list_all is_clean_byte text.now) }
-    ensures words { words_from false text.now
+    ensures words { parted_words false text.now
         ≡ result.0.now ∷ words_left (option_map (λ s. s.now) result.1) }
     ensures clean_word { IsTrue (list_all is_clean_byte result.0.now) }
     ensures clean_rest { IfSome result.1 (λ rest. IsTrue (list_all is_clean_byte rest.now)) }

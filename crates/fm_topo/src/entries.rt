@@ -5,7 +5,7 @@ ghost use Rattle.std.specs.List.{list_all};
 ghost use Rattle.std.specs.BTreeMap.{btree_map_len};
 ghost use Rattle.fm_name.specs.Path.{is_path};
 ghost use Rattle.fm_topo.specs.Fault.{parent_of, lacks_parent, set_fault, entry_fault, line_fault};
-ghost use Rattle.fm_topo.specs.Line.{is_clean_byte, content_of, path_of, words_from, words_of};
+ghost use Rattle.fm_topo.specs.Line.{is_clean_byte, content_of, path_of, parted_words, words_of};
 ghost use Rattle.fm_topo.specs.Property.{is_property, with_word, properties_of};
 ghost use Rattle.fm_topo.specs.LineStop.{IsLineStop};
 ghost use Rattle.fm_topo.specs.Topology.{has_path, with_line};
@@ -78,12 +78,12 @@ fn add_words(
 ) -> Result<Option<usize>, NoMemory>
     requires { IsTrue (list_all is_clean_byte text.now) }
     ensures all { IfOk result
-        (λ found. is_some found ≡ list_all is_property (words_from false text.now)) }
+        (λ found. is_some found ≡ list_all is_property (parted_words false text.now)) }
     ensures pairs { IfOk result
         (λ found. OnSome found
-        (map.new.entries ≡ fold with_word map.old.entries (words_from false text.now))) }
+        (map.new.entries ≡ fold with_word map.old.entries (parted_words false text.now))) }
     ensures count { IfOk result
-        (λ found. IfSome found (λ count. count ≡ length (words_from false text.now))) }
+        (λ found. IfSome found (λ count. count ≡ length (parted_words false text.now))) }
     ensures bound { IfOk result (λ found. IfSome found (λ count. count ≤ length text.now + 1)) }
 {
     let (word, behind) = cut_word(text);

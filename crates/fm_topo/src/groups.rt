@@ -2,7 +2,7 @@
 
 ghost use Rattle.std.specs.Prelude.{◌≡◌, ◌≤◌, ◌++◌, ◌∷◌, [], ℕ, List, length, bytes_eq, IfOk, OnOk};
 ghost use Rattle.std.specs.Prelude.{if◌then◌else◌};
-ghost use Rattle.fm_topo.specs.Groups.{names_text, numbers_at, places_of};
+ghost use Rattle.fm_topo.specs.Groups.{names_text, numbers_at, text_places};
 
 use fm_bytes::{Copies, Items, NoMemory, Text};
 use fm_name::Fmri;
@@ -71,7 +71,7 @@ impl Groups {
     pub(crate) fn new(alloc: Global, texts: &[Text]) -> Result<Groups, NoMemory>
         requires { length texts.now ≤ 65536 }
         ensures { IfOk result
-            (λ groups. (q : List ℕ) → numbers_at groups q ≡ places_of q 0 texts.now) }
+            (λ groups. (q : List ℕ) → numbers_at groups q ≡ text_places q 0 texts.now) }
     {
         let mut map = BTreeMap::new(alloc);
         'texts: for at in 0..texts.len() {

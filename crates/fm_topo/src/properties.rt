@@ -3,7 +3,7 @@ ghost use Rattle.std.specs.Ordering.{nat_cmp};
 ghost use Rattle.std.specs.Cmp.Lexicographic.{slice_cmp};
 ghost use Rattle.std.specs.List.Sorted.{IsStrictlySortedBy};
 ghost use Rattle.std.specs.Map.{keys_of};
-ghost use Rattle.fm_topo.specs.Query.{value_at};
+ghost use Rattle.fm_topo.specs.Query.{property_value};
 
 use crate::values::{TopoText, TopoValue};
 use fm_bytes::{Copies, NoMemory};
@@ -48,7 +48,7 @@ impl Properties {
 
     /// The value of a name.
     pub fn value(&self, name: &str) -> Option<&TopoValue>
-        ensures { option_copied result ≡ value_at self.now name.now }
+        ensures { option_copied result ≡ property_value self.now name.now }
     {
         match self.items.binary_search_by(|pair| pair.0.get().cmp(name)) {
             Ok(at) => Some(&self.items[at].1),

@@ -1,5 +1,5 @@
 ghost use Rattle.std.specs.Prelude.{◌≡◌, ◌+◌, ◌≤◌, ◌<◌, ⊤, length, IfOk, IfErr, OnOk, MatchOption};
-ghost use Rattle.fm_topo.specs.Fault.{IsClean, IsFirstFault};
+ghost use Rattle.fm_topo.specs.Fault.{IsFaultless, IsFirstFault};
 ghost use Rattle.fm_topo.specs.Lawful.{IsTopology};
 ghost use Rattle.fm_topo.specs.Reading.{IsAt};
 ghost use Rattle.fm_topo.specs.Topology.{topology_of};
@@ -38,7 +38,8 @@ fn step<'a>(
 ) -> Result<Option<&'a [u8]>, TopoFault>
     requires { IsAt text.now number rest.now found.old.entries }
     ensures next { IfOk result
-        (λ left. MatchOption left ((IsClean text.now) × (found.new.entries ≡ topology_of text.now))
+        (λ left. MatchOption left ((IsFaultless text.now)
+        × (found.new.entries ≡ topology_of text.now))
         (λ more. (IsAt text.now (number + 1) more.now found.new.entries)
         × (length more.now < length rest.now) × (number + 1 ≤ 16777216))) }
     ensures fault { IfErr result (IsFirstFault text.now) }
@@ -64,7 +65,7 @@ fn step<'a>(
 /// Reads a topology text, or answers its first fault.
 #[tactic(auto, using(crate::proofs::Kept::lawful))]
 pub fn read_topo(alloc: Global, text: &[u8]) -> Result<Topo, TopoFault>
-    ensures clean { OnOk result (IsClean text.now) }
+    ensures clean { OnOk result (IsFaultless text.now) }
     ensures same { IfOk result (λ topo. topo ≡ topology_of text.now) }
     ensures lawful { IfOk result IsTopology }
     ensures fault { IfErr result (IsFirstFault text.now) }

@@ -1,7 +1,7 @@
 //! Entries made of a number, in plain numbers.
 
 ghost use Rattle.std.specs.Prelude.{◌≡◌, ◌<◌, ◌^◌, IfOk, IsTrue};
-ghost use Rattle.fm_gen.specs.Generated.{are_reports};
+ghost use Rattle.fm_gen.specs.Generated.{are_ereports};
 
 use fm_entry::Entry;
 use fm_gen::{Gen, entries_are_generated};
@@ -27,7 +27,7 @@ fn three(alloc: Global) -> Result<Vec<EventName>, Fail> {
 
 // whether all events can be reported
 fn can_be_reported(events: &[EventName]) -> bool
-    ensures { result ≡ are_reports events.now }
+    ensures { result ≡ are_ereports events.now }
 {
     events.iter().all(|event| event.class.is_ereport())
 }

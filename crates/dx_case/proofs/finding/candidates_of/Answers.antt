@@ -3,7 +3,7 @@ use Rattle.std.proofs.lemmas.List.{take_all}
 use Rattle.ev_graph.specs.Kinds.{is_root_node}
 use Rattle.ev_incidence.proofs.Occurrences.{all_in, in_at}
 use Rattle.dx_case.specs.declared.candidate.Candidate.{Candidate}
-use Rattle.dx_case.specs.Finding.{AreFresh}
+use Rattle.dx_case.specs.Finding.{AreAsMade}
 use Rattle.dx_case.proofs.Fresh.{fresh_none, fresh_more}
 use Rattle.dx_case.proofs.finding.candidates_of.Goals as goal
 
@@ -33,6 +33,6 @@ new-requires c =
 
 pub returns : goal.returns
 returns c =
-    let P : List ℕ → Type 0 = λ rs. AreFresh c.args.graph.now rs c.loop-root.candidates.items in
+    let P : List ℕ → Type 0 = λ rs. AreAsMade c.args.graph.now rs c.loop-root.candidates.items in
     subst P (take_all c.loop-root.root-index c.args.roots.now c.loop-root-test.false)
     c.loop-root.invariant

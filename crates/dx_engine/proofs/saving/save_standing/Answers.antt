@@ -6,7 +6,7 @@ use Rattle.dx_rules.specs.Rulebooks.{rules_in}
 use Rattle.dx_restore.specs.declared.parts.Parts.{Parts}
 use Rattle.dx_restore.specs.Saving.{IsLawfulSomewhere}
 use Rattle.dx_state.specs.StateBytes.{diagnosis_bytes}
-use Rattle.dx_turn.specs.Tracking.{kept_of}
+use Rattle.dx_turn.specs.Tracking.{cases_before}
 use Rattle.dx_engine.specs.Standing.{kept_parts}
 use Rattle.dx_engine.proofs.Saves.{somewhere, short_cases, ArePartsToSave, saved_state}
 use Rattle.dx_engine.proofs.saving.save_standing.Goals as goal
@@ -32,7 +32,7 @@ save-requires c =
       time = c.time.ensures;
       next = c.next.ensures;
       cases = c.as_slice.ensures.value ∙ c.in_ok-cases.ensures
-          ∙ ap (λ ts. map open_of (kept_of ts)) c.cases.ensures;
+          ∙ ap (λ ts. map open_of (cases_before ts)) c.cases.ensures;
       solved = c.solved.ensures;
       engines = c.engines.ensures;
     } in
@@ -55,7 +55,7 @@ returns-clause-ok c =
       time = c.time.ensures;
       next = c.next.ensures;
       cases = c.as_slice.ensures.value ∙ c.in_ok-cases.ensures
-          ∙ ap (λ ts. map open_of (kept_of ts)) c.cases.ensures;
+          ∙ ap (λ ts. map open_of (cases_before ts)) c.cases.ensures;
       solved = c.solved.ensures;
       engines = c.engines.ensures;
     } in

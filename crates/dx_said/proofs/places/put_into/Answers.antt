@@ -1,7 +1,7 @@
 use Rattle.std.proofs.Common.{rules, ◌≡◌, ◌<◌, ◌∙◌, sym, subst, ap, get_or, length, IsTrue}
 use Rattle.ev_incidence.specs.Sets.{ascends}
 use Rattle.dx_state.specs.LawfulState.{solved_numbers}
-use Rattle.dx_said.specs.Making.{IsPlace}
+use Rattle.dx_said.specs.Making.{IsWordPlace}
 use Rattle.dx_said.proofs.Placed.{put_new, put_there, stay_ascending}
 use Rattle.dx_said.proofs.places.put_into.Goals.{else-at-len-via-then-at-len+else-index-word}
 use Rattle.dx_said.proofs.places.put_into.Goals.{else-at-len-via-else-at-len}
@@ -9,7 +9,7 @@ use Rattle.dx_said.proofs.places.put_into.Goals as goal
 
 pub returns-then-index-word-clause-put : goal.returns-then-index-word-clause-put
 returns-then-index-word-clause-put c =
-    let p = subst (λ ws. IsPlace c.args.word.case.case ws c.place_of-at.result)
+    let p = subst (λ ws. IsWordPlace c.args.word.case.case ws c.place_of-at.result)
     c.deref.ensures.value c.place_of-at.ensures in
     let low : c.place_of-at.result < length c.args.words.now.items = search rules in
     let same : (get_or c.args.words.now.items c.place_of-at.result c.index.result.now).case.case
@@ -19,7 +19,7 @@ returns-then-index-word-clause-put c =
 
 pub returns-clause-put : goal.returns-clause-put
 returns-clause-put c =
-    let p = subst (λ ws. IsPlace c.args.word.case.case ws c.place_of-at.result)
+    let p = subst (λ ws. IsWordPlace c.args.word.case.case ws c.place_of-at.result)
     c.deref.ensures.value c.place_of-at.ensures in
     let ws = c.args.words.now.items in
     let at = c.place_of-at.result in

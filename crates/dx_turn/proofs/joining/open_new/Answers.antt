@@ -3,7 +3,7 @@ use Rattle.std.specs.List.{All}
 use Rattle.dx_case.specs.Cases.{open_of}
 use Rattle.dx_turn.specs.declared.tracked.Tracked.{Tracked}
 use Rattle.dx_turn.specs.Turning.{turn_at}
-use Rattle.dx_turn.specs.Tracking.{opens_in, kept_of, IsTrackedAt}
+use Rattle.dx_turn.specs.Tracking.{opens_in, cases_before, IsTrackedAt}
 use Rattle.dx_turn.proofs.Gone.{opened_gone}
 use Rattle.dx_turn.proofs.Joins.{unopened_turn}
 use Rattle.dx_turn.proofs.Tracking.{kept_push, all_push}
@@ -19,7 +19,7 @@ returns-then-work-clause-ok c = record {
 
 pub returns-clause-kept : goal.returns-clause-kept
 returns-clause-kept c =
-    ap kept_of c.in_ok-push.ensures.items
+    ap cases_before c.in_ok-push.ensures.items
     ∙ kept_push c.args.work.now.cases.items c.settle.new.tracked
     (c.settle.ensures.kept ∙ ap (λ (x : Tracked). x.kept) c.blank-tracked.ensures)
 

@@ -1,7 +1,7 @@
 use Rattle.std.proofs.Common.{◌≡◌, ℕ, ◌≤◌, length, take, get_or}
 use Rattle.std.specs.List.{AllWithin}
 use Rattle.dx_turn.specs.declared.tracked.Tracked.{Tracked}
-use Rattle.dx_turn.specs.Tracking.{opens_in, kept_of, IsTrackedAt}
+use Rattle.dx_turn.specs.Tracking.{opens_in, cases_before, IsTrackedAt}
 use Rattle.dx_turn.specs.Settling.{HasSettled}
 use Rattle.dx_turn.proofs.settling.settle_all.Given as goal
 
@@ -9,7 +9,7 @@ abbrev pub invariant-loop-at : goal.invariant-loop-at
 invariant-loop-at l = record {
   settled : HasSettled l.ground (opens_in (take l.at l.initial.cases.items))
       (opens_in (take l.at l.cases.items)) l.initial.told l.told;
-  kept : kept_of l.cases.items ≡ kept_of l.initial.cases.items;
+  kept : cases_before l.cases.items ≡ cases_before l.initial.cases.items;
   many : length l.cases.items ≡ length l.initial.cases.items;
   rest : (k : ℕ) (e : Tracked) → l.at ≤ k
       → get_or l.cases.items k e ≡ get_or l.initial.cases.items k e;

@@ -1,7 +1,7 @@
 -- The table of the rows of the paths that have the names.
 use Rattle.std.proofs.Common.{sym, ap, ◌∙◌, map, subst, filter_map}
 use Rattle.ev_join.specs.Tables.{RisesFrom}
-use Rattle.ev_events.specs.Sheets.{row_at}
+use Rattle.ev_events.specs.Sheets.{path_row}
 use Rattle.ev_events.proofs.Columns.{number_in, columns_rise}
 use Rattle.ev_events.proofs.Grouped.{table_is}
 use Rattle.ev_events.proofs.sheets.table_of.Goals as goal
@@ -20,7 +20,7 @@ returns c =
     (c.in_ok-table.ensures.columns ∙ c.in_ok-numbers.ensures
     ∙ ap (map number_in) (c.deref.ensures.value ∙ c.in_ok-columns.ensures))
     (c.in_ok-rows.ensures
-    ∙ (λ i. filter_map (row_at c.args.topo.now (c.in_ok-slots.ensures i)
+    ∙ (λ i. filter_map (path_row c.args.topo.now (c.in_ok-slots.ensures i)
     (c.in_ok-columns.ensures i) c.args.parts.now)
     ((c.numbers.ensures ∙ c.requires.groups c.in_ok-text.text) i)))
     c.in_ok-table.ensures.rows

@@ -5,7 +5,7 @@ use Rattle.clap.specs.Walk.{rows_of}
 use Rattle.fm_text.specs.Time.{time_of}
 use Rattle.fm_dump.specs.declared.options.DumpOptions.{DumpOptions}
 use Rattle.fm_dump.specs.declared.options.DumpFault.TheVariants.{Usage}
-use Rattle.fm_dump.specs.Options.{is_true, pattern_of, value_by}
+use Rattle.fm_dump.specs.Options.{is_true, pattern_text, value_by}
 use Rattle.fm_dump.proofs.Values.{all_read}
 use Rattle.fm_dump.proofs.options.options_in.Goals as goal
 
@@ -15,7 +15,7 @@ returns-clause-ok c =
     c.is_true-full.result c.in_ok-class.class c.in_ok-case.case c.in_ok-from.from c.in_ok-to.to
     (c.is_true-errors.ensures ∙ ap is_true c.text_of.ensures)
     (c.is_true-full.ensures ∙ ap is_true c.text_of-2.ensures)
-    (ap (value_by pattern_of) (sym c.text_of-3.ensures) ∙ c.in_ok-class.ensures.ok)
+    (ap (value_by pattern_text) (sym c.text_of-3.ensures) ∙ c.in_ok-class.ensures.ok)
     (ap (value_by parsed) (sym c.text_of-4.ensures) ∙ c.in_ok-case.ensures.ok)
     (ap (value_by time_of) (sym c.text_of-5.ensures) ∙ c.in_ok-from.ensures.ok)
     (ap (value_by time_of) (sym c.text_of-6.ensures) ∙ c.in_ok-to.ensures.ok) in
@@ -28,7 +28,7 @@ returns-clause-usage c =
     c.is_true-full.result c.in_ok-class.class c.in_ok-case.case c.in_ok-from.from c.in_ok-to.to
     (c.is_true-errors.ensures ∙ ap is_true c.text_of.ensures)
     (c.is_true-full.ensures ∙ ap is_true c.text_of-2.ensures)
-    (ap (value_by pattern_of) (sym c.text_of-3.ensures) ∙ c.in_ok-class.ensures.ok)
+    (ap (value_by pattern_text) (sym c.text_of-3.ensures) ∙ c.in_ok-class.ensures.ok)
     (ap (value_by parsed) (sym c.text_of-4.ensures) ∙ c.in_ok-case.ensures.ok)
     (ap (value_by time_of) (sym c.text_of-5.ensures) ∙ c.in_ok-from.ensures.ok)
     (ap (value_by time_of) (sym c.text_of-6.ensures) ∙ c.in_ok-to.ensures.ok) in

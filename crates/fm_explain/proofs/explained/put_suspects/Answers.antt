@@ -1,7 +1,7 @@
 use Rattle.std.proofs.Common.{◌≡◌, ◌+◌, ◌++◌, ◌∙◌, List, [], ◌∷◌, ℕ, take, sym, ap, subst}
 use Rattle.std.proofs.lemmas.List.{append_assoc, take_more}
 use Rattle.fm_entry.specs.declared.suspect.Suspect.{Suspect}
-use Rattle.fm_explain.specs.Explained.{AreTold}
+use Rattle.fm_explain.specs.Explained.{AreSuspectsTold}
 use Rattle.fm_explain.proofs.Told.{told_push}
 use Rattle.fm_explain.proofs.explained.put_suspects.Goals as goal
 
@@ -19,10 +19,10 @@ suspects-preserved c =
     let more : take (i + 1) suspects ≡ take i suspects ++ item ∷ [] =
     take_more suspects i item c.suspects-test.true
     ∙ ap (λ (s : Suspect). take i suspects ++ s ∷ []) (sym c.suspect-item.is) in
-    let told : AreTold g less reports (take i suspects ++ item ∷ []) text =
+    let told : AreSuspectsTold g less reports (take i suspects ++ item ∷ []) text =
     told_push g less reports (take i suspects) item before.0 one.0 before.1 one.1 in (
       text,
-      subst (λ (xs : List Suspect). AreTold g less reports xs text) (sym more) told,
+      subst (λ (xs : List Suspect). AreSuspectsTold g less reports xs text) (sym more) told,
       one.2 ∙ (ap (λ (z : List ℕ). z ++ one.0) before.2
           ∙ append_assoc c.args.out.now.items before.0 one.0),
     )

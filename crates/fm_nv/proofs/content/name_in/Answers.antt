@@ -1,6 +1,6 @@
 -- A name stands between its beginning and the next.
 use Rattle.std.proofs.Common.{arith, ◌∙◌}
-use Rattle.fm_nv.specs.View.{between}
+use Rattle.fm_nv.specs.View.{bytes_between}
 use Rattle.fm_nv.proofs.Cells.{name_found, ends_found}
 use Rattle.fm_nv.proofs.content.name_in.Goals as goal
 
@@ -14,5 +14,5 @@ piece-requires c =
 
 pub returns : goal.returns
 returns c =
-    c.piece.ensures ∙ (λ i. between (c.place_of-begin.ensures i) (c.place_of-end.ensures i)
+    c.piece.ensures ∙ (λ i. bytes_between (c.place_of-begin.ensures i) (c.place_of-end.ensures i)
     c.args.names.now) ∙ name_found c.args.names.now c.args.cells.now c.args.at c.requires.at

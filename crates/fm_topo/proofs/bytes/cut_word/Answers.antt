@@ -1,5 +1,5 @@
 use Rattle.std.proofs.Common.{◌<◌, ◌+◌, ◌∷◌, false, length, take, drop, sym, ap, subst, ◌∙◌}
-use Rattle.fm_topo.specs.Line.{words_from}
+use Rattle.fm_topo.specs.Line.{parted_words}
 use Rattle.fm_topo.specs.Word.{word_end}
 use Rattle.fm_topo.proofs.Pieces.{word_cut}
 use Rattle.fm_topo.proofs.Ranges.{rest_all}
@@ -12,5 +12,5 @@ returns-then-at-text-clause-words c =
     let e = c.first_word_end-at.ensures.same in
     let l : word_end false text < length text = subst (λ n. n < length text) e c.if-at-text.true in
     word_cut false text l
-    ∙ (ap (λ n. take n text ∷ words_from false (drop (n + 1) text)) (sym e)
-    ∙ ap (λ r. take at text ∷ words_from false r) (sym (rest_all (at + 1) text)))
+    ∙ (ap (λ n. take n text ∷ parted_words false (drop (n + 1) text)) (sym e)
+    ∙ ap (λ r. take at text ∷ parted_words false r) (sym (rest_all (at + 1) text)))

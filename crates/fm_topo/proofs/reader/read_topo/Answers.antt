@@ -1,5 +1,5 @@
 use Rattle.std.proofs.Common.{rules, ◌≡◌}
-use Rattle.fm_topo.specs.Fault.{IsClean}
+use Rattle.fm_topo.specs.Fault.{IsFaultless}
 use Rattle.fm_topo.specs.Topology.{topology_of}
 use Rattle.fm_topo.proofs.Stepping.{at_start}
 use Rattle.fm_topo.proofs.Kept.{lawful}
@@ -10,6 +10,6 @@ loop-found-init c = at_start c.args.text.now c.new-found.result.entries c.new-fo
 
 pub topology_from-requires : goal.topology_from-requires
 topology_from-requires c =
-    let clean : IsClean c.args.text.now = search rules in
+    let clean : IsFaultless c.args.text.now = search rules in
     let same : c.step.new.found.entries ≡ topology_of c.args.text.now = search rules in
     lawful c.step.new.found.entries c.args.text.now clean same

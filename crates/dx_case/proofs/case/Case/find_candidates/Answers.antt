@@ -5,7 +5,7 @@ use Rattle.ev_graph.specs.Kinds.{is_report_kind, is_report_node}
 use Rattle.ev_graph.proofs.Kinds.{kind_below}
 use Rattle.ev_incidence.proofs.Occurrences.{all_in, in_at}
 use Rattle.dx_live.specs.Live.{no_cut, all_allowed}
-use Rattle.dx_case.specs.Candidates.{keeps}
+use Rattle.dx_case.specs.Candidates.{covers}
 use Rattle.dx_case.proofs.Inserting.{write_back, same_count}
 use Rattle.dx_case.proofs.Steps.{lives_of, opened_case}
 use Rattle.dx_case.proofs.case.Case.find_candidates.Goals as goal
@@ -42,7 +42,7 @@ returns-clause-case c =
     let P : ℕ → Type 0 = λ e. is_member observed e ≡ true in
     let changed = rw (c.as_mut_slice.ensures.value, c.as_slice.ensures.value) at
     c.change_each.ensures in
-    let kept = c.settle.ensures.kept ∙ ap (filter (keeps observed))
+    let kept = c.settle.ensures.kept ∙ ap (filter (covers observed))
     (write_back fresh.candidates.len mid fresh.candidates.items changed.count
     (same_count fresh.candidates.len _ fresh.candidates.items c.as_mut_slice.ensures.value
     c.as_mut_slice.ensures.len)) in

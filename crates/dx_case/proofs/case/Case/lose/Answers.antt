@@ -1,6 +1,6 @@
 use Rattle.std.proofs.Common.{ap, ◌∙◌}
 use Rattle.std.specs.List.{filter}
-use Rattle.dx_case.specs.Candidates.{keeps}
+use Rattle.dx_case.specs.Candidates.{covers}
 use Rattle.dx_case.proofs.Inserting.{write_back, same_count}
 use Rattle.dx_case.proofs.case.Case.lose.Goals as goal
 
@@ -17,7 +17,7 @@ returns-clause-changed c =
       mid = new;
       changed = changed;
       kept = c.settle.ensures.kept
-          ∙ ap (filter (keeps c.args.self.now.observed.items))
+          ∙ ap (filter (covers c.args.self.now.observed.items))
           (write_back c.args.self.now.candidates.len new old changed.count
           (same_count c.args.self.now.candidates.len _ old c.as_mut_slice.ensures.value
           c.as_mut_slice.ensures.len));

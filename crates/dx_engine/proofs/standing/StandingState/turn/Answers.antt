@@ -5,8 +5,8 @@ use Rattle.dx_rules.specs.Rulebooks.{rules_in}
 use Rattle.dx_state.specs.Configured.{configuration_at}
 use Rattle.dx_step.proofs.Stepping.{lawful_is}
 use Rattle.dx_turn.specs.declared.work.Work.{Work}
-use Rattle.dx_turn.specs.Tracking.{kept_of}
-use Rattle.dx_engine.specs.Standing.{StandingParts, kept_parts, stands_for, state_of}
+use Rattle.dx_turn.specs.Tracking.{cases_before}
+use Rattle.dx_engine.specs.Standing.{StandingParts, kept_parts, whole_state, state_of}
 use Rattle.dx_engine.specs.Standing.{AreStanding}
 use Rattle.dx_engine.proofs.Placing.{begins, begun_told, begun_ready, begun_ascend}
 use Rattle.dx_engine.proofs.Placing.{ended_ascend, turned, undone_same, on_either}
@@ -133,7 +133,7 @@ returns-in-Ok-clause-after c =
     (c.max-time.ensures ∙ ap (max c.args.self.now.time) c.moment.ensures)
     (ap (λ v. v.items) c.replace-cases.ensures.value) refl c.new-3.ensures)
     c.ground-ground.ensures c.in-Ok.ensures.ok in
-    on_ok_weaker c.put.result (λ is. ap stands_for is ∙ put.state) c.put.ensures.parts
+    on_ok_weaker c.put.result (λ is. ap whole_state is ∙ put.state) c.put.ensures.parts
 
 pub returns-in-Ok-clause-standing : goal.returns-in-Ok-clause-standing
 returns-in-Ok-clause-standing c =
@@ -165,7 +165,7 @@ returns-in-Ok-clause-standing c =
     (λ is. record {
       parts = subst (AreStanding r)
           (sym (is ∙ undone_same r p c.turn.new.work.cases.items c.requires.standing.parts
-          (c.turn.ensures.kept ∙ ap (λ v. kept_of v.items) c.replace-cases.ensures.value)))
+          (c.turn.ensures.kept ∙ ap (λ v. cases_before v.items) c.replace-cases.ensures.value)))
           c.requires.standing.parts;
       starts = same_starts r c.put.new.self _ c.turn.new.work.starts
           (ap (λ (q : StandingParts). q.conf) is) c.put.ensures.starts
@@ -182,7 +182,7 @@ returns-in-Err-clause-standing c =
     record {
       parts = subst (AreStanding r)
           (sym (is ∙ undone_same r p c.turn.new.work.cases.items c.requires.standing.parts
-          (c.turn.ensures.kept ∙ ap (λ v. kept_of v.items) c.replace-cases.ensures.value)))
+          (c.turn.ensures.kept ∙ ap (λ v. cases_before v.items) c.replace-cases.ensures.value)))
           c.requires.standing.parts;
       starts = same_starts r c.put_back.new.self _ c.turn.new.work.starts
           (ap (λ (q : StandingParts). q.conf) is) c.put_back.ensures.starts
