@@ -20,7 +20,8 @@ use Rattle.fm_core.proofs.Lists.{map_got}
 use Rattle.fm_core.proofs.Ordered.{within_from, from_all}
 use Rattle.fm_core.proofs.Tests.{true_lt, le_false}
 use Rattle.fm_logs.specs.Contents.{Contents}
-use Rattle.fm_logs.specs.ReadsAsBook.{AreLoaded, EachSpells, ReadsAsBook, SaysBase, SpellsEntry}
+use Rattle.fm_payloads.specs.Spelling.{EachSpells}
+use Rattle.fm_logs.specs.ReadsAsBook.{AreLoaded, ReadsAsBook, SaysBase, SpellsEntry}
 use Rattle.fm_logs.specs.StoreBook.{StoreBook}
 use Rattle.fm_saved.specs.declared.checkpoint.Checkpoint.{Checkpoint}
 use Rattle.fm_slots.specs.Format.{SlotOf}

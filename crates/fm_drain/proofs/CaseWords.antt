@@ -25,7 +25,8 @@ use Rattle.fm_core.proofs.Lists.{all_map, filter_none, list_all_get}
 use Rattle.fm_core.proofs.Runs.{ends_drained}
 use Rattle.fm_core.proofs.Tests.{true_eq, eq_true, eq_false}
 use Rattle.fm_logs.specs.LogReads.{AreOrdered}
-use Rattle.fm_logs.specs.ReadsAsBook.{EachSpells, SpellsSpoken}
+use Rattle.fm_payloads.specs.Spelling.{EachSpells}
+use Rattle.fm_logs.specs.ReadsAsBook.{SpellsSpoken}
 use Rattle.fm_status.specs.Rows.{case_cmp, case_row, last_word, AreRows}
 use Rattle.fm_status.proofs.CaseOrder.{case_tie, case_total, turned}
 use Rattle.fm_status.proofs.RowLaws.{before_all}

@@ -21,7 +21,8 @@ use Rattle.fm_journal.specs.Keeps.{Keeps}
 use Rattle.fm_journal.specs.declared.fault.FullKind.{FullKind}
 use Rattle.fm_journal.specs.declared.fault.JournalFault.TheVariants.{Full as JournalIsFull}
 use Rattle.fm_logs.specs.LogsOf.{CannotTake, CommitDoes, FrameRefused, Frames}
-use Rattle.fm_logs.specs.ReadsAsBook.{EachSpells, SpellsSpoken}
+use Rattle.fm_payloads.specs.Spelling.{EachSpells}
+use Rattle.fm_logs.specs.ReadsAsBook.{SpellsSpoken}
 use Rattle.fm_logs.specs.StoreBook.{StoreBook}
 use Rattle.fm_logs.specs.declared.fault.StoreFault.{StoreFault}
 use Rattle.fm_logs.specs.declared.fault.StoreFault.TheVariants.{Disk, Full, Closed, Damaged}

@@ -13,7 +13,8 @@ use Rattle.fm_outer.specs.declared.disk.Disk.{Ghosts}
 use Rattle.fm_logs.specs.LogReads.{AreLogged, AreOrdered, AreSpoken, ReadsLogged, ReadsSpoken}
 use Rattle.fm_logs.specs.LogReads.{UnreadLog, ValuesCause}
 use Rattle.fm_logs.specs.LogsOf.{LogsOf}
-use Rattle.fm_logs.specs.ReadsAsBook.{EachSpells, SpellsEntry, SpellsSpoken}
+use Rattle.fm_payloads.specs.Spelling.{EachSpells}
+use Rattle.fm_logs.specs.ReadsAsBook.{SpellsEntry, SpellsSpoken}
 use Rattle.fm_logs.specs.declared.disks.DiskName.{DiskName}
 use Rattle.fm_logs.specs.declared.disks.DiskName.TheVariants.{Flt}
 use Rattle.fm_logs.specs.declared.fault.StoreFault.{StoreFault}

@@ -20,7 +20,8 @@ use Rattle.fm_journal.proofs.Added.{has_room}
 use Rattle.fm_logs.specs.LogsLimits.{AreLogs}
 use Rattle.fm_logs.specs.LogsOf.{LogsOf, LogsKeep, IsLogWith, Frames, TakesEntry, Commits}
 use Rattle.fm_logs.specs.LogsOf.{CanTakeFrame, with_frame}
-use Rattle.fm_logs.specs.ReadsAsBook.{EachSpells, SpellsEntry, SpellsSpoken}
+use Rattle.fm_payloads.specs.Spelling.{EachSpells}
+use Rattle.fm_logs.specs.ReadsAsBook.{SpellsEntry, SpellsSpoken}
 
 -- one payload more spells one value more
 pub each_push : {A : Type 0} (spells : List ℕ → A → Type 0) (payloads : List (List ℕ)) (xs : List A)

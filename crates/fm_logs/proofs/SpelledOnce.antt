@@ -4,8 +4,8 @@ use Rattle.std.proofs.Common.{slice_get}
 use Rattle.std.proofs.lemmas.Option.{same_Some, slice_get_within}
 use Rattle.fm_entry.proofs.EntryReader.{entry_whole}
 use Rattle.fm_entry.proofs.SpokenReader.{spoken_whole}
-use Rattle.fm_payloads.specs.Spelling.{EachSpells as EachPayload, SpellsUpTo}
-use Rattle.fm_logs.specs.ReadsAsBook.{EachSpells, SpellsEntry, SpellsSpoken}
+use Rattle.fm_payloads.specs.Spelling.{EachSpells, SpellsUpTo}
+use Rattle.fm_logs.specs.ReadsAsBook.{SpellsEntry, SpellsSpoken}
 
 -- a payload spells one value at most
 abbrev pub SpellsOne : {A : Type 0} → (List ℕ → A → Type 0) → Type 0
@@ -22,14 +22,6 @@ entry_once payload x y a b =
 pub spoken_once : SpellsOne SpellsSpoken
 spoken_once payload x y a b =
     some_one _ x y (spoken_whole payload x a.0 a.1) (spoken_whole payload y b.0 b.1)
-
--- both words for payloads that spell values say the same
-pub each_same : {A : Type 0} (spells : List ℕ → A → Type 0) (payloads : List (List ℕ)) (xs : List A)
-    → EachPayload spells payloads xs → EachSpells spells payloads xs
-each_same spells [] [] all = tt
-each_same spells [] (x ∷ xs) all = absurd all
-each_same spells (p ∷ payloads) [] all = absurd all
-each_same spells (p ∷ payloads) (x ∷ xs) all = (all.0, each_same spells payloads xs all.1)
 
 -- payloads spell one list of values at most
 pub each_one : {A : Type 0} (spells : List ℕ → A → Type 0) → SpellsOne spells

@@ -11,7 +11,7 @@ use Rattle.fm_entry.specs.declared.spoken.Spoken.{Spoken}
 use Rattle.fm_journal.specs.JournalOf.{JournalOf}
 use Rattle.fm_journal.specs.Keeps.{Keeps}
 use Rattle.fm_logs.specs.LogsOf.{LogsOf, LogsKeep}
-use Rattle.fm_logs.specs.ReadsAsBook.{EachSpells}
+use Rattle.fm_payloads.specs.Spelling.{EachSpells}
 use Rattle.fm_logs.specs.declared.disks.DiskName.{DiskName}
 use Rattle.fm_logs.specs.declared.fault.StoreFault.{StoreFault}
 use Rattle.fm_logs.specs.declared.fault.StoreFault.TheVariants.{Disk, Closed, Damaged, NoMemory}

@@ -16,7 +16,8 @@ use Rattle.fm_journal.specs.Keeps.{Keeps}
 use Rattle.fm_journal.specs.declared.fault.FullKind.{FullKind}
 use Rattle.fm_journal.specs.declared.fault.FullKind.TheVariants.{Payload}
 use Rattle.fm_journal.specs.declared.fault.JournalFault.TheVariants.{Full as JournalIsFull}
-use Rattle.fm_logs.specs.ReadsAsBook.{EachSpells, IsLog, SpellsEntry, SpellsSpoken}
+use Rattle.fm_payloads.specs.Spelling.{EachSpells}
+use Rattle.fm_logs.specs.ReadsAsBook.{IsLog, SpellsEntry, SpellsSpoken}
 use Rattle.fm_logs.specs.declared.disks.DiskName.{DiskName}
 use Rattle.fm_logs.specs.declared.disks.DiskName.TheVariants.{ErrA, ErrB, Flt}
 use Rattle.fm_logs.specs.declared.fault.StoreFault.{StoreFault}

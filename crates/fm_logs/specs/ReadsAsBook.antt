@@ -8,6 +8,7 @@ use Rattle.fm_entry.specs.Entries.{IsSpelled, entry_bytes}
 use Rattle.fm_entry.specs.Words.{IsSpelledSpoken}
 use Rattle.fm_entry.specs.WordBytes.{spoken_bytes}
 use Rattle.fm_journal.specs.Format.{IsJournal}
+use Rattle.fm_payloads.specs.Spelling.{EachSpells}
 use Rattle.fm_slots.specs.Format.{SlotOf}
 use Rattle.fm_slots.specs.InForce.{InForce}
 use Rattle.fm_saved.specs.Confs.{IsSpelledConf, conf_bytes}
@@ -18,12 +19,6 @@ use Rattle.fm_core.specs.Meaning.{holds_of, saved_of}
 use Rattle.fm_core.specs.Book.{ModuleState, floored}
 use Rattle.fm_logs.specs.Contents.{Contents, active_of_two}
 use Rattle.fm_logs.specs.StoreBook.{StoreBook, IsLawfulStore}
-
--- payload by payload, each spells its value
-abbrev pub EachSpells : {A : Type 0} → (List ℕ → A → Type 0) → List (List ℕ) → List A → Type 0
-EachSpells spells [] [] = Unit {0}
-EachSpells spells (payload ∷ payloads) (x ∷ xs) = spells payload x × EachSpells spells payloads xs
-EachSpells spells _ _ = ⊥
 
 abbrev pub SpellsConf : List ℕ → Conf → Type 0
 SpellsConf payload conf = IsSpelledConf conf × (payload ≡ conf_bytes conf)

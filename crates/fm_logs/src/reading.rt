@@ -5,7 +5,8 @@ ghost use Rattle.fm_outer.specs.Moments.{OnlyRead};
 ghost use Rattle.fm_entry.specs.declared.spoken.Spoken.{Spoken};
 ghost use Rattle.fm_journal.specs.Keeps.{Keeps};
 ghost use Rattle.fm_logs.specs.LogReads.{AreOrdered, ValuesCause};
-ghost use Rattle.fm_logs.specs.ReadsAsBook.{EachSpells, SpellsEntry, SpellsSpoken};
+ghost use Rattle.fm_payloads.specs.Spelling.{EachSpells};
+ghost use Rattle.fm_logs.specs.ReadsAsBook.{SpellsEntry, SpellsSpoken};
 ghost use Rattle.fm_logs.specs.declared.disks.DiskName.TheVariants.{Flt};
 
 use crate::disks::DiskName;

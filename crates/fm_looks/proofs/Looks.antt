@@ -10,7 +10,8 @@ use Rattle.fm_journal.specs.JournalOf.{JournalOf}
 use Rattle.fm_journal.specs.Keeps.{Keeps}
 use Rattle.fm_journal.proofs.Places.{keeps_read}
 use Rattle.fm_journal.proofs.Opened.{two_tellings}
-use Rattle.fm_logs.specs.ReadsAsBook.{EachSpells, SpellsConf}
+use Rattle.fm_payloads.specs.Spelling.{EachSpells}
+use Rattle.fm_logs.specs.ReadsAsBook.{SpellsConf}
 use Rattle.fm_saved.specs.declared.conf.Conf.{Conf}
 use Rattle.fm_looks.specs.Looks.{ConfsKept, LookCause, TookConfs, RefusesConf, fault_seen}
 use Rattle.fm_looks.specs.Opening.{Good, FitConfs, LogDamage, ConfsDamage}

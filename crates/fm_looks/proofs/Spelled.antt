@@ -4,7 +4,8 @@ use Rattle.std.proofs.Common.{length, take, Some, refl, ap, subst, slice_get}
 use Rattle.std.proofs.lemmas.Option.{slice_get_within}
 use Rattle.fm_journal.specs.Format.{end_of}
 use Rattle.fm_journal.proofs.Places.{take_next}
-use Rattle.fm_logs.specs.ReadsAsBook.{EachSpells, SpellsConf}
+use Rattle.fm_payloads.specs.Spelling.{EachSpells}
+use Rattle.fm_logs.specs.ReadsAsBook.{SpellsConf}
 use Rattle.fm_logs.proofs.SpelledOnce.{SpellsOne, some_one, each_one}
 use Rattle.fm_saved.specs.Checkpoints.{IsSpelledCheckpoint, SpellsCheckpoint}
 use Rattle.fm_saved.specs.declared.checkpoint.Checkpoint.{Checkpoint}

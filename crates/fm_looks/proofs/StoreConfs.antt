@@ -6,7 +6,8 @@ use Rattle.std.proofs.lemmas.List.Elements.{All-push}
 use Rattle.std.proofs.lemmas.Option.{slice_get-get_or}
 use Rattle.std.specs.Prelude.{IfSome, Option, get_or}
 use Rattle.fm_logs.proofs.Logged.{each_push}
-use Rattle.fm_logs.specs.ReadsAsBook.{EachSpells, SpellsConf}
+use Rattle.fm_payloads.specs.Spelling.{EachSpells}
+use Rattle.fm_logs.specs.ReadsAsBook.{SpellsConf}
 use Rattle.fm_logs.specs.StoreBook.{AreOfOneStore}
 use Rattle.fm_saved.specs.Confs.{IsSpelledConf, conf_bytes}
 use Rattle.fm_saved.specs.declared.conf.Conf.{Conf}

@@ -8,7 +8,8 @@ use Rattle.fm_entry.specs.declared.entry.Entry.{Entry}
 use Rattle.fm_journal.specs.Format.{IsJournal}
 use Rattle.fm_journal.specs.JournalOf.{JournalOf}
 use Rattle.fm_journal.specs.Keeps.{Keeps}
-use Rattle.fm_logs.specs.ReadsAsBook.{EachSpells, SpellsEntry}
+use Rattle.fm_payloads.specs.Spelling.{EachSpells}
+use Rattle.fm_logs.specs.ReadsAsBook.{SpellsEntry}
 use Rattle.fm_logs.specs.StoreBook.{force_along}
 use Rattle.fm_saved.specs.declared.checkpoint.Checkpoint.{Checkpoint}
 use Rattle.fm_looks.specs.Opening.{FitEntries, Good}

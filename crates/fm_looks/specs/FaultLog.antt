@@ -9,7 +9,8 @@ use Rattle.fm_entry.specs.declared.spoken.Spoken.{Spoken}
 use Rattle.fm_journal.specs.Format.{IsJournal}
 use Rattle.fm_journal.specs.JournalOf.{JournalOf}
 use Rattle.fm_journal.specs.Keeps.{Keeps}
-use Rattle.fm_logs.specs.ReadsAsBook.{EachSpells, SpellsSpoken}
+use Rattle.fm_payloads.specs.Spelling.{EachSpells}
+use Rattle.fm_logs.specs.ReadsAsBook.{SpellsSpoken}
 use Rattle.fm_retrace.specs.Retracing.{IsBookOf, HaveRetraced, SayRecords, AreWithin, meanings_of}
 use Rattle.fm_retrace.specs.declared.retraced.Retraced.{Retraced}
 use Rattle.fm_looks.specs.Opening.{FirstBad, Good, LogDamage}

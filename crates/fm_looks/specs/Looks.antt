@@ -5,7 +5,8 @@ use Rattle.fm_outer.specs.declared.disk.Disk.{Ghosts}
 use Rattle.fm_journal.specs.Format.{IsJournal}
 use Rattle.fm_journal.specs.JournalOf.{JournalOf}
 use Rattle.fm_journal.specs.Keeps.{Keeps}
-use Rattle.fm_logs.specs.ReadsAsBook.{EachSpells, SpellsConf}
+use Rattle.fm_payloads.specs.Spelling.{EachSpells}
+use Rattle.fm_logs.specs.ReadsAsBook.{SpellsConf}
 use Rattle.fm_saved.specs.Confs.{IsSpelledConf}
 use Rattle.fm_saved.specs.declared.conf.Conf.{Conf}
 use Rattle.fm_looks.specs.Opening.{FitConfs, Good}

@@ -16,7 +16,8 @@ use Rattle.fm_slots.specs.Format.{SlotOf, IsSlot, IsDamagedSlot}
 use Rattle.fm_slots.specs.InForce.{in_force}
 use Rattle.fm_logs.specs.Contents.{Contents, active_of_two}
 use Rattle.fm_logs.specs.LogsOf.{name_of_two}
-use Rattle.fm_logs.specs.ReadsAsBook.{EachSpells, SpellsConf, SpellsEntry, SpellsSpoken, IsLog}
+use Rattle.fm_payloads.specs.Spelling.{EachSpells}
+use Rattle.fm_logs.specs.ReadsAsBook.{SpellsConf, SpellsEntry, SpellsSpoken, IsLog}
 use Rattle.fm_logs.specs.ReadsAsBook.{AreLoaded}
 use Rattle.fm_logs.specs.StoreBook.{StoreBook, AreConfs, HaveConf, ReloadsRise}
 use Rattle.fm_logs.specs.declared.disks.DiskName.{DiskName}

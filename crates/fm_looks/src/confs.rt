@@ -4,7 +4,8 @@ ghost use Rattle.std.specs.Prelude.{◌≡◌, true, false, ℕ, List, [], ◌�
 ghost use Rattle.std.specs.Prelude.{Some, None};
 ghost use Rattle.std.specs.Prelude.{IfOk, IfErr};
 ghost use Rattle.fm_outer.specs.Moments.{OnlyRead};
-ghost use Rattle.fm_logs.specs.ReadsAsBook.{EachSpells, SpellsConf};
+ghost use Rattle.fm_payloads.specs.Spelling.{EachSpells};
+ghost use Rattle.fm_logs.specs.ReadsAsBook.{SpellsConf};
 ghost use Rattle.fm_logs.specs.StoreBook.{AreOfOneStore};
 ghost use Rattle.fm_saved.specs.declared.conf.Conf.{Conf};
 ghost use Rattle.fm_looks.specs.Looks.{LookCause, ConfsKept, confs_disk};

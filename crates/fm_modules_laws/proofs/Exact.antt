@@ -8,7 +8,8 @@ use Rattle.fm_entry.specs.declared.entry.Entry.{Entry}
 use Rattle.fm_outer.specs.declared.disk.Disk.{Ghosts}
 use Rattle.fm_core.specs.Book.{ModuleState, next_number, with_entries}
 use Rattle.fm_core.proofs.Lists.{all_append}
-use Rattle.fm_logs.specs.ReadsAsBook.{AreLoaded, EachSpells, SpellsEntry}
+use Rattle.fm_payloads.specs.Spelling.{EachSpells}
+use Rattle.fm_logs.specs.ReadsAsBook.{AreLoaded, SpellsEntry}
 use Rattle.fm_logs.specs.StoreBook.{StoreBook}
 use Rattle.fm_saved.specs.declared.conf.Conf.{Conf}
 use Rattle.fm_store.specs.StoreOf.{StoreOf, StoreStandsFor}

@@ -16,7 +16,8 @@ use Rattle.fm_init.specs.Making.{AreFirstModules}
 use Rattle.fm_journal.specs.JournalOf.{JournalOf}
 use Rattle.fm_logs.specs.Contents.{Contents, AreTold}
 use Rattle.fm_logs.specs.LogsLimits.{logs_of}
-use Rattle.fm_logs.specs.ReadsAsBook.{AreLoaded, EachSpells, SpellsConf, SpellsEntry}
+use Rattle.fm_payloads.specs.Spelling.{EachSpells}
+use Rattle.fm_logs.specs.ReadsAsBook.{AreLoaded, SpellsConf, SpellsEntry}
 use Rattle.fm_logs.specs.StoreBook.{StoreBook, IsLawfulStore}
 use Rattle.fm_logs.specs.declared.disks.DiskName.{DiskName}
 use Rattle.fm_logs.specs.declared.disks.DiskName.TheVariants.{ErrA, ErrB, SlotA, SlotB, Flt}

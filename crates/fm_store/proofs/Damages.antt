@@ -10,7 +10,8 @@ use Rattle.fm_core.specs.Meaning.{Meaning, State, holds_of, saved_of}
 use Rattle.fm_entry.specs.declared.entry.Entry.{Entry}
 use Rattle.fm_entry.specs.declared.spoken.Spoken.{Spoken}
 use Rattle.fm_journal.proofs.Uniqueness.{same_journal_list}
-use Rattle.fm_logs.specs.ReadsAsBook.{EachSpells, IsLog, SpellsConf, SpellsEntry, SpellsSpoken}
+use Rattle.fm_payloads.specs.Spelling.{EachSpells}
+use Rattle.fm_logs.specs.ReadsAsBook.{IsLog, SpellsConf, SpellsEntry, SpellsSpoken}
 use Rattle.fm_logs.specs.ReadsAsBook.{AreLoaded}
 use Rattle.fm_saved.specs.Saved.{FitsLongText}
 use Rattle.fm_saved.specs.declared.checkpoint.Checkpoint.{Checkpoint}

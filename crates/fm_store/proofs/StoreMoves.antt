@@ -19,7 +19,8 @@ use Rattle.fm_outer.specs.declared.disk.Disk.{Ghosts}
 use Rattle.fm_slots.specs.Format.{SlotOf, IsOpenSlot}
 use Rattle.fm_logs.specs.Contents.{Contents, active_of_two}
 use Rattle.fm_logs.specs.LogsOf.{LogsOf, LogsKeep}
-use Rattle.fm_logs.specs.ReadsAsBook.{AreLoaded, EachSpells, SpellsEntry, IsLog}
+use Rattle.fm_payloads.specs.Spelling.{EachSpells}
+use Rattle.fm_logs.specs.ReadsAsBook.{AreLoaded, SpellsEntry, IsLog}
 use Rattle.fm_logs.specs.StoreBook.{StoreBook}
 use Rattle.fm_logs.specs.declared.disks.DiskName.{DiskName}
 use Rattle.fm_logs.specs.declared.disks.DiskName.TheVariants.{Conf as ConfDisk, ErrA, ErrB, SlotA}

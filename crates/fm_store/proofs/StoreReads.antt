@@ -13,7 +13,8 @@ use Rattle.fm_logs.specs.Contents.{Contents, content_named, active_of_two, with_
 use Rattle.fm_logs.specs.LogsBook.{DrainAlike}
 use Rattle.fm_logs.specs.LogsOf.{name_of_two}
 use Rattle.fm_logs.specs.ReadsAsBook.{IsLog, SpellsConf, SpellsEntry, SpellsSpoken, SaysBase}
-use Rattle.fm_logs.specs.ReadsAsBook.{SaysBook, ReadsAsBook, EachSpells}
+use Rattle.fm_payloads.specs.Spelling.{EachSpells}
+use Rattle.fm_logs.specs.ReadsAsBook.{SaysBook, ReadsAsBook}
 use Rattle.fm_logs.specs.StoreBook.{StoreBook, IsLawfulStore, store_floored}
 use Rattle.fm_logs.specs.declared.disks.DiskName.{DiskName}
 use Rattle.fm_logs.specs.declared.disks.DiskName.TheVariants.{Conf as ConfDisk, ErrA, ErrB, SlotA}

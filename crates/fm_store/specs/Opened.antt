@@ -13,7 +13,8 @@ use Rattle.fm_saved.specs.declared.checkpoint.Checkpoint.{Checkpoint}
 use Rattle.fm_saved.specs.declared.conf.Conf.{Conf}
 use Rattle.fm_logs.specs.Contents.{Contents, AreTold, disk_named, active_of_two}
 use Rattle.fm_logs.specs.LogsOf.{name_of_two}
-use Rattle.fm_logs.specs.ReadsAsBook.{EachSpells, SpellsConf, SpellsEntry}
+use Rattle.fm_payloads.specs.Spelling.{EachSpells}
+use Rattle.fm_logs.specs.ReadsAsBook.{SpellsConf, SpellsEntry}
 use Rattle.fm_logs.specs.StoreBook.{StoreBook, force_along}
 use Rattle.fm_logs.specs.declared.disks.Disks.{Disks}
 use Rattle.fm_logs.specs.declared.disks.DiskName.{DiskName}

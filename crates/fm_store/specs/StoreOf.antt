@@ -14,7 +14,8 @@ use Rattle.fm_saved.specs.declared.checkpoint.Checkpoint.{Checkpoint}
 use Rattle.fm_slots.specs.Format.{SlotOf}
 use Rattle.fm_slots.specs.InForce.{InForceBeside, KeepsInForce}
 use Rattle.fm_logs.specs.LogsOf.{LogsOf, LogsKeep}
-use Rattle.fm_logs.specs.ReadsAsBook.{AreLoaded, EachSpells, SpellsConf, SaysBase}
+use Rattle.fm_payloads.specs.Spelling.{EachSpells}
+use Rattle.fm_logs.specs.ReadsAsBook.{AreLoaded, SpellsConf, SaysBase}
 use Rattle.fm_logs.specs.StoreBook.{StoreBook, IsLawfulStore, force_along}
 
 -- What a store has beside its logs. The disks: the configurations' journal, the disk of the error

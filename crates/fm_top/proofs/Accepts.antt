@@ -33,7 +33,8 @@ use Rattle.fm_lent.proofs.Lending.{six_of_paired}
 use Rattle.fm_logs.specs.Contents.{Contents, AreTold, WereOnlyRead, content_named, disk_named}
 use Rattle.fm_logs.specs.Contents.{AreSameDisks, active_of_two}
 use Rattle.fm_logs.specs.LogsOf.{CannotTake}
-use Rattle.fm_logs.specs.ReadsAsBook.{EachSpells, SpellsEntry}
+use Rattle.fm_payloads.specs.Spelling.{EachSpells}
+use Rattle.fm_logs.specs.ReadsAsBook.{SpellsEntry}
 use Rattle.fm_logs.specs.StoreBook.{StoreBook}
 use Rattle.fm_logs.specs.declared.disks.Disks.{Disks}
 use Rattle.fm_logs.specs.declared.disks.DiskName.{DiskName}

@@ -18,7 +18,8 @@ use Rattle.fm_entry.specs.declared.spoken.Spoken.{Spoken}
 use Rattle.fm_journal.specs.Keeps.{Keeps}
 use Rattle.fm_logs.specs.LogReads.{ReadsLogged}
 use Rattle.fm_logs.specs.LogsOf.{LogsKeep, LogsOf, name_of_two}
-use Rattle.fm_logs.specs.ReadsAsBook.{EachSpells, SpellsEntry}
+use Rattle.fm_payloads.specs.Spelling.{EachSpells}
+use Rattle.fm_logs.specs.ReadsAsBook.{SpellsEntry}
 use Rattle.fm_logs.specs.StoreBook.{StoreBook}
 use Rattle.fm_logs.specs.declared.disks.DiskName.TheVariants.{Conf as ConfDisk, ErrA, ErrB, SlotA}
 use Rattle.fm_logs.specs.declared.disks.DiskName.TheVariants.{SlotB, Flt}

@@ -18,7 +18,8 @@ use Rattle.fm_journal.specs.Format.{IsJournal}
 use Rattle.fm_journal.specs.declared.fault.FullKind.TheVariants.{Input}
 use Rattle.fm_line.specs.Lines.{lines_of}
 use Rattle.fm_logs.specs.Contents.{Contents}
-use Rattle.fm_logs.specs.ReadsAsBook.{EachSpells, SpellsConf}
+use Rattle.fm_payloads.specs.Spelling.{EachSpells}
+use Rattle.fm_logs.specs.ReadsAsBook.{SpellsConf}
 use Rattle.fm_saved.specs.declared.conf.Conf.{Conf}
 use Rattle.fm_store.specs.StoreLeft.{ReadsLike}
 use Rattle.fm_top.specs.Accepting.{AcceptRan, AcceptedUntil, Grew}
