@@ -5,7 +5,7 @@ use Rattle.std.proofs.lemmas.Bool.{and_parts, and_from, not-true, not_from_false
 use Rattle.ev_incidence.specs.Sets.{NodeSet, is_member}
 use Rattle.ev_graph.specs.Kinds.{is_root_kind, is_report_node, is_report_kind}
 use Rattle.ev_graph.specs.Lawful.{GraphValue, IsGraph}
-use Rattle.ev_graph.proofs.Kinds.{kind_below}
+use Rattle.ev_graph.proofs.KindBelow.{kind_below}
 use Rattle.ev_incidence.proofs.Occurrences.{all_in, all_from}
 use Rattle.dx_sets.specs.Engine.{CutsOf}
 use Rattle.dx_explain.specs.Laws.{Explains, IsPending}

@@ -25,7 +25,7 @@ use Rattle.ev_graph.specs.Cutting.{is_cut}
 use Rattle.ev_graph.specs.declared.nodes.EngineSpec.{EngineSpec}
 use Rattle.ev_graph.specs.declared.nodes.Node.{Node}
 use Rattle.ev_graph.specs.declared.instances.Link.{Link}
-use Rattle.ev_graph.proofs.Kinds.{kind_below}
+use Rattle.ev_graph.proofs.KindBelow.{kind_below}
 use Rattle.dx_serd.specs.Rates.{are_kept, none_past, is_rising}
 use Rattle.dx_state.specs.Configured.{Configuration}
 use Rattle.dx_state.specs.StateBytes.{version_byte, case_links}

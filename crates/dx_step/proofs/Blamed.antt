@@ -16,7 +16,7 @@ use Rattle.dx_explain.specs.Search.{numbers_below}
 use Rattle.dx_explain.specs.Stories.{explains}
 use Rattle.dx_explain.specs.Cases.{blamed, cuts_of}
 use Rattle.dx_state.proofs.Lists.{all_other, is_strict, ascends_of}
-use Rattle.ev_graph.proofs.Kinds.{kind_below}
+use Rattle.ev_graph.proofs.KindBelow.{kind_below}
 
 -- a number more behind numbers that are below it
 pub strict_push : (n : ℕ) (xs : List ℕ) → IsTrue (list_all (λ x. nat_lt x n) xs)

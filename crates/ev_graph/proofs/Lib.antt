@@ -1,3 +1,3 @@
 pub mod Building
 pub mod CutLists
-pub mod Kinds
+pub mod KindBelow

@@ -1,7 +1,7 @@
 use Rattle.std.proofs.Common.{get_or, arith}
 use Rattle.ev_graph.specs.Kinds.{is_root_kind, is_root_node, is_report_node}
 use Rattle.ev_graph.proofs.Building.{can_search_forwards}
-use Rattle.ev_graph.proofs.Kinds.{kind_below}
+use Rattle.ev_graph.proofs.KindBelow.{kind_below}
 use Rattle.ev_incidence.proofs.Occurrences.{all_in, in_at}
 use Rattle.dx_case.proofs.Searching.{reports_cover, sorted_all}
 use Rattle.dx_case.proofs.finding.reports_of.Goals as goal

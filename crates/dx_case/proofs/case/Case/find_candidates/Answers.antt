@@ -2,7 +2,7 @@ use Rattle.std.proofs.Common.{◌≡◌, ◌∷◌, [], ◌∙◌, ℕ, true, sy
 use Rattle.std.specs.List.{filter}
 use Rattle.ev_incidence.specs.Sets.{is_member}
 use Rattle.ev_graph.specs.Kinds.{is_report_kind, is_report_node}
-use Rattle.ev_graph.proofs.Kinds.{kind_below}
+use Rattle.ev_graph.proofs.KindBelow.{kind_below}
 use Rattle.ev_incidence.proofs.Occurrences.{all_in, in_at}
 use Rattle.dx_live.specs.Live.{no_cut, all_allowed}
 use Rattle.dx_case.specs.Candidates.{covers}

@@ -1,6 +1,6 @@
 use Rattle.std.proofs.Common.{arith}
 use Rattle.ev_graph.specs.Kinds.{is_root_kind}
-use Rattle.ev_graph.proofs.Kinds.{kind_below}
+use Rattle.ev_graph.proofs.KindBelow.{kind_below}
 use Rattle.dx_live.specs.Live.{LiveValue, live_over, no_cut, all_allowed}
 use Rattle.dx_live.proofs.Opening.{live_first, best_live, cost_first}
 use Rattle.dx_live.proofs.Tables.{best_of, cost_at}
