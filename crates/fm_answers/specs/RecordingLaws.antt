@@ -15,17 +15,17 @@ use Rattle.fm_store.specs.StoreOf.{StoreOf, StoreStandsFor}
 use Rattle.fm_answers.specs.Recording.{store_with, LastCounts, LogsLeft, BookLeft, Recorded}
 
 -- a book with other entries
-abbrev book_of : StoreBook → List Entry → StoreBook
-book_of k entries = with_book k (record k.book { entries = entries })
+abbrev book_with : StoreBook → List Entry → StoreBook
+book_with k entries = with_book k (record k.book { entries = entries })
 
 -- a book with no entries more
 pub with_none : (k : StoreBook) → store_with k [] ≡ k
-with_none k = ap (book_of k) (append-nil k.book.entries)
+with_none k = ap (book_with k) (append-nil k.book.entries)
 
 -- entries, and then more
 pub with_more : (k : StoreBook) (es fs : List Entry)
     → store_with (store_with k es) fs ≡ store_with k (es ++ fs)
-with_more k es fs = ap (book_of k) (append_assoc k.book.entries es fs)
+with_more k es fs = ap (book_with k) (append_assoc k.book.entries es fs)
 
 -- and then one more
 pub with_last : (k : StoreBook) (es fs : List Entry) (entry : Entry)

@@ -28,7 +28,7 @@ use Rattle.fm_line.specs.declared.fault.LineFault.TheVariants.{Json, Shape, Clas
 use Rattle.fm_line.specs.declared.fault.LineFault.TheVariants.{Value, TooLong}
 use Rattle.fm_line_laws.specs.Cases.{Form, AReport, ATick, ARepair, AReplacement, AnAcquittal}
 use Rattle.fm_line_laws.specs.Cases.{HasWords, report_words, tick_words, repair_words}
-use Rattle.fm_line_laws.specs.Cases.{replacement_words, acquittal_words, HasForm, in_words, in_json}
+use Rattle.fm_line_laws.specs.Cases.{replacement_words, acquittal_words, HasLineForm, in_words, in_json}
 use Rattle.fm_line_laws.specs.Cases.{HasKeys, report_object, payload_object, tick_object}
 use Rattle.fm_line_laws.specs.Cases.{repair_object, replacement_object, acquittal_object, IsBroken}
 use Rattle.fm_line_laws.specs.Cases.{LacksClass, LacksPath, LacksTime, LacksValue, form_of, Says}
@@ -44,7 +44,7 @@ form_entry (ARepair path moment) = forms.repaired path moment
 form_entry (AReplacement path moment) = forms.replaced path moment
 form_entry (AnAcquittal case moment) = forms.acquit case moment
 
-says_form : (line : List ℕ) (f : Form) → length line ≤ line_limit → HasForm (without_return line) f
+says_form : (line : List ℕ) (f : Form) → length line ≤ line_limit → HasLineForm (without_return line) f
     → Says line (form_entry f)
 unfolding forms.report forms.tick forms.repaired forms.replaced forms.acquit
 says_form line (AReport None p t y) short has = no_class (AReport None p t y) short has tt
@@ -543,7 +543,7 @@ keys_known d = keys_by d (key_count d == 1) (key_count d == 2) (key_count d == 3
 
 -- ---- a line
 
-content_is : (content : List ℕ) (f : Form) → HasForm content f
+content_is : (content : List ℕ) (f : Form) → HasLineForm content f
     → content_entry content ≡ form_entry f
 unfolding content_entry json_entry
 content_is content f (in_words plain has) =
@@ -561,18 +561,18 @@ broken_is content (json, none) =
 
 -- a form, nothing that reads as JSON, or neither
 data Kind (content : List ℕ) : Type 0 where
-  has_form : (f : Form) → HasForm content f → Kind content
+  has_form : (f : Form) → HasLineForm content f → Kind content
   broken : IsBroken content → Kind content
-  neither : (IsBroken content → ⊥) → ((f : Form) → HasForm content f → ⊥)
+  neither : (IsBroken content → ⊥) → ((f : Form) → HasLineForm content f → ⊥)
       → content_entry content ≡ Err Shape → Kind content
 
 only_words : (content : List ℕ) → is_json content ≡ false
-    → ((f : Form) → HasWords (words content) f → ⊥) → (f : Form) → HasForm content f → ⊥
+    → ((f : Form) → HasWords (words content) f → ⊥) → (f : Form) → HasLineForm content f → ⊥
 only_words content plain none f (in_words p has) = none f has
 only_words content plain none f (in_json d json said has) = cc
 
 only_json : (content : List ℕ) (d : Data) → is_json content ≡ true → json_of content ≡ Some d
-    → ((f : Form) → HasKeys d f → ⊥) → (f : Form) → HasForm content f → ⊥
+    → ((f : Form) → HasKeys d f → ⊥) → (f : Form) → HasLineForm content f → ⊥
 only_json content d json said none f (in_words p has) = cc
 only_json content d json said none f (in_json e j s has) = let same : e ≡ d = cc in
     none f (subst (λ (x : Data). HasKeys x f) same has)
@@ -637,14 +637,14 @@ says_by line false is =
 pub says_entry : (line : List ℕ) → Says line (line_entry line)
 says_entry line = says_by line (nat_lt line_limit (length line)) refl
 
-shape_is : (content : List ℕ) → (IsBroken content → ⊥) → ((f : Form) → HasForm content f → ⊥)
+shape_is : (content : List ℕ) → (IsBroken content → ⊥) → ((f : Form) → HasLineForm content f → ⊥)
     → Kind content → content_entry content ≡ Err Shape
 shape_is content unbroken none (has_form f has) = absurd (none f has)
 shape_is content unbroken none (broken b) = absurd (unbroken b)
 shape_is content unbroken none (neither _ _ shape) = shape
 
 of_form : (line : List ℕ) (f : Form) (r : Result Entry LineFault) → length line ≤ line_limit
-    → HasForm (without_return line) f → form_entry f ≡ r → line_entry line ≡ r
+    → HasLineForm (without_return line) f → form_entry f ≡ r → line_entry line ≡ r
 of_form line f r short has is = short_is line short ∙ content_is (without_return line) f has ∙ is
 
 -- and a line says nothing else

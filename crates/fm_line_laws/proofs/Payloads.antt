@@ -17,7 +17,7 @@ use Rattle.fm_line.specs.Printed.{payload_data}
 use Rattle.fm_line_laws.specs.Cases.{Form, AReport}
 use Rattle.fm_line_laws.specs.Cases.{HasWords}
 use Rattle.fm_line_laws.specs.Cases.{report_words, tick_words, repair_words, replacement_words}
-use Rattle.fm_line_laws.specs.Cases.{acquittal_words, HasForm, in_words, in_json, HasKeys}
+use Rattle.fm_line_laws.specs.Cases.{acquittal_words, HasLineForm, in_words, in_json, HasKeys}
 use Rattle.fm_line_laws.specs.Cases.{report_object}
 use Rattle.fm_line_laws.specs.Cases.{payload_object, tick_object, repair_object, replacement_object}
 use Rattle.fm_line_laws.specs.Cases.{acquittal_object, form_of, Says, too_long, no_json, no_form}
@@ -67,7 +67,7 @@ json_read : (line : List ℕ) → IfSome (json_of line) IsRead
 unfolding json_of
 json_read line = text_read (text_of line)
 
-form_source : (content : List ℕ) (f : Form) → HasForm content f → FormSource f
+form_source : (content : List ℕ) (f : Form) → HasLineForm content f → FormSource f
 form_source content f (in_words is has) = words_source (words content) f has
 form_source content f (in_json d is said has) =
     keys_source d f (subst (λ (o : Option Data). IfSome o IsRead) said (json_read content)) has

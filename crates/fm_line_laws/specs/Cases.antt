@@ -70,10 +70,10 @@ pub data HasKeys (d : Data) : Form → Type 0 where
       → HasKeys d (AnAcquittal (case_in (as_str case)) (moment_in moment))
 
 -- the form of a line that has lost its carriage return
-pub data HasForm (content : List ℕ) (form : Form) : Type 0 where
-  in_words : is_json content ≡ false → HasWords (words content) form → HasForm content form
+pub data HasLineForm (content : List ℕ) (form : Form) : Type 0 where
+  in_words : is_json content ≡ false → HasWords (words content) form → HasLineForm content form
   in_json : (d : Data) → is_json content ≡ true → json_of content ≡ Some d → HasKeys d form
-      → HasForm content form
+      → HasLineForm content form
 
 -- it begins as JSON and can't be read as JSON
 abbrev pub IsBroken : List ℕ → Type 0
@@ -125,14 +125,14 @@ pub data Says (line : List ℕ) : Result Entry LineFault → Type 0 where
   too_long : line_limit < length line → Says line (Err TooLong)
   no_json : length line ≤ line_limit → IsBroken (without_return line) → Says line (Err Json)
   no_form : length line ≤ line_limit → (IsBroken (without_return line) → ⊥)
-      → ((form : Form) → HasForm (without_return line) form → ⊥) → Says line (Err Shape)
-  no_class : (form : Form) → length line ≤ line_limit → HasForm (without_return line) form
+      → ((form : Form) → HasLineForm (without_return line) form → ⊥) → Says line (Err Shape)
+  no_class : (form : Form) → length line ≤ line_limit → HasLineForm (without_return line) form
       → LacksClass form → Says line (Err Class)
-  no_path : (form : Form) → length line ≤ line_limit → HasForm (without_return line) form
+  no_path : (form : Form) → length line ≤ line_limit → HasLineForm (without_return line) form
       → LacksPath form → Says line (Err Path)
-  no_time : (form : Form) → length line ≤ line_limit → HasForm (without_return line) form
+  no_time : (form : Form) → length line ≤ line_limit → HasLineForm (without_return line) form
       → LacksTime form → Says line (Err Time)
-  no_value : (form : Form) → length line ≤ line_limit → HasForm (without_return line) form
+  no_value : (form : Form) → length line ≤ line_limit → HasLineForm (without_return line) form
       → LacksValue form → Says line (Err Value)
   entry : (said : Entry) (form : Form) → form_of said ≡ Some form → length line ≤ line_limit
-      → HasForm (without_return line) form → Says line (Ok said)
+      → HasLineForm (without_return line) form → Says line (Ok said)
