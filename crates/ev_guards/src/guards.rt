@@ -56,14 +56,14 @@ impl Model for Guards {
 
 /// Whether the condition of a question holds at a path with the pairs of a payload.
 fn is_met(topo: &Topo, path: &Fmri, props: &[Prop], question: &Question) -> bool
-    ensures { result ≡ guarding.is_met topo.now path.now props.now question.now }
+    ensures { result ≡ guarding.question_holds topo.now path.now props.now question.now }
 {
     holds_for(&question.cond, &question.names, topo, path, props)
 }
 
 /// Whether the condition of one of the questions holds.
 fn is_any_met(topo: &Topo, path: &Fmri, props: &[Prop], questions: &[Question]) -> bool
-    ensures { result ≡ list_any (guarding.is_met topo.now path.now props.now) questions.now }
+    ensures { result ≡ list_any (guarding.question_holds topo.now path.now props.now) questions.now }
 {
     questions
         .iter()

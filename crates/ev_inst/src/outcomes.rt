@@ -29,7 +29,7 @@ pub(crate) enum Outcome {
 
 /// The number at an arrow, `A` being all of so many.
 fn count_of(count: Count, all: usize) -> u64
-    ensures { result ≡ made.count_of count all }
+    ensures { result ≡ made.count_at_arrow count all }
 {
     match count {
         Count::All => all as u64,

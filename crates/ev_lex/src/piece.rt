@@ -23,7 +23,7 @@ pub enum Piece {
 
 /// Whether the byte belongs to a word, before these others.
 fn goes_on(first: u8, others: &[u8]) -> bool
-    ensures { result ≡ spec.goes_on first others.now }
+    ensures { result ≡ spec.is_in_word first others.now }
 {
     is_word_byte(first) || ((first == b'-' || first == b'.') && opens_word(others))
 }
@@ -119,7 +119,7 @@ fn text_piece(rest: &[u8]) -> Option<Piece>
 
 /// Whether the two bytes are punctuation.
 fn is_pair(a: u8, b: u8) -> bool
-    ensures { result ≡ spec.is_pair a b }
+    ensures { result ≡ spec.is_double_sign a b }
 {
     (a == b'-' && b == b'>')
         || (a == b'<' && b == b'=')

@@ -31,7 +31,7 @@ fn is(bytes: &[u8], word: &[u8]) -> bool
 
 /// The bytes of a token.
 fn bytes_of(text: &[u8], token: Token) -> &[u8]
-    ensures { result.now ≡ spec.bytes_of text.now token }
+    ensures { result.now ≡ spec.token_bytes text.now token }
 {
     let from = text.len().min(token.from as usize);
     let rest = &text[from..];
