@@ -18,7 +18,7 @@ use Rattle.dx_explain.specs.Search.{numbers_below}
 use Rattle.dx_explain.specs.Stories.{explains}
 use Rattle.dx_explain.specs.Cases.{cuts_of, blamed}
 use Rattle.dx_explain.specs.CaseLaws.{BlamedIs, BlamedAscends}
-use Rattle.dx_explain.proofs.Telling.{kind_below}
+use Rattle.ev_graph.proofs.KindBelow.{kind_below}
 use Rattle.dx_explain.proofs.Meaning.{explaining}
 use Rattle.dx_explain.proofs.Listed.{ascends_push}
 

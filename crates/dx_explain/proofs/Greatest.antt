@@ -8,7 +8,7 @@ use Rattle.std.proofs.lemmas.Bool.{cases_Bool, and_parts, and_from, or_cases, or
 use Rattle.std.proofs.lemmas.Bool.{or_right, eqb-true, eq-eqb, lt-ltb, both_ways, not-true}
 use Rattle.std.proofs.lemmas.Bool.{not_from_false, not_from_true, and_right}
 use Rattle.ev_incidence.specs.Sets.{NodeSet, is_member, has_mark, IsSubset}
-use Rattle.ev_graph.specs.Kinds.{is_root_node}
+use Rattle.ev_graph.specs.Kinds.{is_root_kind, is_root_node}
 use Rattle.ev_incidence.specs.Wiring.{Wiring}
 use Rattle.ev_graph.specs.Wired.{wiring}
 use Rattle.ev_incidence.specs.Table.{IncidenceValue}
@@ -26,7 +26,7 @@ use Rattle.dx_story.specs.Greatest.{no_other_report}
 use Rattle.dx_explain.specs.Explaining.{may_stay, set_of, FitsGraph, IsPossible}
 use Rattle.dx_story.specs.Greatest.{IsAllowedStory, IsGreatestStory}
 use Rattle.dx_explain.specs.Explaining.{IsExplanation}
-use Rattle.dx_story.proofs.Roots.{root_below}
+use Rattle.ev_graph.proofs.KindBelow.{kind_below}
 
 -- a story with allowed reports is fit, and within what may stay
 module _ (g : GraphValue) (cut : CutsOf) (root : ℕ) (allowed Y : NodeSet)
@@ -161,5 +161,5 @@ module _ (g : GraphValue) (v : IncidenceValue) (h : IsIncidenceOf (length g.node
           (set_of t) in
           subst P same (greatest_at_end v cut steady.incidence root
           (may_stay g.nodes root allowed) s t
-          (omega (arith, root_below g.nodes root kind, h.nodes)) steady over settles.shrinks
+          (omega (arith, kind_below is_root_kind g.nodes root kind, h.nodes)) steady over settles.shrinks
           settles.keeps low high)

@@ -8,7 +8,7 @@ use Rattle.std.proofs.lemmas.Bool.{cases_Bool, cases_eq, cases_lt, and_parts, an
 use Rattle.std.proofs.lemmas.Bool.{or_left, or_right, eq-eqb, eqb-true, ltb-true, false≢true}
 use Rattle.std.proofs.lemmas.Bool.{both_ways, not-true, not_from_false, false_from_ne_true}
 use Rattle.ev_incidence.specs.Sets.{NodeSet, is_member, IsSubset}
-use Rattle.ev_graph.specs.Kinds.{is_root_node, is_report_node}
+use Rattle.ev_graph.specs.Kinds.{is_root_kind, is_root_node, is_report_node}
 use Rattle.ev_incidence.specs.Wiring.{Wiring}
 use Rattle.ev_graph.specs.Wired.{causes_if_any, effects_if_any}
 use Rattle.ev_graph.specs.Rules.{is_enough, is_met, IsProduced, IsShown}
@@ -19,7 +19,7 @@ use Rattle.ev_incidence.proofs.Occurrences.{filter_in, all_in, all_from}
 use Rattle.dx_story.specs.Story.{IsStory}
 use Rattle.dx_sets.specs.Engine.{CutsOf}
 use Rattle.dx_story.specs.Greatest.{no_other_report}
-use Rattle.dx_story.proofs.Roots.{root_below}
+use Rattle.ev_graph.proofs.KindBelow.{kind_below}
 use Rattle.dx_explain.specs.Search.{every_below, some_below, IsSetBelow}
 use Rattle.dx_explain.specs.Stories.{wiring_with, is_no_other_root, is_given, shows_all, is_fit}
 use Rattle.dx_explain.specs.Stories.{is_story, reports_within, has_just}
@@ -175,7 +175,7 @@ module _ (g : GraphValue) (cut : CutsOf) (root : ℕ) (X : NodeSet) where
   -- each member of a story is a node
   pub story_below : IsGraph g → IsStory g.nodes w root X → IsSetBelow n X
   story_below graph s e here = elim (cases_eq e root) [
-    | inl same ↦ omega (arith, root_below g.nodes root s.root_kind, same)
+    | inl same ↦ omega (arith, kind_below is_root_kind g.nodes root s.root_kind, same)
     | inr ne ↦
         let c = s.caused e here ne in
         let r = graph.counted.kindred.numbered.in_range in
