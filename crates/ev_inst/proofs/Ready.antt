@@ -1,8 +1,8 @@
 -- The nodes of a checked file are those that its patterns ask for.
-use Rattle.std.proofs.Common.{◌≡◌, ◌≤◌, length, ℕ, true, false, List, map}
+use Rattle.std.proofs.Common.{◌≡◌, ◌<◌, ◌≤◌, ◌^◌, length, ℕ, true, false, List, map}
 use Rattle.std.proofs.Common.{slice_get, Some}
 use Rattle.std.proofs.Common.{sym, ap, ◌∙◌, subst, inl, inr, arith}
-use Rattle.ev_graph.specs.Lawful.{GraphValue}
+use Rattle.ev_graph.specs.Lawful.{GraphValue, IsGraph}
 use Rattle.ev_inst.specs.Instances.{IsMadeOf}
 use Rattle.ev_inst.specs.declared.gathered.Gathered.{Gathered}
 use Rattle.fm_topo.specs.Topology.{Topology}
@@ -72,12 +72,12 @@ module _ (f : CheckedFile) (topology : Topology) (nodes : List Node) (engines : 
   props_known lawful = nodes_known f topology nodes engines placed.nodes_are lawful
 
   pub made_is : (g : Gathered) → IsGathered topology nodes (map view_prop f.props) g
-      → (graph : GraphValue) → graph ≡ record {
+      → g.skipped < 2 ^ 64 → (graph : GraphValue) → graph ≡ record {
         nodes = nodes;
         engines = engines;
         instances = g.instances.items;
-      } → IsMadeOf f topology (record { graph = graph; skipped = g.skipped })
-  made_is g gathered graph is =
+      } → IsGraph graph → IsMadeOf f topology (record { graph = graph; skipped = g.skipped })
+  made_is g gathered fits graph is is_graph =
       let to = gathered.to in
       let room = to.room in
       let whole : IsMadeOf f topology (record {
@@ -93,6 +93,9 @@ module _ (f : CheckedFile) (topology : Topology) (nodes : List Node) (engines : 
           count = to.skipped_are;
         };
         few = omega (arith, room);
+        is_graph = subst IsGraph is is_graph;
+        few_engines = placed.few_engines;
+        skipped_fits = fits;
       } in
       subst (λ (v : GraphValue). IsMadeOf f topology (record { graph = v; skipped = g.skipped }))
       (sym is) whole

@@ -1,9 +1,9 @@
 -- The graph of a rule file over a topology, and the number of the candidates that are skipped.
-use Rattle.std.specs.Prelude.{◌≡◌, ◌<◌, ◌≤◌, ◌+◌, ◌++◌, length, ℕ, List, [], ◌∷◌, map, filter}
-use Rattle.std.specs.Prelude.{count_by, sum_by}
+use Rattle.std.specs.Prelude.{◌≡◌, ◌<◌, ◌≤◌, ◌+◌, ◌^◌, ◌++◌, length, ℕ, List, [], ◌∷◌, map}
+use Rattle.std.specs.Prelude.{count_by, filter, sum_by}
 use Rattle.fm_topo.specs.Topology.{Topology}
 use Rattle.ev_check.specs.CheckedFile.{CheckedFile, Linking, view_prop}
-use Rattle.ev_graph.specs.Lawful.{GraphValue, IsCountedGraph}
+use Rattle.ev_graph.specs.Lawful.{GraphValue, IsCountedGraph, IsGraph}
 use Rattle.ev_incidence.specs.Wiring.{ReachesItself}
 use Rattle.ev_graph.specs.Wired.{wiring}
 use Rattle.ev_graph.specs.declared.nodes.Node.{Node}
@@ -69,10 +69,14 @@ pub record HaveMoreLinks (topology : Topology) (ls : List Linking) (limit : ℕ)
   pub some : AreSomeCandidatesOf topology ls candidates
   pub many : limit < links_of_all topology ls candidates
 
--- the graph of a rule file, whose candidates have no more links than 1,048,576
+-- The graph of a rule file, whose candidates have no more links than 1,048,576. It is one without
+-- a cycle and has fewer than 2 ^ 32 engines, and fewer than 2 ^ 64 candidates are skipped.
 pub record IsMadeOf (f : CheckedFile) (topology : Topology) (made : Made) : Type 0 where
   pub graph : IsGraphOf f topology made.graph made.skipped
   pub few : links_of_all topology (map view_prop f.props) graph.candidates ≤ 1048576
+  pub is_graph : IsGraph made.graph
+  pub few_engines : length made.graph.engines < 2 ^ 32
+  pub skipped_fits : made.skipped < 2 ^ 64
 
 -- why there is none: there are more events than 65,536; or there are not, and the candidates have
 -- more links than 1,048,576

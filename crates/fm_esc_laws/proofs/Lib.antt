@@ -1,2 +1,3 @@
 mod OneText
+mod Spelled
 mod Listed

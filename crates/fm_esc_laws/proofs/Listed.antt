@@ -15,6 +15,7 @@ use Rattle.fm_esc.specs.Compiling.{IsCompiled}
 use Rattle.fm_esc.specs.InputListing.{IsListed}
 use Rattle.ev_listing.specs.declared.form.GraphForm.TheVariants.{Listed as AsLines, Compiled}
 use Rattle.fm_esc_laws.proofs.OneText.{text_given, text_one}
+use Rattle.fm_esc_laws.proofs.Spelled.{compiled_spelled}
 use Rattle.fm_esc_laws.specs.ToldTexts.{TellTexts}
 
 -- a file begins its bytes, whatever is behind them
@@ -91,14 +92,13 @@ module _ {S : Type 0} (g : Ghosts S) where
   -- the text of the files that are listed is the one that is put of their rules
   pub lines_same : (old new other : Given S) (text lines listed : List ℕ) (input rest : S)
       (bad : Option ℕ) → TellTexts g old → (put : IsCompiled g Compiled old new text)
-      → All IsSpelledFile put.mades → IsCompiled g AsLines old other lines
-      → g.left input ≡ Some text → IsListed g input rest listed bad
-      → (bad ≡ None) × (listed ≡ lines)
-  lines_same old new other text lines listed input rest bad told put spelled said e is =
+      → IsCompiled g AsLines old other lines → g.left input ≡ Some text
+      → IsListed g input rest listed bad → (bad ≡ None) × (listed ≡ lines)
+  lines_same old new other text lines listed input rest bad told put said e is =
       let bytes : is.bytes ≡ text =
       text_given g (2 ^ 40) input rest text is.bytes e is.gave is.within in
-      let only = files_only put.mades is.mades is.bytes bad spelled (bytes ∙ put.text_is) is.files
-      in
+      let only = files_only put.mades is.mades is.bytes bad
+      (compiled_spelled g Compiled old new text put) (bytes ∙ put.text_is) is.files in
       let again : IsCompiled g AsLines old new (listing put.mades) = record {
         got = put.got;
         read = put.read;

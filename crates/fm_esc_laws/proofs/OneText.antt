@@ -19,7 +19,7 @@ use Rattle.ev_listing.specs.declared.form.GraphForm.{GraphForm}
 use Rattle.fm_esc_laws.specs.ToldTexts.{AreFilesOf, TellTexts}
 
 -- ---- rule files of the same texts come to the same
-sound_of : (text : List ℕ) (f : CheckedFile) → IsRuleFile text f → IsSound f
+pub sound_of : (text : List ℕ) (f : CheckedFile) → IsRuleFile text f → IsSound f
 sound_of text f h = record {
   statements = h.tree.statements;
   checked = h.passes;

@@ -28,12 +28,17 @@ pub fn told_sources_compile_to_one_text<S: Source>()
         → IsCompiled S.Source form old other more → text ≡ more }
 {}
 
+/// What the rule files of sources come to always has a spelling.
+pub fn compiled_files_are_spelled<S: Source>()
+    ensures { (form : GraphForm) (old new : Given S) (text : List ℕ)
+        (put : IsCompiled S.Source form old new text) → All IsSpelledFile put.mades }
+{}
+
 /// The text that is compiled of sources that tell their bytes lists, to its end, as the lines that
-/// are put of the same sources, where what it was compiled of has a spelling.
+/// are put of the same sources.
 pub fn compiled_text_lists_as_its_rules<S: Source>()
     ensures { (old new other : Given S) (text lines listed : List ℕ) (input rest : S)
-        (bad : Option ℕ) → TellTexts S.Source old
-        → (put : IsCompiled S.Source Compiled old new text) → All IsSpelledFile put.mades
+        (bad : Option ℕ) → TellTexts S.Source old → IsCompiled S.Source Compiled old new text
         → IsCompiled S.Source Listed old other lines → S.left input ≡ Some text
         → IsListed S.Source input rest listed bad → (bad ≡ None) × (listed ≡ lines) }
 {}

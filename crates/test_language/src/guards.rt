@@ -2,13 +2,13 @@
 use crate::checks::checked;
 use crate::conditions::bank_props;
 use crate::parts::topology;
-use crate::words::{numbers_text, two_in};
+use crate::words::{numbers_in, numbers_text, two_in};
 use ev_check::Checked;
 use ev_guards::Guards;
 use ev_inst::{instantiate, make_guards};
 use fm_topo::Topo;
 use std::alloc::Global;
-use test_words::ScriptFault;
+use test_words::{ScriptFault, first_word, small_in};
 
 /// The guards of a rule file over some parts.
 fn guards_of(alloc: Global, file: &Checked, topo: Topo) -> Result<Guards, ScriptFault> {
@@ -41,26 +41,28 @@ pub fn guarded(
     Ok(format!(in alloc; "{answer}")?)
 }
 
-/// The instances whose link to a node a payload with this bank breaks.
+/// The instances whose link to a node a payload with these banks breaks.
 fn broken_text(
     alloc: Global,
     guards: &Guards,
     node: u32,
-    bank: u32,
+    banks: &[u32],
 ) -> Result<String, ScriptFault> {
-    let props = bank_props(alloc, &[bank])?;
+    let props = bank_props(alloc, banks)?;
     let found = guards.broken_by(alloc, node, &props)?;
     numbers_text(alloc, &found)
 }
 
-/// The same of rules over some parts, `NODE BANK`.
+/// The same of rules over some parts, `NODE BANK ..`.
 pub fn breaks(
     alloc: Global,
     rules: &[u8],
     parts: &[u8],
     words: &str,
 ) -> Result<String, ScriptFault> {
-    let (node, bank) = two_in(words)?;
+    let (node, rest) = first_word(words);
+    let node = small_in(node)?;
+    let banks = numbers_in(alloc, rest)?;
     let guards = guards_in(alloc, rules, parts)?;
-    broken_text(alloc, &guards, node, bank)
+    broken_text(alloc, &guards, node, &banks)
 }

@@ -20,4 +20,4 @@ pub returns : goal.returns
 returns c =
     made_is c.args.checked.now c.args.topo.now c.args.placed.nodes.items
     c.args.placed.engines.items c.requires.placed c.args.gathered c.requires.gathered
-    c.in_ok-graph.graph c.in_ok-graph.ensures.value
+    (omega arith) c.in_ok-graph.graph c.in_ok-graph.ensures.value c.in_ok-graph.ensures.graph

@@ -1,0 +1,13 @@
+mod Each
+mod Events
+mod Sharing
+mod Opening
+mod Turning
+mod Acting
+mod Initial
+mod Folding
+mod Explained
+mod Firing
+mod Observed
+mod Small
+mod Books

@@ -1,0 +1,5 @@
+pub mod Reported
+pub mod ByReports
+pub mod ObservedAlong
+pub mod ObservedBook
+pub mod SmallReports
