@@ -101,7 +101,8 @@ loaded_one r f p is same holds = record {
   graphs = is.graphs;
 }
 
-loaded_all : (rules : List Rules) (fresh : List ModuleState) (states : List (List ℕ))
+-- fresh modules of such rules, loaded with lawful states
+pub loaded_all : (rules : List Rules) (fresh : List ModuleState) (states : List (List ℕ))
     (modules : List ModuleState) → AllZip IsDiagnoserOf rules fresh
     → AreLoaded fresh states modules → AllZip IsDiagnoserOf rules modules
 loaded_all [] [] [] [] are loaded = tt
@@ -135,17 +136,29 @@ all_drop zero es are = are
 all_drop (suc n) [] are = tt
 all_drop (suc n) (e ∷ es) are = all_drop n es are.1
 
+-- the modules of the book
+pub modules_on_disks : (rules : List Rules) (fresh : List ModuleState) (c : Contents)
+    (k : StoreBook) → AllZip IsDiagnoserOf rules fresh → ReadsAsBook fresh c k
+    → AllZip IsDiagnoserOf rules k.book.modules
+modules_on_disks rules fresh c k are reads =
+    says_all rules fresh reads.says.found reads.says.checkpoint k.book.modules are reads.says.says
+
+-- its entries, and more behind them
+pub entries_on_disks : (fresh : List ModuleState) (c : Contents) (k : StoreBook)
+    (more : List Entry) → ReadsAsBook fresh c k → All IsSpelled more
+    → All IsSpelled (with_entries k.book more).entries
+entries_on_disks fresh c k more reads spelled =
+    let own : AllByRecursion IsSpelled k.book.entries =
+    subst (AllByRecursion IsSpelled) (sym reads.entries_are)
+    (all_drop (k.book.base - reads.first) reads.entries
+    (each_spelled reads.active.payloads reads.entries reads.active.spelled)) in
+    All-from_recursion IsSpelled (k.book.entries ++ more)
+    (all_append IsSpelled k.book.entries more own (recursion_from_All IsSpelled more spelled))
+
 pub exact_on_disks : (rules : List Rules) (fresh : List ModuleState) (c : Contents) (k : StoreBook)
     (more : List Entry) → AllZip IsDiagnoserOf rules fresh → ReadsAsBook fresh c k
     → next_number (with_entries k.book more) ≤ 2 ^ 46 → All IsSpelled more
     → IsExactBook rules (with_entries k.book more)
 exact_on_disks rules fresh c k more are reads few spelled =
-    let own : AllByRecursion IsSpelled k.book.entries =
-    subst (AllByRecursion IsSpelled) (sym reads.entries_are)
-    (all_drop (k.book.base - reads.first) reads.entries
-    (each_spelled reads.active.payloads reads.entries reads.active.spelled)) in
-    exact_book rules (with_entries k.book more)
-    (says_all rules fresh reads.says.found reads.says.checkpoint k.book.modules are reads.says.says)
-    few
-    (All-from_recursion IsSpelled (k.book.entries ++ more)
-    (all_append IsSpelled k.book.entries more own (recursion_from_All IsSpelled more spelled)))
+    exact_book rules (with_entries k.book more) (modules_on_disks rules fresh c k are reads) few
+    (entries_on_disks fresh c k more reads spelled)

@@ -10,4 +10,4 @@ mod Explained
 mod Firing
 mod Observed
 mod Small
-mod Books
+pub mod Books

@@ -1,3 +1,3 @@
 mod OneText
-mod Spelled
+pub mod Spelled
 mod Listed

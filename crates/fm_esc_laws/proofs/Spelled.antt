@@ -222,7 +222,7 @@ module _ (topo : Topology) (lawful : IsTopology topo) where
         event_named h.is.spec.engine engine.name
         (engine_at text f rules h.number h.is.spec h.is.declared) h.at
 
-    made_spelled : (made : Made) → IsMadeOf f topo made → IsSpelledFile made
+    pub made_spelled : (made : Made) → IsMadeOf f topo made → IsSpelledFile made
     made_spelled made is = record {
       graph = is.is_graph;
       nodes_are = all_from IsFileNode made.graph.nodes (λ i node s.

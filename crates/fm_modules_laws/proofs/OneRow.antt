@@ -74,10 +74,14 @@ row_one conf row other a b =
     subst (λ (t : Topology). EachHas (TextMakes t) conf.rules other) (sym topo) b.files in
     each_one (TextMakes a.topo) (text_one a.topo) conf.rules row other a.files files
 
+pub rows_one : (confs : List Conf) (rows others : List (List Configuration))
+    → EachHas ConfMakes confs rows → EachHas ConfMakes confs others → rows ≡ others
+rows_one confs rows others a b = each_one ConfMakes row_one confs rows others a b
+
 pub modules_one : (confs : List Conf) (modules others : List ModuleState)
     → AreModulesOf confs modules → AreModulesOf confs others → modules ≡ others
 modules_one confs modules others a b =
-    let rows : a.rows ≡ b.rows = each_one ConfMakes row_one confs a.rows b.rows a.make b.make in
+    let rows : a.rows ≡ b.rows = rows_one confs a.rows b.rows a.make b.make in
     a.modules_are ∙ ap (first_modules (file_count confs)) rows ∙ sym b.modules_are
 
 -- a rule file has the graph that it makes of a module

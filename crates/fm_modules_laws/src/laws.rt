@@ -10,12 +10,13 @@ ghost use Rattle.fm_entry.specs.Entries.{IsSpelled};
 ghost use Rattle.fm_entry.specs.declared.entry.Entry.{Entry};
 ghost use Rattle.fm_logs.specs.Contents.{Contents};
 ghost use Rattle.fm_logs.specs.ReadsAsBook.{ReadsAsBook};
-ghost use Rattle.fm_logs.specs.StoreBook.{StoreBook};
+ghost use Rattle.fm_logs.specs.StoreBook.{StoreBook, with_book};
 ghost use Rattle.fm_saved.specs.declared.conf.Conf.{Conf};
 ghost use Rattle.dx_state.specs.Configured.{Configuration};
 ghost use Rattle.fm_modules.specs.KeptTexts.{ConfMakes};
 ghost use Rattle.fm_modules.specs.Modules.{AreModulesOf};
 ghost use Rattle.fm_sources.specs.Rules.{IsRuleFile};
+ghost use Rattle.fm_store.specs.StoreLeft.{ReadsLike};
 ghost use Rattle.fm_store.specs.StoreOf.{StoreOf, StoreStandsFor};
 ghost use Rattle.fm_topo.specs.Topology.{topology_of};
 ghost use Rattle.fm_modules_laws.specs.ExactSuspects.{HasExactSuspects};
@@ -60,5 +61,22 @@ pub fn stores_have_exact_suspects<D: Disk, M>()
     ensures { (fresh : List ModuleState) (store : StoreOf D M) (k : StoreBook) (more : List Entry)
         (made : AreModulesOf k.confs fresh) → StoreStandsFor D.Disk fresh store k
         → next_number (with_entries k.book more) ≤ 2 ^ 46 → All IsSpelled more
+        → HasExactSuspects made (with_entries k.book more) }
+{}
+
+/// So it has where contents read as the book, whether a checkpoint says the states of its modules
+/// or they are as they were made.
+pub fn contents_have_exact_suspects()
+    ensures { (fresh : List ModuleState) (c : Contents) (k : StoreBook) (more : List Entry)
+        (made : AreModulesOf k.confs fresh) → ReadsAsBook fresh c k
+        → next_number (with_entries k.book more) ≤ 2 ^ 46 → All IsSpelled more
+        → HasExactSuspects made (with_entries k.book more) }
+{}
+
+/// And so it has with the entries that an image has more, which reads like the book with these.
+pub fn images_have_exact_suspects()
+    ensures { (fresh : List ModuleState) (c image : Contents) (k : StoreBook) (more : List Entry)
+        (made : AreModulesOf k.confs fresh) → ReadsAsBook fresh c k
+        → ReadsLike fresh (with_book k (with_entries k.book more)) image → All IsSpelled more
         → HasExactSuspects made (with_entries k.book more) }
 {}
