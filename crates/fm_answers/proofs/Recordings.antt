@@ -2,12 +2,13 @@
 use Rattle.std.proofs.Common.{◌≡◌, ℕ, Bool, true, false, List, [], ◌∷◌, length}
 use Rattle.std.proofs.Common.{None, Some, Result, Ok, Err, refl, sym, ◌∙◌, ap, subst}
 use Rattle.std.proofs.Common.{append-nil}
+use Rattle.std.proofs.lemmas.List.Elements.{All-cons, All-nil}
 use Rattle.fm_answers.specs.Refusing.{TakeStops}
 use Rattle.fm_answers.specs.Stops.{of_store}
 use Rattle.fm_answers.specs.declared.stops.Stop.TheVariants.{Full}
 use Rattle.fm_core.specs.Book.{ModuleState, IsAdmitted}
 use Rattle.fm_core.proofs.Runs.{lawful_accepted}
-use Rattle.fm_entry.specs.Entries.{is_reload}
+use Rattle.fm_entry.specs.Entries.{IsSpelled, is_reload}
 use Rattle.fm_entry.specs.declared.entry.Entry.{Entry}
 use Rattle.fm_entry.specs.declared.entry.Entry.TheVariants.{Reload}
 use Rattle.fm_logs.specs.LogsOf.{LogsOf, TakesEntry, AcceptDoes, name_of_two}
@@ -110,6 +111,8 @@ module _ {D M : Type 0} (g : Ghosts D) where
     cursors_are = ap (λ (l : LogsOf D). l.cursors) takes.logs_are;
     figures_are = figures_by old new (ap (λ (l : LogsOf D). l.flt.first) takes.logs_are) base
         (ap (λ (l : LogsOf D). l.second) takes.logs_are);
+    spelled = All-cons IsSpelled e [] admitted.spelled (All-nil IsSpelled);
+    last_spelled = tt;
     logs = takes.keeps;
     book = λ fresh k st. (on_book fresh k st (lawful_with k e st.lawful admitted)).stands;
   }
@@ -134,6 +137,8 @@ module _ {D M : Type 0} (g : Ghosts D) where
         entries_are = sym (append-nil old.logs.entries);
         cursors_are = refl;
         figures_are = refl;
+        spelled = All-nil IsSpelled;
+        last_spelled = tt;
         logs = (λ older records keep. keep, full);
         book = λ fresh k st. subst (StoreStandsFor g fresh old) (sym (with_none k)) st;
       })
@@ -154,6 +159,8 @@ module _ {D M : Type 0} (g : Ghosts D) where
         cursors_are = ap (λ (l : LogsOf D). l.cursors) closes.logs_are;
         figures_are = figures_by old new (ap (λ (l : LogsOf D). l.flt.first) closes.logs_are) base
             second;
+        spelled = All-nil IsSpelled;
+        last_spelled = admitted.spelled;
         logs = tt;
         book = λ fresh k st.
             subst (λ x. EachLeft g new (ReadsLikeEither fresh x (store_accepted k e)))

@@ -1,10 +1,11 @@
 -- What becomes of a store that takes entries.
 use Rattle.std.specs.Prelude.{◌≡◌, ℕ, ◌+◌, ◌<◌, ◌^◌, List, [], ◌∷◌, ◌++◌, length, map, Some, None}
+use Rattle.std.specs.Prelude.{All}
 use Rattle.std.specs.declared.option.Option.{Option}
 use Rattle.fm_answers.specs.declared.stops.Stop.{Stop}
 use Rattle.fm_answers.specs.declared.stops.Stop.TheVariants.{Disk, Full}
 use Rattle.fm_core.specs.Book.{ModuleState, with_entries}
-use Rattle.fm_entry.specs.Entries.{entry_bytes}
+use Rattle.fm_entry.specs.Entries.{IsSpelled, entry_bytes}
 use Rattle.fm_entry.specs.declared.entry.Entry.{Entry}
 use Rattle.fm_entry.specs.declared.spoken.Spoken.{Spoken}
 use Rattle.fm_journal.specs.Causes.{refused}
@@ -77,6 +78,11 @@ BookLeft g fresh new k entries (Some (Full kind, entry)) =
     StoreStandsFor g fresh new (store_with k entries)
 BookLeft g fresh new k entries _ = ⊥
 
+-- an entry at which a disk failed has a spelling
+abbrev pub LastIsSpelled : Option (Stop × Entry) → Type 0
+LastIsSpelled (Some (Disk, entry)) = IsSpelled entry
+LastIsSpelled _ = Unit {0}
+
 -- These entries were taken by the store, in order, and then perhaps one was refused.
 pub record Recorded {D M : Type 0} (g : Ghosts D) (old new : StoreOf D M) (entries : List Entry)
     (last : Option (Stop × Entry)) : Type 0 where
@@ -85,6 +91,8 @@ pub record Recorded {D M : Type 0} (g : Ghosts D) (old new : StoreOf D M) (entri
   pub entries_are : new.logs.entries ≡ old.logs.entries ++ entries
   pub cursors_are : new.logs.cursors ≡ old.logs.cursors
   pub figures_are : figures_of new ≡ figures_of old
+  pub spelled : All IsSpelled entries
+  pub last_spelled : LastIsSpelled last
   pub logs : LogsLeft g old.logs new.logs last
   pub book : (fresh : List ModuleState) (k : StoreBook) → StoreStandsFor g fresh old k
       → BookLeft g fresh new k entries last

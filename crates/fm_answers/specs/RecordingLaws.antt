@@ -2,9 +2,11 @@
 use Rattle.std.proofs.Common.{◌≡◌, ◌+◌, List, [], ◌∷◌, ◌++◌, length, Option, Some}
 use Rattle.std.proofs.Common.{None, refl, sym, ◌∙◌, ap, subst, arith, append_assoc, append-nil}
 use Rattle.std.proofs.Common.{length-append}
+use Rattle.std.proofs.lemmas.List.Elements.{All-append, All-nil}
 use Rattle.fm_answers.specs.declared.stops.Stop.{Stop}
 use Rattle.fm_answers.specs.declared.stops.Stop.TheVariants.{Disk, Full}
 use Rattle.fm_core.specs.Book.{ModuleState}
+use Rattle.fm_entry.specs.Entries.{IsSpelled}
 use Rattle.fm_entry.specs.declared.entry.Entry.{Entry}
 use Rattle.fm_logs.specs.StoreBook.{StoreBook, with_book}
 use Rattle.fm_outer.specs.Failures.{Rose}
@@ -42,6 +44,8 @@ recorded_none g store = record {
   entries_are = sym (append-nil store.logs.entries);
   cursors_are = refl;
   figures_are = refl;
+  spelled = All-nil IsSpelled;
+  last_spelled = tt;
   logs = λ older records keep. keep;
   book = λ fresh k st. subst (StoreStandsFor g fresh store) (sym (with_none k)) st;
 }
@@ -87,6 +91,8 @@ module _ {D M : Type 0} (g : Ghosts D) where
         ∙ append_assoc a.logs.entries es fs;
     cursors_are = then.cursors_are ∙ first.cursors_are;
     figures_are = then.figures_are ∙ first.figures_are;
+    spelled = All-append IsSpelled es fs first.spelled then.spelled;
+    last_spelled = then.last_spelled;
     logs = logs_on a b c last first.logs then.logs;
     book = λ fresh k st. book_on fresh c k es fs last
         (then.book fresh (store_with k es) (first.book fresh k st));

@@ -6,7 +6,9 @@ use Rattle.std.proofs.Common.{Ok, Err, refl, sym, ◌∙◌, ap, subst, arith, a
 use Rattle.std.specs.Prelude.{MatchResult}
 use Rattle.std.specs.Io.KnownBytes.{Appends, Consumes, IsAtEnd}
 use Rattle.std.specs.Result.{IfErr, OnOk}
+use Rattle.std.specs.List.{All}
 use Rattle.std.proofs.lemmas.List.{length-map}
+use Rattle.std.proofs.lemmas.List.Elements.{All-append, All-cons, All-nil}
 use Rattle.fm_answers.specs.Accounts.{Accounts}
 use Rattle.fm_answers.specs.StreamsAt.{SourceAt, SinkAt}
 use Rattle.fm_answers.specs.Running.{RanAll, RanUntil}
@@ -15,8 +17,9 @@ use Rattle.fm_answers.specs.declared.stops.Stop.{Stop}
 use Rattle.fm_answers.specs.declared.stops.Stop.TheVariants.{Read, Write, Disk, Full}
 use Rattle.fm_answers.proofs.Weaker.{all_weaker, until_weaker}
 use Rattle.fm_answers.specs.Recording.{payloads_of, store_with, FullCause, BookLeft, Recorded}
+use Rattle.fm_answers.specs.Recording.{LastIsSpelled}
 use Rattle.fm_core.specs.Book.{ModuleState}
-use Rattle.fm_entry.specs.Entries.{entry_bytes}
+use Rattle.fm_entry.specs.Entries.{IsSpelled, entry_bytes}
 use Rattle.fm_entry.specs.declared.entry.Entry.{Entry}
 use Rattle.fm_init.specs.Making.{AreFirstModules}
 use Rattle.fm_journal.specs.Causes.{refused}
@@ -57,7 +60,9 @@ use Rattle.fm_store.proofs.OpeningLaws.{reads_as_book}
 use Rattle.fm_store.proofs.StoreReads.{left_active, says_left, store_reads}
 use Rattle.fm_top.specs.Accepting.{AcceptRan, AcceptedAll, AcceptedUntil, NotOpened, OpeningStops}
 use Rattle.fm_top.specs.Accepting.{DisksAccount, Grew, ImageReads, LimitIs}
+use Rattle.fm_top.specs.Exact.{ReadsExact}
 use Rattle.fm_top.specs.Kept.{BookAt}
+use Rattle.fm_top.proofs.Exactness.{reads_exact}
 use Rattle.fm_top.specs.Outside.{disks_at}
 use Rattle.fm_top.proofs.SixDisks.{told_all, images_all, all_only_read, rose_any, none_counts}
 
@@ -177,15 +182,31 @@ module _ {D M : Type 0} (g : Ghosts D)
       }
   limit_of fresh store now k c es (Some (_, entry)) st left went = tt
 
-  images_read : (fresh : List ModuleState) (now : StoreOf D M) (k : StoreBook) (es : List Entry)
-      (last : Option (Stop × Entry)) (image : Contents) → BookLeft g fresh now k es last
-      → StoreIsLeft g now image → ImageReads fresh k es last image
-  images_read fresh now k es None image stands left =
-      store_reads g fresh now (store_with k es) stands image left
-  images_read fresh now k es (Some (Disk, entry)) image either left = either image left
-  images_read fresh now k es (Some (Full kind, entry)) image stands left =
-      store_reads g fresh now (store_with k es) stands image left
-  images_read fresh now k es (Some (_, entry)) image none left = absurd none
+  -- an image of a store that stands for the book with these entries
+  stands_read : (told : Contents) (stood : BookAt told) (now : StoreOf D M) (es : List Entry)
+      (image : Contents) → All IsSpelled es
+      → StoreStandsFor g stood.fresh now (store_with stood.book es) → StoreIsLeft g now image
+      → ReadsExact stood es image
+  stands_read told stood now es image spelled stands left =
+      reads_exact told stood es image spelled
+      (store_reads g stood.fresh now (store_with stood.book es) stands image left)
+
+  images_read : (told : Contents) (stood : BookAt told) (now : StoreOf D M) (es : List Entry)
+      (last : Option (Stop × Entry)) (image : Contents) → All IsSpelled es → LastIsSpelled last
+      → BookLeft g stood.fresh now stood.book es last → StoreIsLeft g now image
+      → ImageReads stood es last image
+  images_read told stood now es None image spelled one stands left =
+      stands_read told stood now es image spelled stands left
+  images_read told stood now es (Some (Disk, entry)) image spelled one either left =
+      elim (either image left) [
+        | inl without ↦ inl (reads_exact told stood es image spelled without)
+        | inr within ↦ inr (reads_exact told stood (es ++ entry ∷ []) image
+            (All-append IsSpelled es (entry ∷ []) spelled
+            (All-cons IsSpelled entry [] one (All-nil IsSpelled))) within)
+      ]
+  images_read told stood now es (Some (Full kind, entry)) image spelled one stands left =
+      stands_read told stood now es image spelled stands left
+  images_read told stood now es (Some (_, entry)) image spelled one none left = absurd none
 
   -- the store stands for the book that the contents read as
   abbrev pub StandsAt : StoreOf D M → Contents → Type 0
@@ -203,8 +224,8 @@ module _ {D M : Type 0} (g : Ghosts D)
       record {
         stood = stood;
         numbered = λ i. st.base_is i + length (st.entries_are i);
-        left = λ image leaves. images_read stood.fresh now stood.book es last image
-            (went.book stood.fresh stood.book st)
+        left = λ image leaves. images_read told stood now es last image went.spelled
+            went.last_spelled (went.book stood.fresh stood.book st)
             (λ name. subst (λ (d : D). g.images d (content_named name image)) (sym (are name))
             (images_all g disks_now image leaves name));
         limit = limit_of stood.fresh store now stood.book told es last st

@@ -21,6 +21,7 @@ use Rattle.fm_top.specs.Order.{Goes, looks, world_of}
 use Rattle.fm_top.specs.Outside.{Outside, counts_of}
 use Rattle.fm_top.proofs.Doing.{Rests, quiet_counts, rests_put, unopened}
 use Rattle.fm_top.proofs.Escs.{text_caused}
+use Rattle.fm_top.proofs.Exactness.{exact_before}
 use Rattle.fm_top.proofs.SourceFaults.{ok_no_err}
 use Rattle.fm_top.proofs.Going.{put_goes, unopened_goes, worked_goes}
 use Rattle.fm_top.proofs.Texts.{like_drained}
@@ -96,6 +97,7 @@ module _ (asked : AdminCommand) (before after : Outside) where
         each = λ book. record {
           left = λ image leaves.
               like_after asked book.fresh book.book image ((holds.each book).left image leaves);
+          exact = exact_before c book;
         };
       })
   tell_headline ran unread (inr untold) =

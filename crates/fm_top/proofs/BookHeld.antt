@@ -3,16 +3,20 @@ use Rattle.std.proofs.Common.{◌≡◌, ◌⊎◌, inl, inr, List, true, Result
 use Rattle.std.specs.Result.{MatchResult}
 use Rattle.std.specs.Io.KnownBytes.{Appends}
 use Rattle.fm_answers.specs.Answers.{answers, entries_of}
-use Rattle.fm_answers.specs.Running.{Line}
 use Rattle.fm_answers.specs.declared.stops.Stop.{Stop}
 use Rattle.fm_answers.specs.declared.stops.Stop.TheVariants.{Act}
 use Rattle.fm_answers.specs.Recording.{store_with}
-use Rattle.fm_core.specs.Book.{ModuleState, next_number}
+use Rattle.fm_core.specs.Book.{ModuleState, next_number, with_entries}
+use Rattle.fm_entry.specs.declared.entry.Entry.{Entry}
 use Rattle.fm_line.specs.Lines.{lines_of}
 use Rattle.fm_logs.specs.Contents.{Contents}
 use Rattle.fm_logs.specs.StoreBook.{StoreBook}
+use Rattle.fm_modules.specs.Modules.{AreModulesOf}
+use Rattle.fm_modules_laws.proofs.Exact.{exact_again}
 use Rattle.fm_modules_laws.proofs.OneBook.{books_one}
+use Rattle.fm_modules_laws.specs.ExactSuspects.{HasExactSuspects}
 use Rattle.fm_store.specs.StoreLeft.{ReadsLike}
+use Rattle.fm_top.specs.Exact.{ReadsExact}
 use Rattle.fm_top.specs.Headline.{HasAll, HasAnswered, Held, HoldsOfBook, WereAnswered}
 use Rattle.fm_top.specs.Headline.{HasAfter, HasEach, HeldAfter}
 use Rattle.fm_top.specs.Kept.{BookAt}
@@ -39,15 +43,18 @@ module _ (told : Contents) (one other : BookAt told) where
       books_one told one.fresh other.fresh one.book other.book one.made one.reads other.made
       other.reads
 
-  reads_other : (lines : List Line) (image : Contents)
-      → ReadsLike one.fresh (store_with one.book (entries_of lines)) image
-      → ReadsLike other.fresh (store_with other.book (entries_of lines)) image
-  reads_other lines image reads =
-      subst
-      (λ (ms : List ModuleState). ReadsLike ms (store_with other.book (entries_of lines)) image)
-      same_book.0
-      (subst (λ (k : StoreBook). ReadsLike one.fresh (store_with k (entries_of lines)) image)
-      same_book.1 reads)
+  pub reads_other : (entries : List Entry) (image : Contents) → ReadsExact one entries image
+      → ReadsExact other entries image
+  reads_other entries image reads = record {
+    like = subst (λ (ms : List ModuleState). ReadsLike ms (store_with other.book entries) image)
+        same_book.0
+        (subst (λ (k : StoreBook). ReadsLike one.fresh (store_with k entries) image) same_book.1
+        reads.like);
+    exact = subst (λ (k : StoreBook). (again : AreModulesOf k.confs other.fresh)
+        → HasExactSuspects again (with_entries k.book entries)) same_book.1
+        (λ again. exact_again one.made again (with_entries one.book.book entries) reads.exact)
+        other.made;
+  }
 
 module _ (before after : Outside) (told : Contents) (one other : BookAt told) where
   answered_other : (image : Contents) → HasAnswered before after told one image
@@ -60,7 +67,7 @@ module _ (before after : Outside) (told : Contents) (one other : BookAt told) wh
     first = h.first;
     answered = subst (λ (k : StoreBook). WereAnswered (Appends before.out.bytes after.out.bytes)
         (next_number k.book) h.lines) (same_book told one other).1 h.answered;
-    reads = reads_other told one other h.lines image h.reads;
+    reads = reads_other told one other (entries_of h.lines) image h.reads;
   }
 
   all_other : (image : Contents) → HasAll before after told one image
@@ -71,7 +78,7 @@ module _ (before after : Outside) (told : Contents) (one other : BookAt told) wh
     at_end = h.at_end;
     put = subst (λ (k : StoreBook). Appends before.out.bytes after.out.bytes
         (answers true 1 (next_number k.book) (lines_of h.read))) (same_book told one other).1 h.put;
-    reads = reads_other told one other (lines_of h.read) image h.reads;
+    reads = reads_other told one other (entries_of (lines_of h.read)) image h.reads;
   }
 
   left_other : (ran : Result (Unit {0}) Stop) (image : Contents)
@@ -88,7 +95,7 @@ module _ (before after : Outside) (told : Contents) (one other : BookAt told) wh
     read = h.read;
     consumed = h.consumed;
     at_end = h.at_end;
-    reads = reads_other told one other (lines_of h.read) image h.reads;
+    reads = reads_other told one other (entries_of (lines_of h.read)) image h.reads;
   }
 
   either_other : (image : Contents)

@@ -35,6 +35,7 @@ use Rattle.fm_top.specs.Kept.{BookAt}
 use Rattle.fm_top.specs.Limits.{draining_limit}
 use Rattle.fm_top.specs.Outside.{Tells, disks_at}
 use Rattle.fm_top.proofs.Accepts.{opening_account, opening_stops}
+use Rattle.fm_top.proofs.Exactness.{exact_before}
 use Rattle.fm_top.proofs.OpenedDisks.{OpenAt, OpenFor, each_opened, none_rose, open_for, opened_at}
 use Rattle.fm_top.proofs.OpenedDisks.{some_rose, store_left}
 use Rattle.fm_top.proofs.RowGraphs.{explanation_at}
@@ -139,6 +140,7 @@ module _ {D : Type 0} (g : Ghosts D) (disks disks_now : Disks D)
       (λ book at. record {
         left = λ image leaves. (on_book (Err fault) told book at did).left image
             (store_left g disks disks_now first new are image leaves);
+        exact = exact_before told book;
       })
 
   -- why it was not told

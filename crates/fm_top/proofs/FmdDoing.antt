@@ -16,7 +16,6 @@ use Rattle.fm_answers.specs.declared.stops.Stop.TheVariants.{Read, Write, Disk, 
 use Rattle.fm_answers.specs.declared.stops.Stop.TheVariants.{Full}
 use Rattle.fm_answers.specs.declared.stops.Stop.TheVariants.{Differs, Act}
 use Rattle.fm_answers.proofs.AnswerLists.{answers_none, entries_none}
-use Rattle.fm_answers.specs.Recording.{store_with}
 use Rattle.fm_command.specs.declared.words.Command.TheVariants.{Fmd}
 use Rattle.fm_core.specs.Book.{next_number}
 use Rattle.fm_logs.specs.Contents.{Contents}
@@ -26,7 +25,7 @@ use Rattle.fm_esc.specs.Compiling.{CompileCause}
 use Rattle.fm_esc.specs.declared.faults.CompileFault.{CompileFault}
 use Rattle.fm_sources.specs.Sources.{given}
 use Rattle.fm_sources.specs.declared.sources.Sources.{Sources}
-use Rattle.fm_store.specs.StoreLeft.{ReadsLike}
+use Rattle.fm_top.specs.Exact.{ReadsExact}
 use Rattle.fm_top.specs.Accepting.{AcceptedAll, AcceptedUntil, NotOpened}
 use Rattle.fm_top.specs.Calls.{IsCaused, Does}
 use Rattle.fm_top.specs.Fmd.{ConcludingStops, FmdRan, KeepSame, SettlingEnds, SourcesRead}
@@ -271,8 +270,8 @@ module _ (before after : Outside) where
               (sym (answers_none true 1 (next_number grew.stood.book.book)))
               (subst (λ (s : SinkAt). Appends before.out.bytes s.bytes []) (sym other.put)
               (Appends-nil before.out.bytes)));
-          reads = subst (λ es. ReadsLike grew.stood.fresh (store_with grew.stood.book es) image)
-              (sym entries_none) (grew.left image leaves);
+          reads = subst (λ es. ReadsExact grew.stood es image) (sym entries_none)
+              (grew.left image leaves);
         };
       }
 

@@ -68,7 +68,7 @@ use Rattle.fm_top.proofs.Accepts.{disks_account, grew_of, of_no_stream, opening_
 use Rattle.fm_top.proofs.Accepts.{opening_stops}
 use Rattle.fm_top.proofs.OpenedDisks.{OpenAt, none_rose, open_for, opened_at, some_rose}
 use Rattle.fm_top.proofs.OpenedDisks.{store_left}
-use Rattle.fm_top.proofs.Exactness.{exact_with}
+use Rattle.fm_top.proofs.Exactness.{exact_with, reads_exact}
 use Rattle.fm_top.proofs.SixDisks.{all_only_read, rose_any, none_counts}
 use Rattle.fm_top.proofs.WorkLimits.{work_limit}
 
@@ -266,8 +266,10 @@ module _ {D : Type 0} (g : Ghosts D)
           stood = at.stood;
           numbered = λ i. at.stands.base_is i + length (at.stands.entries_are i);
           left = λ image leaves.
-              (concludes told at).left image
-              (store_left g disks disks_now first new are image leaves);
+              reads_exact told at.stood (entries_of (lines_of finished.ran.read)) image
+              finished.ran.took.spelled
+              ((concludes told at).left image
+              (store_left g disks disks_now first new are image leaves));
           limit = tt;
         };
       };

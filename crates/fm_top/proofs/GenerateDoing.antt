@@ -12,12 +12,11 @@ use Rattle.fm_answers.specs.declared.stops.Stop.TheVariants.{Read, Write, Disk, 
 use Rattle.fm_answers.specs.declared.stops.Stop.TheVariants.{Full, Act}
 use Rattle.fm_answers.specs.Recording.{store_with}
 use Rattle.fm_command.specs.declared.words.Command.TheVariants.{Generate, GeneratedLines}
-use Rattle.fm_core.specs.Book.{ModuleState}
 use Rattle.fm_entry.specs.declared.entry.Entry.{Entry}
 use Rattle.fm_journal.specs.declared.fault.FullKind.TheVariants.{Numbers}
 use Rattle.fm_logs.specs.Contents.{Contents}
-use Rattle.fm_logs.specs.StoreBook.{StoreBook}
-use Rattle.fm_store.specs.StoreLeft.{ReadsLike, ReadsLikeEither}
+use Rattle.fm_store.specs.StoreLeft.{ReadsLike}
+use Rattle.fm_top.specs.Exact.{ReadsExact, ReadsExactEither}
 use Rattle.fm_top.specs.Admin.{StoreUnopened}
 use Rattle.fm_top.specs.Calls.{IsCaused, Does}
 use Rattle.fm_top.specs.Fmd.{ReadsBased, SettlingEnds}
@@ -30,7 +29,7 @@ use Rattle.fm_top.specs.Kept.{BookAt}
 use Rattle.fm_top.specs.Limits.{concluding_limit}
 use Rattle.fm_top.specs.Order.{AllPass, Goes, at_early, at_store, world_of}
 use Rattle.fm_top.specs.Outside.{Outside, DisksAt, Tells, Leaves, counts_of}
-use Rattle.fm_top.proofs.BookHeld.{same_book}
+use Rattle.fm_top.proofs.BookHeld.{reads_other}
 use Rattle.fm_top.proofs.Doing.{Rests, quiet_counts, rests_put, unopened}
 use Rattle.fm_top.proofs.Escs.{text_caused}
 use Rattle.fm_top.proofs.SourceFaults.{ok_no_err}
@@ -82,15 +81,10 @@ module _ (before after : Outside) where
 -- ---- what a crash leaves of a book
 
 module _ (told : Contents) (one other : BookAt told) where
-  either_other : (a b : List Entry) (image : Contents)
-      → ReadsLikeEither one.fresh (store_with one.book a) (store_with one.book b) image
-      → ReadsLikeEither other.fresh (store_with other.book a) (store_with other.book b) image
-  either_other a b image reads =
-      let same = same_book told one other in
-      subst (λ (ms : List ModuleState). ReadsLikeEither ms (store_with other.book a)
-      (store_with other.book b) image) same.0
-      (subst (λ (k : StoreBook). ReadsLikeEither one.fresh (store_with k a) (store_with k b) image)
-      same.1 reads)
+  either_other : (a b : List Entry) (image : Contents) → ReadsExactEither one a b image
+      → ReadsExactEither other a b image
+  either_other a b image (inl reads) = inl (reads_other told one other a image reads)
+  either_other a b image (inr reads) = inr (reads_other told one other b image reads)
 
 module _ (number : ℕ) (before after : DisksAt) where
   abbrev MayHaveFirst : (told : Contents) → BookAt told → Type 0
@@ -99,8 +93,8 @@ module _ (number : ℕ) (before after : DisksAt) where
   -- each image has the first of what is generated, so many or one more
   first_held : (entries front rest : List Entry) (told : Contents) → entries ≡ front ++ rest
       → Generates number before entries → Tells before told → (one : BookAt told)
-      → ((image : Contents) → Leaves after image → ReadsLikeEither one.fresh
-      (store_with one.book front) (store_with one.book (take (length front + 1) entries)) image)
+      → ((image : Contents) → Leaves after image
+      → ReadsExactEither one front (take (length front + 1) entries) image)
       → HoldsOfBook told (MayHaveFirst told)
   first_held entries front rest told is are tells one left = record {
     stood = one;
@@ -111,8 +105,7 @@ module _ (number : ℕ) (before after : DisksAt) where
       left = λ image leaves.
           either_other told one book (take (length front) entries)
           (take (length front + 1) entries) image
-          (subst (λ es. ReadsLikeEither one.fresh (store_with one.book es)
-          (store_with one.book (take (length front + 1) entries)) image)
+          (subst (λ es. ReadsExactEither one es (take (length front + 1) entries) image)
           (sym (ap (take (length front)) is ∙ take-append_seam front rest))
           (left image leaves));
     });
@@ -120,8 +113,7 @@ module _ (number : ℕ) (before after : DisksAt) where
 
   plain_held : (entries front rest : List Entry) (told : Contents) → entries ≡ front ++ rest
       → Generates number before entries → Tells before told → (one : BookAt told)
-      → ((image : Contents) → Leaves after image
-      → ReadsLike one.fresh (store_with one.book front) image)
+      → ((image : Contents) → Leaves after image → ReadsExact one front image)
       → HoldsOfBook told (MayHaveFirst told)
   plain_held entries front rest told is are tells one left =
       first_held entries front rest told is are tells one
@@ -131,13 +123,12 @@ module _ (number : ℕ) (before after : DisksAt) where
   next_held : (entries front more : List Entry) (entry : Entry) (told : Contents)
       → entries ≡ front ++ entry ∷ more → Generates number before entries → Tells before told
       → (one : BookAt told)
-      → ((image : Contents) → Leaves after image → ReadsLikeEither one.fresh
-      (store_with one.book front) (store_with one.book (front ++ entry ∷ [])) image)
+      → ((image : Contents) → Leaves after image
+      → ReadsExactEither one front (front ++ entry ∷ []) image)
       → HoldsOfBook told (MayHaveFirst told)
   next_held entries front more entry told is are tells one left =
       first_held entries front (entry ∷ more) told is are tells one
-      (λ image leaves. subst (λ es. ReadsLikeEither one.fresh (store_with one.book front)
-      (store_with one.book es) image)
+      (λ image leaves. subst (λ es. ReadsExactEither one front es image)
       (sym (ap (take (length front + 1)) is ∙ take-append-add front (entry ∷ more) 1))
       (left image leaves))
 
@@ -163,8 +154,7 @@ module _ (number : ℕ) (before after : DisksAt) where
   -- all of it
   all_held : (entries : List Entry) (told : Contents) → Generates number before entries
       → Tells before told → (one : BookAt told)
-      → ((image : Contents) → Leaves after image
-      → ReadsLike one.fresh (store_with one.book entries) image)
+      → ((image : Contents) → Leaves after image → ReadsExact one entries image)
       → HoldsOfBook told (MayHaveFirst told)
   all_held entries told are tells one left =
       plain_held entries entries [] told (sym (append-nil entries)) are tells one left
@@ -201,8 +191,10 @@ module _ (number : ℕ) (before after : DisksAt) where
         each = λ book. record {
           entries = done.entries;
           are = (done.are told tells).each book;
-          left = λ image leaves.
-              based_like told book done.entries image ((holds.each book).left image leaves);
+          left = λ image leaves. record {
+            like = based_like told book done.entries image ((holds.each book).left image leaves);
+            exact = (holds.each book).exact;
+          };
         };
       }
 
@@ -216,8 +208,8 @@ module _ (number : ℕ) (before after : DisksAt) where
       are = has.are;
       count = length has.entries;
       left = λ image leaves.
-          inl (subst (λ es. ReadsLike book.fresh (store_with book.book es) image)
-          (sym (take-length has.entries)) (has.left image leaves));
+          inl (subst (λ es. ReadsExact book es image) (sym (take-length has.entries))
+          (has.left image leaves));
     });
   }
 

@@ -38,6 +38,7 @@ use Rattle.fm_top.specs.GenerateStart.{AreGenerated, AreGeneratedAt}
 use Rattle.fm_top.specs.Headline.{HoldsOfBook, LikeBook}
 use Rattle.fm_top.specs.Init.{AreUnwritten}
 use Rattle.fm_top.specs.Limits.{concluding_limit}
+use Rattle.fm_top.proofs.Exactness.{exact_before, reads_exact}
 use Rattle.fm_top.specs.Outside.{Tells, disks_at}
 use Rattle.fm_top.proofs.Accepts.{grew_of, opening_account, opening_stops}
 use Rattle.fm_top.proofs.Fmds.{drained_from, took_concludes, took_limit}
@@ -112,6 +113,7 @@ module _ {D : Type 0} (g : Ghosts D) (disks disks_now : Disks D)
             (subst (λ (s : StoreOf D DiagnoserOf). StoreStandsFor g book.fresh s book.book)
             (sym same) at.stands) image
             (store_left g disks disks_now first new are image leaves);
+        exact = exact_before told book;
       })
 
   untouched : new ≡ first → AreUnwritten (disks_at g disks) (disks_at g disks_now)
@@ -193,9 +195,10 @@ module _ {D : Type 0} (g : Ghosts D) (disks disks_now : Disks D)
       stood = at.stood;
       numbered = λ i. at.stands.base_is i + length (at.stands.entries_are i);
       left = λ image leaves.
-          (took_concludes g first finished.between new hands conf finished.entries finished.took
+          reads_exact told at.stood finished.entries image finished.took.spelled
+          ((took_concludes g first finished.between new hands conf finished.entries finished.took
           answer finished.book told at).left image
-          (store_left g disks disks_now first new are image leaves);
+          (store_left g disks disks_now first new are image leaves));
       limit = tt;
     }
 

@@ -10,7 +10,6 @@ use Rattle.fm_answers.specs.Running.{Line, AreRead, StopsAt, StopsBetween, RanUn
 use Rattle.fm_answers.specs.declared.stops.Stop.{Stop}
 use Rattle.fm_answers.specs.declared.stops.Stop.TheVariants.{Read, Write, Disk, Memory, Full}
 use Rattle.fm_answers.proofs.AnswerLists.{entries_append, entries_one, answers_append}
-use Rattle.fm_answers.specs.Recording.{store_with}
 use Rattle.fm_command.specs.declared.words.Command.TheVariants.{Accept}
 use Rattle.fm_core.specs.Book.{next_number}
 use Rattle.fm_init.specs.Making.{HasStore}
@@ -21,7 +20,7 @@ use Rattle.fm_logs.specs.Contents.{Contents}
 use Rattle.fm_payloads.specs.Spelling.{EachSpells}
 use Rattle.fm_logs.specs.ReadsAsBook.{SpellsConf}
 use Rattle.fm_saved.specs.declared.conf.Conf.{Conf}
-use Rattle.fm_store.specs.StoreLeft.{ReadsLike}
+use Rattle.fm_top.specs.Exact.{ReadsExact}
 use Rattle.fm_top.specs.Accepting.{AcceptRan, AcceptedUntil, Grew}
 use Rattle.fm_top.specs.Headline.{WereAnswered, HasAnswered, Headline}
 use Rattle.fm_top.specs.Kept.{BookAt}
@@ -73,7 +72,7 @@ module _ (before after : Outside) (told : Contents) where
       (read : List ℕ) → Consumes before.input.left after.input.left read
       → AreRead read (IsAtEnd after.input.left) (lines ++ others)
       → WereAnswered (Appends before.out.bytes after.out.bytes) (next_number stood.book.book) lines
-      → ReadsLike stood.fresh (store_with stood.book (entries_of lines)) image
+      → ReadsExact stood (entries_of lines) image
       → HasAnswered before after told stood image
   has_answered stood image lines others read consumed first answered reads = record {
     read = read;
@@ -125,7 +124,7 @@ module _ (before after : Outside) (told : Contents) where
               (subst (λ n. WereAnswered (Appends before.out.bytes after.out.bytes) n
               (lines ++ line ∷ [])) grew.numbered
               (first_answered (Appends before.out.bytes after.out.bytes) next lines line put))
-              (subst (λ es. ReadsLike grew.stood.fresh (store_with grew.stood.book es) image)
+              (subst (λ es. ReadsExact grew.stood es image)
               (sym (entries_append lines (line ∷ [])
               ∙ ap (λ es. entries_of lines ++ es) (entries_one line ∙ only))) within)
         ];

@@ -19,6 +19,7 @@ pub mod Inits
 pub mod Makings
 pub mod OpenedDisks
 pub mod RepairDoing
+pub mod RepairSpelled
 pub mod Repairs
 pub mod Rotatings
 pub mod RowGraphs

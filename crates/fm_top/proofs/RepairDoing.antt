@@ -1,5 +1,5 @@
 -- What a command did that accepts what is said of repairs, in the words of the whole call.
-use Rattle.std.proofs.Common.{◌≡◌, ◌⊎◌, inl, inr, ℕ, List, [], ◌∷◌, map, refl}
+use Rattle.std.proofs.Common.{◌≡◌, ◌⊎◌, inl, inr, ℕ, ◌<◌, ◌^◌, List, [], ◌∷◌, map, refl}
 use Rattle.std.proofs.Common.{sym, subst, Some, OnOk, IfErr, Result, Ok, Err}
 use Rattle.fm_act.specs.Reconciled.{ActuatorState}
 use Rattle.fm_admin.specs.declared.repairing.Repaired.{Repaired}
@@ -18,7 +18,7 @@ use Rattle.fm_store.specs.StoreLeft.{ReadsLike}
 use Rattle.fm_top.specs.Accepting.{OpeningStops}
 use Rattle.fm_top.specs.Calls.{IsCaused, Does}
 use Rattle.fm_top.specs.Fmd.{ConcludingStops, SettlingEnds}
-use Rattle.fm_top.specs.Headline.{HasRepaired, HeldRepair, HoldsOfBook, Headline}
+use Rattle.fm_top.specs.Headline.{HasRepaired, HasRepairExact, HeldRepair, HoldsOfBook, Headline}
 use Rattle.fm_top.specs.Kept.{BookAt}
 use Rattle.fm_top.specs.Order.{Goes, at_marked, looks, world_of}
 use Rattle.fm_top.specs.Outside.{Outside, Tells, counts_of}
@@ -28,7 +28,9 @@ use Rattle.fm_top.specs.RepairEntry.{HasRepair}
 use Rattle.fm_top.proofs.Doing.{unopened}
 use Rattle.fm_top.proofs.SourceFaults.{ok_no_err}
 use Rattle.fm_top.proofs.FmdDoing.{acts_quiet, settled_caused}
+use Rattle.fm_top.proofs.Exactness.{exact_before}
 use Rattle.fm_top.proofs.Going.{settled_goes, unopened_goes, worked_goes}
+use Rattle.fm_top.proofs.RepairSpelled.{CanBeSaid, repair_exact}
 use Rattle.fm_top.proofs.Texts.{like_drained}
 
 module _ (asked : RepairAsked) (before after : Outside) where
@@ -125,7 +127,17 @@ module _ (asked : RepairAsked) (before after : Outside) where
         acts = acts i;
       }
 
-  -- ---- the headline
+-- ---- the headline
+
+module _ (asked : RepairAsked) (before after : Outside) (now : ℕ) (early : now < 2 ^ 62)
+    (said : CanBeSaid now asked) where
+  -- the book with the entry has exact suspects
+  exactly : (told : Contents) (stood : BookAt told) (image : Contents)
+      → HasRepair asked stood image → HasRepairExact asked stood image
+  exactly told stood image has = record {
+    has = has;
+    exact = (repair_exact asked now early said told stood image has).exact;
+  }
 
   abbrev HeldSo : Contents → Result (Unit {0}) Stop → Type 0
   HeldSo told ran = HoldsOfBook told (HeldRepair before after asked told ran)
@@ -134,14 +146,15 @@ module _ (asked : RepairAsked) (before after : Outside) where
   either_held : (told : Contents) (ran : Result (Unit {0}) Stop)
       → ((stood : BookAt told) (image : Contents)
       → ((after.out ≡ before.out) × ReadsLike stood.fresh stood.book image)
-      ⊎ HasRepair asked stood image → HasRepaired before after asked told stood image ran)
+      ⊎ HasRepairExact asked stood image → HasRepaired before after asked told stood image ran)
       → after.out ≡ before.out → HoldsOfBook told (MayHaveRepair asked told after.disks)
       → HeldSo told ran
   either_held told ran so unsaid holds = record {
     stood = holds.stood;
     each = λ book. record {
       left = λ image leaves. so book image (elim ((holds.each book).left image leaves)
-          [ inl like ↦ inl (unsaid, like) | inr with_it ↦ inr with_it ]);
+          [ inl like ↦ inl (unsaid, like) | inr with_it ↦ inr (exactly told book image with_it) ]);
+      exact = exact_before told book;
     };
   }
 
@@ -163,23 +176,27 @@ module _ (asked : RepairAsked) (before after : Outside) where
       subst (λ s. HeldSo told (Err s)) (sym unmarked.why)
       (let holds = unmarked.holds told tells in record {
         stood = holds.stood;
-        each = λ book. record { left = (holds.each book).left };
+        each = λ book. record {
+          left = (holds.each book).left;
+          exact = exact_before told book;
+        };
       })
 
   -- each image is so, where it is so of one that has the entry
   with_held : (told : Contents) (one : Repaired) (ran : Result (Unit {0}) Stop)
-      → ((stood : BookAt told) (image : Contents) → HasRepair asked stood image
+      → ((stood : BookAt told) (image : Contents) → HasRepairExact asked stood image
       → HasRepaired before after asked told stood image ran)
       → HoldsOfBook told (RepairedOf asked told after.disks one) → HeldSo told ran
   with_held told one ran so holds = record {
     stood = holds.stood;
     each = λ book. let of = holds.each book in record {
-      left = λ image leaves. so book image (record {
+      left = λ image leaves. so book image (exactly told book image (record {
         entry = of.entry;
         found = of.found;
         reads = like_drained book.fresh (store_accepted book.book of.entry) image
             (of.left image leaves);
-      });
+      }));
+      exact = exact_before told book;
     };
   }
 
@@ -197,7 +214,8 @@ module _ (asked : RepairAsked) (before after : Outside) where
       with_held told one (Err Memory) (λ stood image has. inr has)
   settled_held told one paths text (Err _) ends = absurd ends
 
-  repair_headline : (ran : Result (Unit {0}) Stop) → after.input ≡ before.input → RanSo ran
+  repair_headline : (ran : Result (Unit {0}) Stop) → after.input ≡ before.input
+      → RepairRan asked before.acts after.acts before.out after.out before.disks after.disks ran
       → Headline (Repair asked) before after ran
   repair_headline ran unread (inl stopped) =
       elim stopped.store.went [
@@ -216,13 +234,13 @@ module _ (asked : RepairAsked) (before after : Outside) where
       settled_held told settled.one settled.one.wanted (ok_text settled.one.number) ran
       settled.settled (settled.store.went told tells))
 
-pub does_repair : (asked : RepairAsked) (before after : Outside) (middle : SinkAt)
-    (ran : Result (Unit {0}) Stop) (result : ToolStatus)
+pub does_repair : (asked : RepairAsked) (now : ℕ) (before after : Outside) (middle : SinkAt)
+    (ran : Result (Unit {0}) Stop) (result : ToolStatus) → now < 2 ^ 62 → CanBeSaid now asked
     → RepairRan asked before.acts after.acts before.out middle before.disks after.disks ran
     → EndsAs middle after.out ran result → after.rules ≡ before.rules
     → after.topo ≡ before.topo → after.input ≡ before.input
     → Does (Some (Repair asked)) before after result
-does_repair asked before after middle ran result did ends rules topo unread =
+does_repair asked now before after middle ran result early said did ends rules topo unread =
     let mid : Outside = record after { out = middle } in (
       ran,
       middle,
@@ -231,7 +249,7 @@ does_repair asked before after middle ran result did ends rules topo unread =
         cause = repair_caused asked before mid ran did;
         quiet = repair_quiet asked before mid ran unread rules topo did;
         did = did;
-        headline = repair_headline asked before mid ran unread did;
+        headline = repair_headline asked before mid now early said ran unread did;
       },
       ends,
     )

@@ -2,6 +2,7 @@
 use Rattle.std.proofs.Common.{◌≡◌, ◌∙◌, inl, inr, ℕ, List, Option, None, Some, Result, Ok}
 use Rattle.std.proofs.Common.{Err, IfOk}
 use Rattle.std.proofs.Common.{IfErr, [], append-nil, refl, sym, ap, subst}
+use Rattle.std.proofs.lemmas.List.Elements.{All-nil}
 use Rattle.dx_engine.specs.Diagnosers.{DiagnoserOf, diagnosers}
 use Rattle.fm_admin.specs.Limits.{RepairLimit}
 use Rattle.fm_admin.specs.Repairing.{IsRepairedBy, RepairDid, RepairFollows}
@@ -21,7 +22,7 @@ use Rattle.fm_conclude.specs.Concluding.{NoDiskFailed, SomeDiskFailed}
 use Rattle.fm_core.specs.Book.{ModuleState}
 use Rattle.fm_core.specs.Hands.{HandOf}
 use Rattle.fm_drain.specs.DrainCalls.{AllFollow}
-use Rattle.fm_entry.specs.Entries.{entry_bytes}
+use Rattle.fm_entry.specs.Entries.{IsSpelled, entry_bytes}
 use Rattle.fm_entry.specs.declared.entry.Entry.{Entry}
 use Rattle.fm_journal.specs.declared.fault.FullKind.{FullKind}
 use Rattle.fm_logs.specs.Contents.{Contents, AreTold, WereOnlyRead, disk_named}
@@ -314,6 +315,8 @@ module _ {D : Type 0} (g : Ghosts D) (disks disks_now : Disks D)
     entries_are = sym (append-nil first.logs.entries);
     cursors_are = refl;
     figures_are = refl;
+    spelled = All-nil IsSpelled;
+    last_spelled = tt;
     logs = (λ older records keep. keep, cannot);
     book = λ fresh k st. subst (StoreStandsFor g fresh first) (sym (with_none k)) st;
   }

@@ -45,6 +45,7 @@ use Rattle.fm_top.specs.Kept.{BookAt}
 use Rattle.fm_top.specs.Limits.{DrainLimit}
 use Rattle.fm_top.specs.Outside.{Tells, disks_at}
 use Rattle.fm_top.proofs.Accepts.{opening_account, opening_stops}
+use Rattle.fm_top.proofs.Exactness.{exact_before}
 use Rattle.fm_top.proofs.Fmds.{reads_floored}
 use Rattle.fm_top.proofs.OpenedDisks.{OpenAt, OpenFor, each_opened, none_rose, open_for, opened_at}
 use Rattle.fm_top.proofs.OpenedDisks.{some_rose, store_left}
@@ -200,6 +201,7 @@ module _ {D : Type 0} (g : Ghosts D) (disks disks_now : Disks D)
           left = λ image leaves.
               (on_book told book at).left image
               (store_left g disks disks_now first new are image leaves);
+          exact = exact_before told book;
         })
 
   module _

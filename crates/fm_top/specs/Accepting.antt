@@ -9,7 +9,7 @@ use Rattle.fm_answers.specs.Running.{Taken, RanAll, RanUntil}
 use Rattle.fm_answers.specs.declared.stops.Stop.{Stop}
 use Rattle.fm_answers.specs.declared.stops.Stop.TheVariants.{Read, Write, Disk, Damaged, Memory}
 use Rattle.fm_answers.specs.declared.stops.Stop.TheVariants.{Full}
-use Rattle.fm_answers.specs.Recording.{payloads_of, store_with, FullCause}
+use Rattle.fm_answers.specs.Recording.{payloads_of, FullCause}
 use Rattle.fm_core.specs.Book.{ModuleState, next_number}
 use Rattle.fm_entry.specs.declared.entry.Entry.{Entry}
 use Rattle.fm_journal.specs.Format.{end_of}
@@ -17,18 +17,18 @@ use Rattle.fm_journal.specs.declared.fault.FullKind.{FullKind}
 use Rattle.fm_logs.specs.Contents.{Contents, active_of_two}
 use Rattle.fm_logs.specs.ReadsAsBook.{IsLog, SpellsEntry, SaysBook}
 use Rattle.fm_logs.specs.StoreBook.{StoreBook}
-use Rattle.fm_store.specs.StoreLeft.{ReadsLike, ReadsLikeEither}
+use Rattle.fm_top.specs.Exact.{ReadsExact, ReadsExactEither}
 use Rattle.fm_top.specs.Init.{AreUnwritten}
 use Rattle.fm_top.specs.Kept.{BookAt, FirstDamage}
 use Rattle.fm_top.specs.Outside.{DisksAt, Tells, Leaves, disk_counts, RoseAt}
 
 -- What an image reads like, once these entries are acknowledged: where a disk failed at one more,
 -- it has that one or not.
-abbrev pub ImageReads : List ModuleState → StoreBook → List Entry → Option (Stop × Entry)
+abbrev pub ImageReads : {told : Contents} → BookAt told → List Entry → Option (Stop × Entry)
     → Contents → Type 0
-ImageReads fresh k entries (Some (Disk, entry)) image =
-    ReadsLikeEither fresh (store_with k entries) (store_with k (entries ++ entry ∷ [])) image
-ImageReads fresh k entries _ image = ReadsLike fresh (store_with k entries) image
+ImageReads stood entries (Some (Disk, entry)) image =
+    ReadsExactEither stood entries (entries ++ entry ∷ []) image
+ImageReads stood entries _ image = ReadsExact stood entries image
 
 -- One entry more would pass this limit of the active error journal, once that has these entries.
 pub record ReachesLimit (c : Contents) (fresh : List ModuleState) (k : StoreBook)
@@ -48,13 +48,13 @@ LimitIs c fresh k entries (Some (Full kind, entry)) = ReachesLimit c fresh k ent
 LimitIs c fresh k entries _ = Unit {0}
 
 -- The contents from before read as a book of which the next number is `next`; and whatever a crash
--- now leaves reads like that book with these entries.
+-- now leaves reads like that book with these entries, which has exact suspects.
 pub record GrewFrom (told : Contents) (after : DisksAt) (next : ℕ) (entries : List Entry)
     (last : Option (Stop × Entry)) : Type 0 where
   pub stood : BookAt told
   pub numbered : next ≡ next_number stood.book.book
   pub left : (image : Contents) → Leaves after image
-      → ImageReads stood.fresh stood.book entries last image
+      → ImageReads stood entries last image
   pub limit : LimitIs told stood.fresh stood.book entries last
 
 -- the same, where the disks told their contents before

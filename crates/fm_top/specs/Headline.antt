@@ -1,5 +1,6 @@
 -- The headline at the top call: what a crash leaves of a store, whatever a call ends with.
-use Rattle.std.specs.Prelude.{◌≡◌, ◌⊎◌, ℕ, ◌+◌, ◌≤◌, List, ◌++◌, true, length, take, Result}
+use Rattle.std.specs.Prelude.{◌≡◌, ◌⊎◌, ℕ, ◌+◌, ◌≤◌, List, [], ◌∷◌, ◌++◌, true, length, take}
+use Rattle.std.specs.Prelude.{Result}
 use Rattle.std.specs.Prelude.{MatchResult}
 use Rattle.std.specs.Prelude.{OnOk, Ok, Err}
 use Rattle.std.specs.Io.KnownBytes.{Appends, Consumes, IsAtEnd}
@@ -7,7 +8,6 @@ use Rattle.fm_answers.specs.Answers.{answers, entries_of}
 use Rattle.fm_answers.specs.Running.{Line, AreRead}
 use Rattle.fm_answers.specs.declared.stops.Stop.{Stop}
 use Rattle.fm_answers.specs.declared.stops.Stop.TheVariants.{Act, NotFaulty}
-use Rattle.fm_answers.specs.Recording.{store_with}
 use Rattle.fm_command.specs.RepairAsked.{RepairAsked}
 use Rattle.fm_command.specs.declared.words.Command.{Command}
 use Rattle.fm_command.specs.declared.words.Command.TheVariants.{Accept, Fmd, Init, Admin, Repair}
@@ -16,7 +16,8 @@ use Rattle.fm_core.specs.Book.{next_number}
 use Rattle.fm_entry.specs.declared.entry.Entry.{Entry}
 use Rattle.fm_line.specs.Lines.{lines_of}
 use Rattle.fm_logs.specs.Contents.{Contents}
-use Rattle.fm_store.specs.StoreLeft.{ReadsLike, ReadsLikeEither}
+use Rattle.fm_store.specs.StoreLeft.{ReadsLike}
+use Rattle.fm_top.specs.Exact.{IsExactWith, ReadsExact, ReadsExactEither}
 use Rattle.fm_top.specs.GenerateStart.{AreGeneratedAt}
 use Rattle.fm_top.specs.Kept.{BookAt}
 use Rattle.fm_top.specs.Outside.{Outside, DisksAt, Tells, Leaves}
@@ -35,7 +36,8 @@ pub record WereAnswered (puts : List ℕ → Type 0) (next : ℕ) (lines : List 
   pub put : puts (take count (answers true 1 next lines))
 
 -- The contents read as a book that drains to what the book from before comes to with the entries of
--- the first lines of the input: of those that were answered, and of one more at most.
+-- the first lines of the input: of those that were answered, and of one more at most. The book with
+-- these entries has exact suspects.
 pub record HasAnswered (before after : Outside) (told : Contents) (stood : BookAt told)
     (image : Contents) : Type 0 where
   pub read : List ℕ
@@ -45,7 +47,7 @@ pub record HasAnswered (before after : Outside) (told : Contents) (stood : BookA
   pub first : AreRead read (IsAtEnd after.input.left) (lines ++ others)
   pub answered : WereAnswered (Appends before.out.bytes after.out.bytes)
       (next_number stood.book.book) lines
-  pub reads : ReadsLike stood.fresh (store_with stood.book (entries_of lines)) image
+  pub reads : ReadsExact stood (entries_of lines) image
 
 -- The same with the entries of all lines, each of which was answered.
 pub record HasAll (before after : Outside) (told : Contents) (stood : BookAt told)
@@ -55,7 +57,7 @@ pub record HasAll (before after : Outside) (told : Contents) (stood : BookAt tol
   pub at_end : IsAtEnd after.input.left
   pub put : Appends before.out.bytes after.out.bytes
       (answers true 1 (next_number stood.book.book) (lines_of read))
-  pub reads : ReadsLike stood.fresh (store_with stood.book (entries_of (lines_of read))) image
+  pub reads : ReadsExact stood (entries_of (lines_of read)) image
 
 -- The same with the entries of all lines, whatever was put behind their answers.
 pub record HasEach (before after : Outside) (told : Contents) (stood : BookAt told)
@@ -63,7 +65,7 @@ pub record HasEach (before after : Outside) (told : Contents) (stood : BookAt to
   pub read : List ℕ
   pub consumed : Consumes before.input.left after.input.left read
   pub at_end : IsAtEnd after.input.left
-  pub reads : ReadsLike stood.fresh (store_with stood.book (entries_of (lines_of read))) image
+  pub reads : ReadsExact stood (entries_of (lines_of read)) image
 
 -- The contents read as a book, and this is so of each book that they read as: they read as one.
 pub record HoldsOfBook (told : Contents) (IsSo : BookAt told → Type 0) : Type 0 where
@@ -105,28 +107,37 @@ pub record Unopened (before after : Outside) (ran : Result (Unit {0}) Stop) : Ty
   pub unsaid : after.out ≡ before.out
   pub left : AreFromBefore before.disks after.disks
 
--- each image that a crash now may leave reads like the book
+-- each image that a crash now may leave reads like the book, which has exact suspects
 pub record LikeBook (told : Contents) (after : DisksAt) (stood : BookAt told) : Type 0 where
   pub left : (image : Contents) → Leaves after image → ReadsLike stood.fresh stood.book image
+  pub exact : IsExactWith stood []
+
+-- The image reads like the book with the entry of a repair, which has exact suspects.
+pub record HasRepairExact (asked : RepairAsked) {told : Contents} (stood : BookAt told)
+    (image : Contents) : Type 0 where
+  pub has : HasRepair asked stood image
+  pub exact : IsExactWith stood (has.entry ∷ [])
 
 -- Of a repair: where its entry was accepted and told, or an actuator failed at the end, with that
 -- entry; where nothing would be marked, like the book; else like the book, where nothing was put,
 -- or with the entry.
 abbrev pub HasRepaired : (before after : Outside) (asked : RepairAsked) (told : Contents)
     → BookAt told → Contents → Result (Unit {0}) Stop → Type 0
-HasRepaired before after asked told stood image (Ok done) = HasRepair asked stood image
-HasRepaired before after asked told stood image (Err (Act index)) = HasRepair asked stood image
+HasRepaired before after asked told stood image (Ok done) = HasRepairExact asked stood image
+HasRepaired before after asked told stood image (Err (Act index)) =
+    HasRepairExact asked stood image
 HasRepaired before after asked told stood image (Err NotFaulty) =
     ReadsLike stood.fresh stood.book image
 HasRepaired before after asked told stood image (Err _) =
     ((after.out ≡ before.out) × ReadsLike stood.fresh stood.book image)
-    ⊎ HasRepair asked stood image
+    ⊎ HasRepairExact asked stood image
 
--- each image that a crash now leaves is so
+-- each image that a crash now leaves is so, and the book itself has exact suspects
 pub record HeldRepair (before after : Outside) (asked : RepairAsked) (told : Contents)
     (ran : Result (Unit {0}) Stop) (stood : BookAt told) : Type 0 where
   pub left : (image : Contents) → Leaves after.disks image
       → HasRepaired before after asked told stood image ran
+  pub exact : IsExactWith stood []
 
 -- each image has all that a number generates
 pub record HasGenerated (number : ℕ) (told : Contents) (after : DisksAt) (stood : BookAt told)
@@ -134,7 +145,7 @@ pub record HasGenerated (number : ℕ) (told : Contents) (after : DisksAt) (stoo
   pub entries : List Entry
   pub are : AreGeneratedAt number stood entries
   pub left : (image : Contents) → Leaves after image
-      → ReadsLike stood.fresh (store_with stood.book entries) image
+      → ReadsExact stood entries image
 
 -- each image has the first of it: so many, or one more
 pub record HasFirst (number : ℕ) (told : Contents) (after : DisksAt) (stood : BookAt told)
@@ -143,8 +154,7 @@ pub record HasFirst (number : ℕ) (told : Contents) (after : DisksAt) (stood : 
   pub are : AreGeneratedAt number stood entries
   pub count : ℕ
   pub left : (image : Contents) → Leaves after image
-      → ReadsLikeEither stood.fresh (store_with stood.book (take count entries))
-      (store_with stood.book (take (count + 1) entries)) image
+      → ReadsExactEither stood (take count entries) (take (count + 1) entries) image
 
 -- Of a run on generated entries: where all is done, or an actuator failed at the end, with all of
 -- them; else like the book, or with the first of them.

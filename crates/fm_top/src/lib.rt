@@ -13,8 +13,7 @@
 //! `fmd -1` reads the sources as `esc` does, opens the store and has it keep entries as `accept`
 //! does, where it keeps just what was read (`as_read`). It then has fm_conclude drain the store and
 //! move its base to its end, brings the actuators to hold what the drained book wants out of use,
-//! and puts the summary (`settle`). Whatever the rule files, the topology and the entries are, that
-//! book has exact suspects, by a law of fm_modules_laws (`specs/Exact`).
+//! and puts the summary (`settle`).
 //!
 //! What is done with a store is a `tasks::StoreTask`. One chain of calls (`opened`) opens the store
 //! on six lent disks, does the task with it and gives the disks back, and says what came of it by
@@ -38,7 +37,9 @@
 //! **The headline.** `specs/Headline` says of every command, whatever its status, what a crash at
 //! the return leaves of the six disks: contents from before, or contents that read as a book which
 //! drains to what the book from before comes to with the entries of the first lines, of all that
-//! were answered and of one more at most. It follows from what the store says of each entry
+//! were answered and of one more at most. Whatever the rule files, the topology and the entries are,
+//! the book from before has exact suspects with these entries, by a law of fm_modules_laws
+//! (`specs/Exact`). The headline follows from what the store says of each entry
 //! (fm_answers' `specs/Recording`), which goes on over a run as lines are answered. It says so of
 //! each book that the contents from before read as; they read as one (`proofs/BookHeld`).
 //!

@@ -11,6 +11,7 @@ use Rattle.fm_top.proofs.FmdDoing.{does_fmd}
 use Rattle.fm_top.proofs.GenerateDoing.{does_generate, does_lines}
 use Rattle.fm_top.proofs.Inits.{does_init, ends_standing}
 use Rattle.fm_top.proofs.RepairDoing.{does_repair}
+use Rattle.fm_top.proofs.RepairSpelled.{said_of}
 use Rattle.fm_top.proofs.Wanting.{does_want}
 use Rattle.fm_top.proofs.call.tool.Goals as goal
 
@@ -66,8 +67,10 @@ returns-in-Some-Admin-clause-does g c =
 pub returns-in-Some-Repair-clause-does : goal.returns-in-Some-Repair-clause-does
 returns-in-Some-Repair-clause-does g c =
     does_as _ (Some (Repair c.in-Some-Repair.request)) _ _ _ (search rules)
-    (does_repair c.in-Some-Repair.request _ _ (sink_at g.K.Sink c.repair.new.out)
-    c.repair.result _ c.repair.ensures.ran c.end-in-Some-Repair.ensures refl refl refl)
+    (does_repair c.in-Some-Repair.request c.args.now _ _ (sink_at g.K.Sink c.repair.new.out)
+    c.repair.result _ c.requires.moment
+    (said_of c.args.words.now c.args.now c.in-Some-Repair.request (search rules))
+    c.repair.ensures.ran c.end-in-Some-Repair.ensures refl refl refl)
 
 pub returns-in-Some-Explain-clause-does : goal.returns-in-Some-Explain-clause-does
 returns-in-Some-Explain-clause-does g c =
@@ -93,6 +96,7 @@ returns-in-Some-GeneratedLines-clause-does g c =
 
 pub returns-in-Err-clause-does : goal.returns-in-Err-clause-does
 returns-in-Err-clause-does g c =
-    does_want _ _ _ c.end.result c.in-Err.ensures.wanted c.end.ensures
+    does_want _ c.args.now _ _ c.end.result c.requires.moment
+    (said_of c.args.words.now c.args.now) c.in-Err.ensures.wanted c.end.ensures
     (record { rules = refl; topo = refl; acts = refl }) refl
     (λ name. record { seen = refl; images = λ image is. is })
