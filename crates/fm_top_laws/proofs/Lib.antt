@@ -1,0 +1,4 @@
+pub mod Fronts
+pub mod InputLimits
+pub mod Reached
+pub mod Runs
