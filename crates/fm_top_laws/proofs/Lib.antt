@@ -1,4 +1,9 @@
+pub mod Fewer
 pub mod Fronts
 pub mod InputLimits
+pub mod NoDamage
 pub mod Reached
 pub mod Runs
+pub mod Suited
+pub mod ToldSources
+pub mod WithinLimits

@@ -1,7 +1,8 @@
 -- A rule file that comes to a graph over a topology is not past a limit, and no copy of it is.
-use Rattle.std.proofs.Common.{◌≡◌, ◌⊎◌, inl, inr, ℕ, ◌+◌, ◌<◌, ◌≤◌, List, [], ◌∷◌, length, map}
+use Rattle.std.proofs.Common.{◌≡◌, ◌⊎◌, inl, inr, ℕ, zero, suc, ◌+◌, ◌<◌, ◌≤◌, List, [], ◌∷◌, length, map}
 use Rattle.std.proofs.Common.{slice_get, Some, refl, sym, ◌∙◌, ap, subst, arith}
 use Rattle.std.proofs.lemmas.Bool.{cases_order}
+use Rattle.std.proofs.lemmas.Option.{none-some, same_Some}
 use Rattle.std.specs.List.{sum_by}
 use Rattle.fm_name.specs.declared.events.EventName.{EventName}
 use Rattle.fm_topo.specs.Topology.{Topology}
@@ -22,6 +23,11 @@ use Rattle.ev_inst.specs.Instances.{IsInstFault, IsMadeOf, links_of_all}
 use Rattle.ev_inst.specs.declared.fault.InstFault.TheVariants.{Links, Nodes}
 use Rattle.ev_join.proofs.Ordering.{not_before_itself}
 use Rattle.ev_join.specs.Order.{IsNotBefore}
+use Rattle.fm_esc.specs.Compiling.{AreGraphs, IsFirstPast, IsPastLimit}
+use Rattle.fm_esc.specs.declared.faults.GraphLimit.{GraphLimit}
+use Rattle.fm_esc.specs.declared.faults.GraphLimit.TheVariants.{Nodes as GraphNodes}
+use Rattle.fm_esc.specs.declared.faults.GraphLimit.TheVariants.{Links as GraphLinks}
+use Rattle.fm_sources.specs.declared.files.RuleFile.{RuleFile}
 use Rattle.fm_top_laws.proofs.Fewer.{StandIn, StandOnce, no_longer, weighs_less}
 
 -- ---- events
@@ -104,3 +110,31 @@ pub links_in_limit : (f copy : CheckedFile) (topo : Topology) (made : Made) → 
     → IsMadeOf f topo made → IsInstFault copy topo Links → ⊥
 links_in_limit f copy topo made same is (ns, engines, nodes, few, more) =
     more_links f copy topo made same is more
+
+-- ---- rule files
+
+own_copy : (f : CheckedFile) → IsCopyOf f f
+own_copy f = record { events_are = refl; engines_are = refl; props_are = refl }
+
+graph_within : (f : CheckedFile) (topo : Topology) (made : Made) (limit : GraphLimit)
+    → IsMadeOf f topo made → IsPastLimit limit f topo → ⊥
+graph_within f topo made GraphNodes is past = nodes_in_limit f f topo made (own_copy f) is past
+graph_within f topo made GraphLinks is past = links_in_limit f f topo made (own_copy f) is past
+
+graphs_within : (topo : Topology) (files : List RuleFile) (mades : List Made) (at : ℕ)
+    (file : RuleFile) (limit : GraphLimit) → AreGraphs topo files mades
+    → slice_get files at ≡ Some file → IsPastLimit limit file.checked topo → ⊥
+graphs_within topo [] [] at file limit graphs there past = none-some file there
+graphs_within topo [] (made ∷ mades) at file limit graphs there past = absurd graphs
+graphs_within topo (f ∷ files) [] at file limit graphs there past = absurd graphs
+graphs_within topo (f ∷ files) (made ∷ mades) zero file limit graphs there past =
+    graph_within f.checked topo made limit graphs.0
+    (subst (λ (r : RuleFile). IsPastLimit limit r.checked topo) (sym (same_Some f file there)) past)
+graphs_within topo (f ∷ files) (made ∷ mades) (suc at) file limit graphs there past =
+    graphs_within topo files mades at file limit graphs.1 there past
+
+-- where all rule files come to graphs, none is the first past a limit
+pub none_past : (topo : Topology) (files : List RuleFile) (mades : List Made) (at : ℕ)
+    (limit : GraphLimit) → AreGraphs topo files mades → IsFirstPast topo files at limit → ⊥
+none_past topo files mades at limit graphs first =
+    graphs_within topo files mades at first.file limit graphs first.there first.past

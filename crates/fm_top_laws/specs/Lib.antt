@@ -1,2 +1,3 @@
 pub mod Limits
+pub mod Suiting
 pub mod Valid
