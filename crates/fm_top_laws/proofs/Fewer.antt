@@ -52,10 +52,10 @@ module _ {X : Type 0} (f : X → ℕ) where
       let found = within (suc i) z there in
       stays j found.0 ys z found.1
       (λ e.
-        let same : x ≡ z =
-        same_Some x z (sym at ∙ ap (λ (k : ℕ). slice_get ys k) (sym e) ∙ found.1) in
-        let twice : 0 ≡ suc i = once 0 (suc i) z (ap Some same) there in
-        omega (arith, twice))
+      let same : x ≡ z =
+      same_Some x z (sym at ∙ ap (λ (k : ℕ). slice_get ys k) (sym e) ∙ found.1) in
+      let twice : 0 ≡ suc i = once 0 (suc i) z (ap Some same) there in
+      omega (arith, twice))
 
   pub weighs_less : (xs ys : List X) → StandOnce xs → StandIn xs ys → sum_by f xs ≤ sum_by f ys
   weighs_less [] ys once within = omega arith

@@ -1,11 +1,9 @@
 -- The lines that end in a front of some bytes are the first of their lines.
-use Rattle.std.proofs.Common.{◌≡◌, ◌==◌, ℕ, suc, not, ◌+◌, ◌<◌, ◌≤◌, ◌++◌, ◌∷◌, [], List, Bool}
-use Rattle.std.proofs.Common.{true, false, cond, length, map, Option, Some, None, refl, sym, take}
-use Rattle.std.proofs.Common.{◌∙◌, ap, arith, append_assoc, length-append, append-nil, count_by}
-use Rattle.std.specs.List.{slice_split}
+use Rattle.std.proofs.Common.{◌≡◌, ℕ, suc, ◌+◌, ◌++◌, ◌∷◌, [], List, Bool}
+use Rattle.std.proofs.Common.{true, false, cond, length, refl, sym, take}
+use Rattle.std.proofs.Common.{◌∙◌, ap, arith, append_assoc, append-nil, count_by}
 use Rattle.std.proofs.Math.Seq.{take-append_seam}
 use Rattle.std.proofs.lemmas.List.Sums.{sum_by-cons}
-use Rattle.std.proofs.lemmas.List.Splits.{slice_split_at, length-slice_split}
 use Rattle.std.proofs.lemmas.List.Elements.{All-append, All-cons}
 use Rattle.fm_answers.specs.Ended.{ended}
 use Rattle.fm_answers.specs.Running.{Line}

@@ -1,9 +1,9 @@
 -- A run over the input that stopped at a limit: it has too many bytes, or an entry of its lines
 -- passes a limit of the error journal.
-use Rattle.std.proofs.Common.{◌≡◌, ◌⊎◌, inl, inr, ℕ, ◌+◌, ◌<◌, ◌≤◌, ◌^◌, List, [], ◌∷◌, ◌++◌, Bool}
-use Rattle.std.proofs.Common.{true, false, cond, length, map, Option, Some, None, Result, Ok, Err}
+use Rattle.std.proofs.Common.{◌≡◌, inl, inr, ℕ, ◌+◌, ◌≤◌, ◌^◌, List, [], ◌∷◌, ◌++◌, Bool}
+use Rattle.std.proofs.Common.{true, false, cond, length, Option, Some, None, Result, Ok, Err}
 use Rattle.std.proofs.Common.{IfSome, sym, ◌∙◌, ap, subst, arith, append_assoc, append-nil}
-use Rattle.std.proofs.Common.{length-append, count_by}
+use Rattle.std.proofs.Common.{length-append}
 use Rattle.std.proofs.lemmas.List.{length-map}
 use Rattle.std.proofs.lemmas.List.Splits.{length-slice_split}
 use Rattle.std.proofs.lemmas.List.Sums.{count_by-le-length}
@@ -13,7 +13,6 @@ use Rattle.fm_answers.specs.Answers.{answers, entries_at, entries_in, entries_of
 use Rattle.fm_answers.specs.Ended.{ended}
 use Rattle.fm_answers.specs.Replaying.{ReplayTaken}
 use Rattle.fm_answers.specs.Running.{AreRead, Line, RanToLine, RanUntil, StopsAt, StopsBetween}
-use Rattle.fm_answers.specs.declared.stops.Stop.{Stop}
 use Rattle.fm_answers.specs.declared.stops.Stop.TheVariants.{Full}
 use Rattle.fm_answers.proofs.AnswerLists.{entries_append, entries_one}
 use Rattle.fm_core.specs.Book.{ModuleState}
@@ -26,7 +25,6 @@ use Rattle.fm_line.specs.declared.fault.LineFault.{LineFault}
 use Rattle.fm_logs.specs.Contents.{Contents}
 use Rattle.fm_logs.specs.StoreBook.{StoreBook}
 use Rattle.fm_top.specs.Accepting.{Grew, ReachesLimit}
-use Rattle.fm_top.specs.Headline.{HoldsOfBook}
 use Rattle.fm_top.specs.Kept.{BookAt}
 use Rattle.fm_top.specs.Outside.{DisksAt, Tells}
 use Rattle.fm_top.proofs.BookHeld.{same_book}
@@ -111,8 +109,7 @@ first_entries bytes read rest lines line entry whole (inl (front, back, parts, n
     let bytes_are : bytes ≡ front ++ (back ++ rest) =
     whole ∙ ap (λ (l : List ℕ). l ++ rest) parts ∙ append_assoc front back rest in
     let lines_are : lines_of bytes ≡ (lines ++ line ∷ []) ++ first.0 =
-    ap lines_of bytes_are ∙ first.1 ∙ ap (λ (ls : List Line). ls ++ first.0) are in
-    (
+    ap lines_of bytes_are ∙ first.1 ∙ ap (λ (ls : List Line). ls ++ first.0) are in (
       entries_of first.0,
       entries_split (lines_of bytes) lines first.0 line entry lines_are one,
     )
@@ -152,9 +149,10 @@ module _ (disks disks_now : DisksAt) (next : ℕ) where
       }
 
   line_passes : (puts : List ℕ → Type 0) (bytes rest : List ℕ) (kind : FullKind)
-      (ran : RanToLine (Grew disks disks_now next) puts true next (Consumes (Some bytes) (Some rest))
-      (IsAtEnd (Some rest)) (Full kind))
-      → StopsAt (Grew disks disks_now next) puts (answers true 1 next) ran.lines ran.line (Full kind)
+      (ran : RanToLine (Grew disks disks_now next) puts true next
+      (Consumes (Some bytes) (Some rest)) (IsAtEnd (Some rest)) (Full kind))
+      → StopsAt (Grew disks disks_now next) puts (answers true 1 next) ran.lines ran.line
+      (Full kind)
       → EntriesPass (entries_of (lines_of bytes)) disks kind
   line_passes puts bytes rest kind ran (put, (entry, one, took)) told tells =
       let first = first_entries bytes ran.read rest ran.lines ran.line entry ran.consumed ran.there

@@ -1,4 +1,5 @@
 pub mod Fewer
+pub mod FilesListed
 pub mod Fronts
 pub mod InputLimits
 pub mod NoDamage

@@ -1,6 +1,7 @@
 -- Contents that read as a book of the modules of their own texts are nowhere damaged.
-use Rattle.std.proofs.Common.{◌≡◌, ◌⊎◌, inl, inr, ℕ, List, [], ◌∷◌, Some, sym, ◌∙◌, subst}
+use Rattle.std.proofs.Common.{◌≡◌, inl, inr, ℕ, List, [], ◌∷◌, sym, ◌∙◌, subst}
 use Rattle.std.proofs.lemmas.Option.{none-some}
+use Rattle.ev_check.specs.CheckedFile.{CheckedFile}
 use Rattle.dx_state.specs.Configured.{Configuration}
 use Rattle.fm_core.specs.Book.{ModuleState}
 use Rattle.fm_logs.specs.Contents.{Contents}
@@ -15,7 +16,8 @@ use Rattle.fm_modules.specs.Modules.{AreModulesOf}
 use Rattle.fm_modules.specs.Opening.{FirstOpeningFinds, at_disk, opening_looks}
 use Rattle.fm_modules_laws.proofs.OneRow.{each_at, modules_one}
 use Rattle.fm_saved.specs.declared.conf.Conf.{Conf}
-use Rattle.fm_sources_laws.proofs.NoFault.{no_fault}
+use Rattle.fm_sources.specs.Rules.{IsRuleFile, IsRulesFault}
+use Rattle.fm_sources.specs.declared.faults.RulesKind.{RulesKind}
 use Rattle.fm_sources_laws.proofs.OneFile.{rule_files_one}
 use Rattle.fm_store.proofs.Damages.{same_log}
 use Rattle.fm_store.proofs.OpeningLaws.{finds_or_passes, passes_looks}
@@ -26,6 +28,11 @@ use Rattle.fm_topo.specs.declared.faults.TopoKind.{TopoKind}
 use Rattle.fm_top.specs.Kept.{BookAt, FirstDamage}
 use Rattle.fm_top_laws.proofs.WithinLimits.{links_in_limit, nodes_in_limit}
 
+-- a law of fm_sources_laws: a rule file has no fault
+abbrev pub RulesHaveNoFault : Type 0
+RulesHaveNoFault = (text : List ℕ) (f : CheckedFile) (place : ℕ) (kind : RulesKind)
+    → IsRuleFile text f → IsRulesFault text place kind → ⊥
+
 -- ---- texts that make modules are not refused
 
 pub clean_unfaulted : (text : List ℕ) (line : ℕ) (kind : TopoKind) → IsFaultless text
@@ -33,37 +40,37 @@ pub clean_unfaulted : (text : List ℕ) (line : ℕ) (kind : TopoKind) → IsFau
 clean_unfaulted text line kind clean (k, line_is, inside, found, before) =
     none-some kind (sym (clean k inside) ∙ found)
 
-text_unrefused : (topo : Topology) (text : List ℕ) (x : Configuration) → TextMakes topo text x
+text_unrefused : RulesHaveNoFault → (topo : Topology) (text : List ℕ) (x : Configuration) → TextMakes topo text x
     → IsRefusedText topo text → ⊥
-text_unrefused topo text x makes (inl (place, kind, fault)) =
+text_unrefused no_fault topo text x makes (inl (place, kind, fault)) =
     no_fault text makes.checked place kind makes.is_rules fault
-text_unrefused topo text x makes (inr (checked, is_rules, inl nodes)) =
+text_unrefused no_fault topo text x makes (inr (checked, is_rules, inl nodes)) =
     nodes_in_limit makes.checked checked topo makes.makes.made
     (rule_files_one text makes.checked checked makes.is_rules is_rules) makes.makes.is_made nodes
-text_unrefused topo text x makes (inr (checked, is_rules, inr links)) =
+text_unrefused no_fault topo text x makes (inr (checked, is_rules, inr links)) =
     links_in_limit makes.checked checked topo makes.makes.made
     (rule_files_one text makes.checked checked makes.is_rules is_rules) makes.makes.is_made links
 
-conf_unrefused : (conf : Conf) (row : List Configuration) → ConfMakes conf row
+conf_unrefused : RulesHaveNoFault → (conf : Conf) (row : List Configuration) → ConfMakes conf row
     → IsRefusedConf conf → ⊥
-conf_unrefused conf row makes (inl (line, kind, fault)) =
+conf_unrefused no_fault conf row makes (inl (line, kind, fault)) =
     clean_unfaulted conf.topo line kind makes.topo_is.clean fault
-conf_unrefused conf row makes (inr (topo, topo_is, (i, text, there, refused))) =
+conf_unrefused no_fault conf row makes (inr (topo, topo_is, (i, text, there, refused))) =
     let same : topo ≡ makes.topo = topo_is.topology_is ∙ sym makes.topo_is.topology_is in
     let at = each_at (TextMakes makes.topo) conf.rules row i text makes.files there in
-    text_unrefused makes.topo text at.0 at.2
+    text_unrefused no_fault makes.topo text at.0 at.2
     (subst (λ (t : Topology). IsRefusedText t text) same refused)
 
-confs_unrefused : (confs : List Conf) (modules : List ModuleState) (at : ℕ)
+confs_unrefused : RulesHaveNoFault → (confs : List Conf) (modules : List ModuleState) (at : ℕ)
     → AreModulesOf confs modules → IsFirstRefused confs at → ⊥
-confs_unrefused confs modules at made refused =
+confs_unrefused no_fault confs modules at made refused =
     let own = each_at ConfMakes confs made.rows at refused.conf made.make refused.there in
-    conf_unrefused refused.conf own.0 own.2 refused.refused
+    conf_unrefused no_fault refused.conf own.0 own.2 refused.refused
 
 -- ---- the looks of an opening
 
-module _ (c : Contents) (stood : BookAt c) (fresh : List ModuleState) (o : WasRead)
-    (d : DamageAt) where
+module _ (no_fault : RulesHaveNoFault) (c : Contents) (stood : BookAt c)
+    (fresh : List ModuleState) (o : WasRead) (d : DamageAt) where
   -- what the looks at the disks find is not there, whatever the modules
   finds_none : (modules : List ModuleState) → modules ≡ stood.fresh
       → FirstStoreFinds modules c o all_looks d → ⊥
@@ -101,13 +108,14 @@ module _ (c : Contents) (stood : BookAt c) (fresh : List ModuleState) (o : WasRe
       (inr (confs, inr (a, inr (b, inr (says, inl found)))))
   opening_finds_none
       (inr (confs, inr (a, inr (b, inr (says, inr (entries, inl (disk, at, refused, place))))))) =
-      confs_unrefused stood.book.confs stood.fresh at stood.made
+      confs_unrefused no_fault stood.book.confs stood.fresh at stood.made
       (subst (λ (l : List Conf). IsFirstRefused l at) (confs_are confs) refused)
   opening_finds_none
       (inr (confs, inr (a, inr (b, inr (says, inr (entries, inr (made, behind))))))) =
       finds_none fresh (modules_are confs made)
       (inr (confs, inr (a, inr (b, inr (says, inr (entries, behind_modules behind))))))
 
-pub no_damage : (c : Contents) (disk : DiskName) (place : ℕ) → BookAt c
+pub no_damage : RulesHaveNoFault → (c : Contents) (disk : DiskName) (place : ℕ) → BookAt c
     → FirstDamage c disk place → ⊥
-no_damage c disk place stood (fresh, read, finds) = opening_finds_none c stood fresh read _ finds
+no_damage no_fault c disk place stood (fresh, read, finds) =
+    opening_finds_none no_fault c stood fresh read _ finds

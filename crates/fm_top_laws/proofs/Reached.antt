@@ -1,5 +1,5 @@
 -- Where a command ended at a limit, it is one that it may reach.
-use Rattle.std.proofs.Common.{◌≡◌, ◌⊎◌, inl, inr, ℕ, ◌<◌, ◌^◌, List, [], ◌∷◌, ◌++◌, length, Option}
+use Rattle.std.proofs.Common.{◌≡◌, ◌⊎◌, inl, inr, ℕ, ◌<◌, ◌^◌, List, ◌++◌, length, Option}
 use Rattle.std.proofs.Common.{Some, None, IfSome, Result, Ok, Err, refl, sym, ◌∙◌, ap, subst, arith}
 use Rattle.std.proofs.Common.{append-nil, length-append}
 use Rattle.std.specs.Io.KnownBytes.{Appends, Consumes, IsAtEnd}
@@ -7,13 +7,12 @@ use Rattle.std.specs.Result.{MatchResult}
 use Rattle.ev_listing.specs.declared.form.GraphForm.{GraphForm}
 use Rattle.fm_act.specs.Reconciled.{ActuatorState}
 use Rattle.fm_answers.specs.Answers.{entries_of}
-use Rattle.fm_answers.specs.Replaying.{ReplayRan, ReplayStops, ReplayTaken, ReplayedAll}
-use Rattle.fm_answers.specs.Running.{RanUntil}
+use Rattle.fm_answers.specs.Replaying.{ReplayRan, ReplayStops, ReplayedAll}
 use Rattle.fm_answers.specs.Stops.{of_compiling, of_input}
 use Rattle.fm_answers.specs.StreamsAt.{SinkAt, SourceAt}
 use Rattle.fm_answers.specs.declared.stops.Stop.{Stop}
-use Rattle.fm_answers.specs.declared.stops.Stop.TheVariants.{Act, Damaged, Disk, Exists, Full, Memory}
-use Rattle.fm_answers.specs.declared.stops.Stop.TheVariants.{Write}
+use Rattle.fm_answers.specs.declared.stops.Stop.TheVariants.{Act, Damaged, Disk, Exists, Full}
+use Rattle.fm_answers.specs.declared.stops.Stop.TheVariants.{Memory, Write}
 use Rattle.fm_command.specs.RepairAsked.{RepairAsked}
 use Rattle.fm_command.specs.declared.words.AdminCommand.{AdminCommand}
 use Rattle.fm_entry.specs.declared.entry.Entry.{Entry}

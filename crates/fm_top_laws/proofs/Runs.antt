@@ -1,11 +1,10 @@
 -- A valid run ends with all done, or for want of memory.
-use Rattle.std.proofs.Common.{◌≡◌, ◌⊎◌, inl, inr, ℕ, ◌+◌, ◌-◌, ◌<◌, ◌≤◌, ◌^◌, min, List, [], ◌∷◌}
-use Rattle.std.proofs.Common.{Option, Some, None, Result, Ok, Err, refl, sym, ◌∙◌, ap, subst, arith}
-use Rattle.std.specs.Io.KnownBytes.{IsAtEnd}
+use Rattle.std.proofs.Common.{◌≡◌, inl, inr, ℕ, ◌≤◌, List, [], ◌∷◌}
+use Rattle.std.proofs.Common.{Option, Some, None, Result, Ok, Err, refl, ap, subst, arith}
 use Rattle.fm_answers.specs.Ending.{EndsAs}
 use Rattle.fm_answers.specs.Refusing.{PutCut}
 use Rattle.fm_answers.specs.Stops.{last_text}
-use Rattle.fm_answers.specs.StreamsAt.{SinkAt, SourceAt}
+use Rattle.fm_answers.specs.StreamsAt.{SinkAt}
 use Rattle.fm_answers.specs.declared.status.ToolStatus.{ToolStatus}
 use Rattle.fm_answers.specs.declared.status.ToolStatus.TheVariants.{NoMemory}
 use Rattle.fm_answers.specs.declared.stops.Stop.{Stop}
@@ -15,14 +14,14 @@ use Rattle.fm_command.specs.declared.words.Command.TheVariants.{Accept, Fmd, Rep
 use Rattle.fm_command.specs.declared.words.Command.TheVariants.{EscInput, Admin, Repair, Explain}
 use Rattle.fm_command.specs.declared.words.Command.TheVariants.{Generate, GeneratedLines}
 use Rattle.fm_journal.specs.declared.fault.FullKind.{FullKind}
-use Rattle.fm_outer.specs.Failures.{Rose, counted}
+use Rattle.fm_outer.specs.Failures.{Rose}
 use Rattle.fm_top.specs.Calls.{Did, Does, Ran}
 use Rattle.fm_top.specs.Order.{FirstFinds, Look, World, looks, world_of}
 use Rattle.fm_top.specs.Outside.{Outside, given_of}
 use Rattle.fm_top.proofs.SourceFaults.{ok_no_err}
 use Rattle.fm_top_laws.specs.Limits.{MayReach}
 use Rattle.fm_top_laws.specs.Valid.{FindNothing, HasReadInput, IsDoneOrWants, IsValidOf, IsValidRun}
-use Rattle.fm_top_laws.proofs.Reached.{GenerateLimit, StartsLate, accept_full, admin_full}
+use Rattle.fm_top_laws.proofs.Reached.{accept_full, admin_full}
 use Rattle.fm_top_laws.proofs.Reached.{esc_full, esc_input_full, explain_full, fmd_full}
 use Rattle.fm_top_laws.proofs.Reached.{generate_full, init_full, lines_full, repair_full}
 use Rattle.fm_top_laws.proofs.Reached.{replay_full}
@@ -141,8 +140,8 @@ module _ (command : Command) (before after : Outside) (middle : SinkAt) (status 
   run = record after { out = middle }
 
   -- only want of memory stops it
-  stops_for : (stop : Stop) → Ran command before run (Err stop) → middle.failures ≤ after.out.failures
-      → stop ≡ Memory
+  stops_for : (stop : Stop) → Ran command before run (Err stop)
+      → middle.failures ≤ after.out.failures → stop ≡ Memory
   stops_for Read ran more = absurd (valid.quiet.sources ran.cause.0 ran.cause.1)
   stops_for Write ran more =
       absurd (valid.quiet.out
@@ -175,7 +174,8 @@ module _ (command : Command) (before after : Outside) (middle : SinkAt) (status 
       → EndsAs middle after.out ran status → IsDoneOrWants (Some command) after.input status
   ends_valid (Ok done) ran ends = inl (ends.0, read_to_end command before run done ran.did)
   ends_valid (Err stop) ran ends =
-      let is : stop ≡ Memory = stops_for stop ran (end_le middle after.out (Err stop) status ends) in
+      let is : stop ≡ Memory =
+      stops_for stop ran (end_le middle after.out (Err stop) status ends) in
       inr (wants (subst (λ (s : Stop). Ran command before run (Err s)) is ran)
       (subst (λ (s : Stop). EndsAs middle after.out (Err s) status) is ends))
 

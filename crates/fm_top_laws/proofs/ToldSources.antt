@@ -1,7 +1,7 @@
 -- Sources that tell rule files which come to graphs over a topology are not refused.
-use Rattle.std.proofs.Common.{◌≡◌, ◌⊎◌, inl, inr, ℕ, zero, suc, ◌+◌, ◌≤◌, List, [], ◌∷◌, ◌++◌}
-use Rattle.std.proofs.Common.{length, map, Option, Some, None, Ok, slice_get, refl, sym, ◌∙◌, ap, subst}
-use Rattle.std.proofs.Common.{arith, append-nil, length-append}
+use Rattle.std.proofs.Common.{◌≡◌, ℕ, zero, suc, ◌≤◌, List, [], ◌∷◌, ◌++◌}
+use Rattle.std.proofs.Common.{length, map, Option, Some, None, Ok, slice_get, refl, sym, ◌∙◌, ap}
+use Rattle.std.proofs.Common.{subst, arith, append-nil, length-append}
 use Rattle.std.proofs.lemmas.List.Elements.{All-head, All-tail}
 use Rattle.std.proofs.lemmas.Option.{none-some, same_Some}
 use Rattle.std.specs.Io.KnownBytes.{Consumes, IsAtEnd}
@@ -11,23 +11,21 @@ use Rattle.fm_answers.specs.StreamsAt.{SourceAt}
 use Rattle.fm_esc.specs.Compiling.{IsFirstPast, IsPastLimit}
 use Rattle.fm_esc.specs.declared.faults.GraphLimit.{GraphLimit}
 use Rattle.fm_esc.specs.declared.faults.GraphLimit.TheVariants.{Links, Nodes}
-use Rattle.fm_esc_laws.proofs.OneText.{text_given}
 use Rattle.fm_sources.specs.Rules.{IsRuleFile, IsRulesFault}
-use Rattle.fm_sources.specs.Sources.{FilesGave, GaveTopology, Given, ReadsSources, RefusedAt}
+use Rattle.fm_sources.specs.Sources.{FilesGave, Given, ReadsSources, RefusedAt}
 use Rattle.fm_sources.specs.Sources.{TopologyRefused}
 use Rattle.fm_sources.specs.Texts.{GaveText}
 use Rattle.fm_sources.specs.declared.faults.RulesKind.{RulesKind}
 use Rattle.fm_sources.specs.declared.faults.SourceFault.TheVariants as faults
 use Rattle.fm_sources.specs.declared.files.RuleFile.{RuleFile}
 use Rattle.fm_sources.specs.declared.sources.Sources.{Sources}
-use Rattle.fm_sources_laws.proofs.NoFault.{no_fault}
 use Rattle.fm_sources_laws.proofs.OneFile.{rule_files_one}
 use Rattle.fm_topo.specs.Fault.{IsFirstFault}
 use Rattle.fm_topo.specs.Topology.{Topology, topology_of}
 use Rattle.fm_topo.specs.declared.faults.TopoFault.TheVariants.{At}
 use Rattle.fm_topo.specs.declared.faults.TopoKind.{TopoKind}
 use Rattle.fm_top.specs.Outside.{standing}
-use Rattle.fm_top_laws.proofs.NoDamage.{clean_unfaulted}
+use Rattle.fm_top_laws.proofs.NoDamage.{RulesHaveNoFault, clean_unfaulted}
 use Rattle.fm_top_laws.proofs.WithinLimits.{links_in_limit, nodes_in_limit}
 use Rattle.fm_top_laws.specs.Suiting.{ComesToGraph, TellGraphs}
 
@@ -49,10 +47,24 @@ given_short (Some xs) (Some ys) bytes text is gave =
       ap (λ (l : List ℕ). length l) (same_Some xs bytes is),
     )
 
+given_all : (old new : Option (List ℕ)) (bytes text : List ℕ) → old ≡ Some bytes
+    → Consumes old new text → IsAtEnd new → text ≡ bytes
+given_all None new bytes text is gave end = absurd (none-some bytes is)
+given_all (Some xs) None bytes text is gave end = absurd gave
+given_all (Some xs) (Some ys) bytes text is gave end =
+    sym (append-nil text) ∙ ap (λ (zs : List ℕ). text ++ zs) (sym end) ∙ sym gave
+    ∙ same_Some xs bytes is
+
+-- a source that tells no more than the limit gives just what it tells
+pub given_told : (limit : ℕ) (old new : SourceAt) (bytes text : List ℕ) → old.left ≡ Some bytes
+    → GaveText standing limit old new text → length text ≤ limit → text ≡ bytes
+given_told limit old new bytes text is gave short =
+    given_all old.left new.left bytes text is gave.consumed (gave.whole short)
+
 pub given_whole : (limit : ℕ) (old new : SourceAt) (bytes text : List ℕ) → old.left ≡ Some bytes
     → length bytes ≤ limit → GaveText standing limit old new text → text ≡ bytes
 given_whole limit old new bytes text is short gave =
-    text_given standing limit old new bytes text is gave
+    given_told limit old new bytes text is gave
     (omega (arith, given_short old.left new.left bytes text is gave.consumed, short))
 
 rules_short : (text : List ℕ) (f : CheckedFile) → IsRuleFile text f → length text ≤ 1048576
@@ -60,12 +72,12 @@ rules_short text f is = is.has.has.short
 
 -- ---- rule files
 
-rules_unrefused : (topo : Topology) (number at file place : ℕ) (kind : RulesKind)
+rules_unrefused : RulesHaveNoFault → (topo : Topology) (number at file place : ℕ) (kind : RulesKind)
     (olds news : List SourceAt) (texts : List (List ℕ))
     → map (λ (s : SourceAt). s.left) olds ≡ map Some texts → All (ComesToGraph topo) texts
     → RefusedAt standing number at olds news (faults.Rules file place kind) → ⊥
-rules_unrefused topo number zero file place kind (old ∷ olds) (new ∷ news) (t ∷ texts) told graphs
-    ((file_is, text, gave, fault), same) =
+rules_unrefused no_fault topo number zero file place kind (old ∷ olds) (new ∷ news) (t ∷ texts)
+    told graphs ((file_is, text, gave, fault), same) =
     let graph = All-head (ComesToGraph topo) t texts graphs in
     let left = heads old.left (Some t) (map (λ (s : SourceAt). s.left) olds) (map Some texts) told
     in
@@ -73,18 +85,20 @@ rules_unrefused topo number zero file place kind (old ∷ olds) (new ∷ news) (
     (rules_short t graph.checked graph.is_rules) gave in
     no_fault t graph.checked place kind graph.is_rules
     (subst (λ (l : List ℕ). IsRulesFault l place kind) whole fault)
-rules_unrefused topo number (suc at) file place kind (old ∷ olds) (new ∷ news) (t ∷ texts) told
-    graphs (gave, more) =
+rules_unrefused no_fault topo number (suc at) file place kind (old ∷ olds) (new ∷ news)
+    (t ∷ texts) told graphs (gave, more) =
     let left = heads old.left (Some t) (map (λ (s : SourceAt). s.left) olds) (map Some texts) told
     in
-    rules_unrefused topo (suc number) at file place kind olds news texts left.1
+    rules_unrefused no_fault topo (suc number) at file place kind olds news texts left.1
     (All-tail (ComesToGraph topo) t texts graphs) more
-rules_unrefused topo number zero file place kind (old ∷ olds) (new ∷ news) [] told graphs refused =
-    absurd (let no : ⊥ = cc in no)
-rules_unrefused topo number (suc at) file place kind (old ∷ olds) (new ∷ news) [] told graphs
+rules_unrefused no_fault topo number zero file place kind (old ∷ olds) (new ∷ news) [] told graphs
     refused =
     absurd (let no : ⊥ = cc in no)
-rules_unrefused topo number at file place kind olds news texts told graphs refused = absurd refused
+rules_unrefused no_fault topo number (suc at) file place kind (old ∷ olds) (new ∷ news) [] told graphs
+    refused =
+    absurd (let no : ⊥ = cc in no)
+rules_unrefused no_fault topo number at file place kind olds news texts told graphs refused =
+    absurd refused
 
 -- ---- what was read
 
@@ -108,8 +122,7 @@ read_from topo (old ∷ olds) (new ∷ news) (file ∷ files) (t ∷ texts) told
     let left = heads old.left (Some t) (map (λ (s : SourceAt). s.left) olds) (map Some texts) told
     in
     let whole : file.text.items ≡ t = given_whole 1048576 old new t file.text.items left.0
-    (rules_short t graph.checked graph.is_rules) gave.0.gave in
-    (
+    (rules_short t graph.checked graph.is_rules) gave.0.gave in (
       whole,
       subst (λ (l : List ℕ). IsRuleFile l file.checked) whole gave.0.is_rules,
       graph,
@@ -148,10 +161,10 @@ past_none topo (text ∷ texts) (f ∷ files) zero file limit (same, is, graph, 
     (subst (λ (r : RuleFile). IsPastLimit limit r.checked topo) (sym (same_Some f file there)) past)
 
 module _ (old new : Given SourceAt) (tell : TellGraphs old) where
-  pub no_rules_refused : (at file place : ℕ) (kind : RulesKind)
+  pub no_rules_refused : RulesHaveNoFault → (at file place : ℕ) (kind : RulesKind)
       → RefusedAt standing 0 at old.rules new.rules (faults.Rules file place kind) → ⊥
-  no_rules_refused at file place kind refused =
-      rules_unrefused (topology_of tell.told.topo) 0 at file place kind old.rules new.rules
+  no_rules_refused no_fault at file place kind refused =
+      rules_unrefused no_fault (topology_of tell.told.topo) 0 at file place kind old.rules new.rules
       tell.told.texts tell.told.rules_are tell.graphs refused
 
   pub no_topology_refused : (line : ℕ) (kind : TopoKind)

@@ -1,10 +1,8 @@
 -- A rule file that comes to a graph over a topology is not past a limit, and no copy of it is.
-use Rattle.std.proofs.Common.{◌≡◌, ◌⊎◌, inl, inr, ℕ, zero, suc, ◌+◌, ◌<◌, ◌≤◌, List, [], ◌∷◌, length, map}
+use Rattle.std.proofs.Common.{◌≡◌, inl, inr, ℕ, zero, suc, ◌≤◌, List, [], ◌∷◌, map}
 use Rattle.std.proofs.Common.{slice_get, Some, refl, sym, ◌∙◌, ap, subst, arith}
 use Rattle.std.proofs.lemmas.Bool.{cases_order}
 use Rattle.std.proofs.lemmas.Option.{none-some, same_Some}
-use Rattle.std.specs.List.{sum_by}
-use Rattle.fm_name.specs.declared.events.EventName.{EventName}
 use Rattle.fm_topo.specs.Topology.{Topology}
 use Rattle.ev_check.specs.CheckedFile.{CheckedFile, IsCopyOf, Linking, view_prop}
 use Rattle.ev_check.specs.Lawful.{file_events, spec_event}
@@ -22,7 +20,6 @@ use Rattle.ev_inst.specs.Instances.{AreCandidatesOf, AreSomeCandidatesOf, HaveMo
 use Rattle.ev_inst.specs.Instances.{IsInstFault, IsMadeOf, links_of_all}
 use Rattle.ev_inst.specs.declared.fault.InstFault.TheVariants.{Links, Nodes}
 use Rattle.ev_join.proofs.Ordering.{not_before_itself}
-use Rattle.ev_join.specs.Order.{IsNotBefore}
 use Rattle.fm_esc.specs.Compiling.{AreGraphs, IsFirstPast, IsPastLimit}
 use Rattle.fm_esc.specs.declared.faults.GraphLimit.{GraphLimit}
 use Rattle.fm_esc.specs.declared.faults.GraphLimit.TheVariants.{Nodes as GraphNodes}

@@ -9,7 +9,7 @@ use Rattle.fm_command.specs.declared.words.Command.TheVariants.{EscInput, Admin,
 use Rattle.fm_command.specs.declared.words.Command.TheVariants.{Generate, GeneratedLines}
 use Rattle.fm_entry.specs.declared.entry.Entry.{Entry}
 use Rattle.fm_journal.specs.declared.fault.FullKind.{FullKind}
-use Rattle.fm_journal.specs.declared.fault.FullKind.TheVariants.{Input, Numbers, Payload}
+use Rattle.fm_journal.specs.declared.fault.FullKind.TheVariants.{Input, Payload}
 use Rattle.fm_line.specs.Lines.{lines_of}
 use Rattle.fm_logs.specs.Contents.{Contents}
 use Rattle.fm_saved.specs.Confs.{conf_bytes}
@@ -32,8 +32,8 @@ IsOverlong bytes _ = ⊥
 
 -- One of these entries would pass this limit of the active error journal, once those before it are
 -- there.
-pub record OnePasses (told : Contents) (entries : List Entry) (kind : FullKind) (stood : BookAt told)
-    : Type 0 where
+pub record OnePasses (told : Contents) (entries : List Entry) (kind : FullKind)
+    (stood : BookAt told) : Type 0 where
   pub front : List Entry
   pub entry : Entry
   pub more : List Entry

@@ -19,6 +19,7 @@ ghost use Rattle.fm_top_laws.specs.Suiting.{AllSuit};
 ghost use Rattle.fm_top_laws.specs.Valid.{FindNothing, IsDoneOrWants, IsValidRun};
 
 use fm_outer::{Disk, Sink, Source};
+use fm_sources_laws::a_rule_file_has_no_fault;
 
 /// A call that does what `tool` does, of a run that is valid, ends with all done and its input read
 /// to its end where the command reads it, or for want of memory. `act` is an actuator's state.
@@ -36,13 +37,17 @@ pub fn valid_runs_are_done<S: Source, K: Sink, D: Disk, A>()
 /// Looks that what stands before suits find nothing.
 pub fn suited_looks_find_nothing()
     ensures { (w : World) (order : List Look) → AllSuit w order → FindNothing w order }
-{}
+{
+    a_rule_file_has_no_fault();
+}
 
 /// Contents that read as a book of the modules which the texts in them make are nowhere damaged.
 pub fn contents_of_a_book_are_undamaged()
     ensures { (c : Contents) (disk : DiskName) (place : ℕ) → BookAt c → FirstDamage c disk place
         → ⊥ }
-{}
+{
+    a_rule_file_has_no_fault();
+}
 
 /// Where all rule files come to graphs, none of them is the first past a limit.
 pub fn rule_files_with_graphs_are_within_limits()
