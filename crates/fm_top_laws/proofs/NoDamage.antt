@@ -40,8 +40,8 @@ pub clean_unfaulted : (text : List ℕ) (line : ℕ) (kind : TopoKind) → IsFau
 clean_unfaulted text line kind clean (k, line_is, inside, found, before) =
     none-some kind (sym (clean k inside) ∙ found)
 
-text_unrefused : RulesHaveNoFault → (topo : Topology) (text : List ℕ) (x : Configuration) → TextMakes topo text x
-    → IsRefusedText topo text → ⊥
+text_unrefused : RulesHaveNoFault → (topo : Topology) (text : List ℕ) (x : Configuration)
+    → TextMakes topo text x → IsRefusedText topo text → ⊥
 text_unrefused no_fault topo text x makes (inl (place, kind, fault)) =
     no_fault text makes.checked place kind makes.is_rules fault
 text_unrefused no_fault topo text x makes (inr (checked, is_rules, inl nodes)) =

@@ -23,7 +23,8 @@ use Rattle.fm_top.proofs.BookHeld.{same_book}
 use Rattle.fm_top_laws.proofs.FilesListed.{files_have_no_bad}
 use Rattle.fm_top_laws.proofs.NoDamage.{RulesHaveNoFault, no_damage}
 use Rattle.fm_top_laws.proofs.ToldSources.{files_from, given_told, no_graph_past}
-use Rattle.fm_top_laws.proofs.ToldSources.{no_rules_refused, no_topology_refused, texts_read, topo_from}
+use Rattle.fm_top_laws.proofs.ToldSources.{no_rules_refused, no_topology_refused, texts_read}
+use Rattle.fm_top_laws.proofs.ToldSources.{topo_from}
 use Rattle.fm_top_laws.specs.Suiting.{AllSuit, KeepsGraphs, Suits}
 use Rattle.fm_top_laws.specs.Suiting.{TellsFiles}
 use Rattle.fm_top_laws.specs.Valid.{FindNothing}

@@ -94,8 +94,8 @@ rules_unrefused no_fault topo number (suc at) file place kind (old ∷ olds) (ne
 rules_unrefused no_fault topo number zero file place kind (old ∷ olds) (new ∷ news) [] told graphs
     refused =
     absurd (let no : ⊥ = cc in no)
-rules_unrefused no_fault topo number (suc at) file place kind (old ∷ olds) (new ∷ news) [] told graphs
-    refused =
+rules_unrefused no_fault topo number (suc at) file place kind (old ∷ olds) (new ∷ news) [] told
+    graphs refused =
     absurd (let no : ⊥ = cc in no)
 rules_unrefused no_fault topo number at file place kind olds news texts told graphs refused =
     absurd refused
